@@ -1,0 +1,2 @@
+pub mod Coordinate
+pub mod Read

@@ -1,0 +1,3 @@
+pub mod Got
+pub mod Field
+pub mod Judge

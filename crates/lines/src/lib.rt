@@ -1,0 +1,1 @@
+// The lines of a record, judged one at a time.

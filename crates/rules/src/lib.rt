@@ -1,0 +1,1 @@
+// The rules of the format: definitions and theorems, all in specs/. Nothing runs here.
