@@ -1,0 +1,1 @@
+// Pairs of atoms that bonds join: theorems, all in specs/. Nothing runs here.
