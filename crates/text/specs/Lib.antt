@@ -4,3 +4,4 @@ pub mod Find
 pub mod First
 pub mod Cut
 pub mod Written
+pub mod Agree

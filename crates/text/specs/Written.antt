@@ -1,14 +1,14 @@
 -- A text written from its lines, with an LF after each, reads as these lines.
-use Prim.Native.Nat.{ℕ, suc, _≤_, _<_}
+use Prim.Native.Nat.{ℕ, _≤_, _<_}
 use native.Mathlib.Omega.{arith}
-use mathlib.Core.Path.{_≡_, refl, sym, ap, _∙_}
+use mathlib.Core.Path.{_≡_, refl, ap}
 use mathlib.Core.Logic.{_≢_}
 use mathlib.Core.List.{List, [], _∷_, _++_, append-assoc}
 use lib.ListN.{length, length-append}
 use Rattle.text.specs.Text.{Bytes, Line, LF, CR, Each, Without, Ended, Lines}
 use Rattle.text.specs.Columns.{Allowed}
 use Rattle.text.specs.First.{each-as}
-use Rattle.text.specs.Cut.{Cut, cut, lines-cut}
+use Rattle.text.specs.Cut.{cut, lines-cut}
 
 unfoldable pub text : List Line → Bytes
 text [] = []
