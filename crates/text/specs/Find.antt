@@ -1,10 +1,11 @@
--- What a search finds: the line at a position, the first byte that is not allowed, the first column that is no space.
+-- What a search or a test finds: the line at a position, the first byte that is not allowed, the first column that is no space, a blank line, a text in columns.
 use Prim.Native.Nat.{ℕ, suc, _+_, _-_}
 use mathlib.Core.List.{List, [], _∷_}
 use mathlib.Core.Bool.{Bool, true, false, cond, _&&_, _||_, not}
 use lib.Dec.{eqb, ltb}
 use lib.ListN.{length, getD, drop}
 use Rattle.text.specs.Text.{Bytes, Line, LF, CR, byte}
+use Rattle.text.specs.Columns.{columnsFor}
 use Rattle.text.specs.declared.Found.{Found}
 use Rattle.text.specs.declared.Found.the-variants.{At, Nothing}
 use Rattle.text.specs.declared.LineAt.{LineAt}
@@ -40,3 +41,18 @@ lineTo s at Nothing = Unfinished
 -- the line that starts at position `at` of a text
 unfoldable pub lineAt : Bytes → ℕ → LineAt
 lineAt s at = lineTo s at (firstFrom isLf at (drop at s))
+
+-- whether the line is empty or spaces only
+unfoldable pub isBlank : Line → Bool
+isBlank [] = true
+isBlank (b ∷ l) = eqb b (byte " ") && isBlank l
+
+unfoldable pub sameBytes : Bytes → Bytes → Bool
+sameBytes [] [] = true
+sameBytes [] (c ∷ cs) = false
+sameBytes (b ∷ bs) [] = false
+sameBytes (b ∷ bs) (c ∷ cs) = eqb b c && sameBytes bs cs
+
+-- whether the columns from column i on are this text
+unfoldable pub hasText : Line → ℕ → Bytes → Bool
+hasText l i text = sameBytes (columnsFor l i (length text)) text

@@ -1,3 +1,7 @@
 pub mod Text
 pub mod Columns
 pub mod Find
+pub mod First
+pub mod Cut
+pub mod Written
+pub mod Agree
