@@ -1,2 +1,5 @@
 pub mod Number
 pub mod Read
+pub mod Agree
+pub mod Write
+pub mod Written
