@@ -1,2 +1,4 @@
 pub mod Coordinate
 pub mod Read
+pub mod Digits
+pub mod Agree
