@@ -1,2 +1,4 @@
 pub mod Symbol
 pub mod Read
+pub mod Table
+pub mod Agree
