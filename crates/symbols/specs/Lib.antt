@@ -2,3 +2,4 @@ pub mod Symbol
 pub mod Read
 pub mod Table
 pub mod Agree
+pub mod Write
