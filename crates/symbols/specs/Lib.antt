@@ -3,3 +3,4 @@ pub mod Read
 pub mod Table
 pub mod Agree
 pub mod Write
+pub mod Codes
