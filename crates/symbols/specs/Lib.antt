@@ -1,2 +1,6 @@
 pub mod Symbol
 pub mod Read
+pub mod Table
+pub mod Agree
+pub mod Write
+pub mod Codes

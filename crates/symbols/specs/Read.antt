@@ -1,4 +1,4 @@
--- What three columns stand for: the number of the first symbol that is written so. `Symbol` has the rule; `Agree` proves that they say the same.
+-- Three columns looked up in the names, from the first name on. `Symbol` has the rule; `Agree` proves that they say the same.
 use Prim.Native.Nat.{ℕ, suc}
 use Prim.Native.String.{String}
 use mathlib.Core.List.{List, [], _∷_}

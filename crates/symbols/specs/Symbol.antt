@@ -1,10 +1,10 @@
--- The symbols of atoms: the elements by their number, 1 to 118, then `A`, `Q`, `*` and `LP`, 119 to 122.
+-- The names an atom can have. An element's place in the list is its atomic number; the last four names are no elements.
 use Prim.Native.Nat.{ℕ, _-_, _≤_}
 use Prim.Native.String.{String}
 use mathlib.Core.Path.{_≡_, refl}
 use mathlib.Core.List.{List, [], _∷_}
 use lib.ListN.{getD, length}
-use Rattle.text.specs.Text.{Bytes, Line, bytes}
+use Rattle.text.specs.Text.{Bytes, bytes}
 use Rattle.text.specs.Columns.{columns}
 
 abbrev pub names : List String
@@ -27,7 +27,7 @@ names =
 abbrev pub name : ℕ → String
 name k = getD names (k - 1) ""
 
--- three columns: the symbol of number k starts in the first, spaces after it
+-- three columns hold name k, from the first of them on, and spaces where the name is shorter
 pub record Symbol (cs : Bytes) (k : ℕ) : Type 0 where
   pub low : 1 ≤ k
   pub high : k ≤ length names
