@@ -1,4 +1,4 @@
--- The forms of lines: what each kind of line has in its columns, and what it stands for.
+-- The forms of lines: for each kind of line, what its columns hold and which value it then stands for. Columns that no field names may hold any allowed byte.
 use Prim.Native.Nat.{ℕ, zero, suc, _+_, _*_, _-_, _≤_}
 use Prim.Native.String.{String}
 use mathlib.Core.Path.{_≡_}
@@ -14,9 +14,11 @@ use Rattle.numbers.specs.Number.{Number, Signed, Listed, SignedListed}
 use Rattle.coordinates.specs.Coordinate.{Coordinate}
 use Rattle.symbols.specs.Symbol.{Symbol}
 
+-- the text stands at the start of the line
 abbrev pub Begins : Line → String → Type 0
 Begins l text = (after : Bytes) × (l ≡ bytes text ++ after)
 
+-- the text stands somewhere in the line
 abbrev pub Contains : Line → String → Type 0
 Contains l text = (before : Bytes) × (after : Bytes) × (l ≡ before ++ (bytes text ++ after))
 
@@ -25,7 +27,7 @@ Contains l text = (before : Bytes) × (after : Bytes) × (l ≡ before ++ (bytes
 abbrev pub HeaderLine : Line → Type 0
 HeaderLine l = Within 80 l
 
--- the first may not contain a reserved tag
+-- the first must not be taken for the start or the end of a file or record
 pub record FirstHeaderLine (l : Line) : Type 0 where
   pub line : Within 80 l
   pub no-end : ¬ Contains l "$$$$"
@@ -35,6 +37,7 @@ pub record FirstHeaderLine (l : Line) : Type 0 where
 
 -- ---- 2. The counts line
 
+-- how many atoms and bonds, and the chiral flag
 pub record Counts : Type 0 where
   pub atoms : ℕ
   pub bonds : ℕ
@@ -42,21 +45,23 @@ pub record Counts : Type 0 where
 
 -- aaabbblllfffcccsssxxxrrrpppiiimmmvvvvvv
 --   2  1  0  0  0  0  0  0  0  0999 V2000
+-- n atoms have n(n-1)/2 pairs, and no more bonds than pairs
 pub record CountsLine (limit : ℕ) (l : Line) (c : Counts) : Type 0 where
   pub line : Within 80 l
   pub atoms : Number l 1 3 0 limit (c .atoms)
   pub bonds : Number l 4 6 0 limit (c .bonds)
   pub pairs : 2 * (c .bonds) ≤ (c .atoms) * ((c .atoms) - 1)
   pub atom-lists : Number l 7 9 0 0 0
-  -- 10-12 not read
+  -- 10 to 12 are free
   pub chiral : Number l 13 15 0 1 (c .chiral)
   pub stext : Number l 16 18 0 0 0
-  -- 19-33 not read
+  -- 19 to 33 are free
   pub version : Has l 34 39 " V2000"
   pub rest : SpacesFrom l 40
 
 -- ---- 3. Atom lines
 
+-- an atom as its line has it
 pub record Atom : Type 0 where
   pub x : ℤ
   pub y : ℤ
@@ -90,7 +95,7 @@ pub record AtomLine (n : ℕ) (l : Line) (a : Atom) : Type 0 where
   pub stereo-care : Number l 46 48 0 1 (a .stereo-care)
   pub valence : Number l 49 51 0 15 (a .valence)
   pub H0 : Number l 52 54 0 1 (a .H0)
-  -- 55-60 not read
+  -- 55 to 60 are free
   pub atom-map : Number l 61 63 0 n (a .atom-map)
   pub inversion : Number l 64 66 0 2 (a .inversion)
   pub exact-change : Number l 67 69 0 1 (a .exact-change)
@@ -98,6 +103,7 @@ pub record AtomLine (n : ℕ) (l : Line) (a : Atom) : Type 0 where
 
 -- ---- 4. Bond lines
 
+-- a bond joins two atoms by their numbers
 pub record Bond : Type 0 where
   pub first : ℕ
   pub second : ℕ
@@ -106,11 +112,11 @@ pub record Bond : Type 0 where
   pub topology : ℕ
   pub centre : ℤ
 
--- stereo is 0, 1, 4 or 6 for type 1; 0 or 3 for type 2; 0 otherwise
+-- which stereo marks a bond of this type can have: single bonds can be drawn as wedges, double bonds as crossed
 abbrev pub stereos : ℕ → List ℕ
 stereos type = cond (eqb type 1) (0 ∷ 1 ∷ 4 ∷ 6 ∷ []) (cond (eqb type 2) (0 ∷ 3 ∷ []) (0 ∷ []))
 
--- the reacting centre is -1, 0, 1, 2, 4, 5, 8, 9, 12 or 13
+-- the marks of a reacting centre
 abbrev pub centres : List ℤ
 centres = negsuc 0 ∷ pos 0 ∷ pos 1 ∷ pos 2 ∷ pos 4 ∷ pos 5 ∷ pos 8 ∷ pos 9 ∷ pos 12 ∷ pos 13 ∷ []
 
@@ -123,7 +129,7 @@ pub record BondLine (n : ℕ) (l : Line) (b : Bond) : Type 0 where
   pub second : Number l 4 6 1 n (b .second)
   pub type : Number l 7 9 1 8 (b .type)
   pub stereo : Listed l 10 12 (stereos (b .type)) (b .stereo)
-  -- 13-15 not read
+  -- 13 to 15 are free
   pub topology : Number l 16 18 0 2 (b .topology)
   pub centre : SignedListed l 19 21 centres (b .centre)
   pub rest : SpacesFrom l 22
@@ -131,6 +137,7 @@ pub record BondLine (n : ℕ) (l : Line) (b : Bond) : Type 0 where
 
 -- ---- 5. Property lines
 
+-- charges, radicals, isotopes
 pub data Kind : Type 0 where
   CHG : Kind
   RAD : Kind
@@ -144,6 +151,7 @@ sameKind j k = eqb (number j) (number k)
     number RAD = 1
     number ISO = 2
 
+-- an atom and the number given to it
 pub record Entry : Type 0 where
   pub atom : ℕ
   pub number : ℤ
@@ -157,20 +165,20 @@ tag CHG = "M  CHG"
 tag RAD = "M  RAD"
 tag ISO = "M  ISO"
 
--- charge is -15 to 15, radical 0 to 3, isotope 1 to 999
+-- the range of the number goes by the kind; only charges have negatives
 pub data EntryNumber (l : Line) (i j : ℕ) : Kind → ℤ → Type 0 where
   charge : {z : ℤ} → Signed l i j 15 15 z → EntryNumber l i j CHG z
   radical : {k : ℕ} → Number l i j 0 3 k → EntryNumber l i j RAD (pos k)
   isotope : {k : ℕ} → Number l i j 1 999 k → EntryNumber l i j ISO (pos k)
 
--- a space, three columns of atom, a space, three columns of number, starting at column i
+-- an entry takes eight columns, of which i is the first
 pub record EntryAt (n : ℕ) (kind : Kind) (l : Line) (i : ℕ) (e : Entry) : Type 0 where
   pub space : Space (column l i)
   pub atom : Number l (i + 1) (i + 3) 1 n (e .atom)
   pub space-between : Space (column l (i + 4))
   pub number : EntryNumber l (i + 5) (i + 7) kind (e .number)
 
--- entries from column i on, eight columns each
+-- one entry after the other, from column i on
 unfoldable pub EntriesFrom : ℕ → Kind → Line → ℕ → List Entry → Type 0
 EntriesFrom n kind l i [] = Unit {0}
 EntriesFrom n kind l i (e ∷ es) = EntryAt n kind l i e × EntriesFrom n kind l (i + 8) es
@@ -191,7 +199,8 @@ pub record EndLine (l : Line) : Type 0 where
 
 -- ---- 6. Data items and the line `$$$$`
 
--- `>`, one or more spaces, `<`, a name of 1 to 30 bytes without `<` or `>`, `>`, then spaces only
+-- >  <NAME>
+-- the name stands between the only two angle brackets that follow the first byte
 pub record DataHeader (l : Line) (name : Bytes) : Type 0 where
   pub line : Within 80 l
   pub between : ℕ
@@ -203,11 +212,12 @@ pub record DataHeader (l : Line) (name : Bytes) : Type 0 where
   pub no-open : Without (byte "<") name
   pub no-close : Without (byte ">") name
 
+-- a blank line may be long, since it stands where a value line could
 pub record BlankLine (l : Line) : Type 0 where
   pub line : Within 200 l
   pub blank : Blank l
 
--- not blank, doesn't begin `$$$$`, and isn't itself a well-formed header
+-- any other line that ends neither the item nor the record and starts no new item
 pub record ValueLine (l : Line) : Type 0 where
   pub line : Within 200 l
   pub not-blank : ¬ Blank l

@@ -1,3 +1,4 @@
 pub mod Forms
 pub mod Record
 pub mod Meaning
+pub mod Viable
