@@ -1,3 +1,4 @@
 pub mod Got
 pub mod Field
 pub mod Judge
+pub mod GotLaws
