@@ -2,3 +2,4 @@ pub mod Got
 pub mod Field
 pub mod Judge
 pub mod GotLaws
+pub mod AgreeField
