@@ -3,3 +3,4 @@ pub mod Field
 pub mod Judge
 pub mod GotLaws
 pub mod AgreeField
+pub mod AgreeLine
