@@ -4,3 +4,4 @@ pub mod Judge
 pub mod GotLaws
 pub mod AgreeField
 pub mod AgreeLine
+pub mod AgreeProperty
