@@ -3,3 +3,4 @@ pub mod Read
 pub mod Agree
 pub mod Write
 pub mod Written
+pub mod Parts

@@ -1,6 +1,6 @@
 -- How a number is written: right-aligned in so many columns, without leading zeros, a `-` right before the digits of a negative.
 use Prim.Native.Nat.{ℕ, zero, suc, _+_, _-_, _/_, _%_, _^_, _<_}
-use mathlib.Core.List.{List, [], _∷_, _++_}
+use mathlib.Core.List.{[], _∷_, _++_}
 use mathlib.Core.Bool.{Bool, true, false}
 use lib.Dec.{ltb}
 use lib.IntN.{ℤ, pos, negsuc}

@@ -2,17 +2,17 @@
 use Prim.Native.Nat.{ℕ, zero, suc, _+_, _-_, _*_, _/_, _%_, _^_, _≤_, _<_}
 use native.Mathlib.Nat.{pow-suc}
 use native.Mathlib.Omega.{arith}
-use mathlib.Core.Path.{_≡_, refl, sym, ap, _∙_, subst}
+use mathlib.Core.Path.{_≡_, refl, sym, ap, _∙_}
 use mathlib.Core.Bool.{Bool, true, false}
-use mathlib.Core.List.{List, [], _∷_, _++_, append-assoc, append-nil}
-use lib.Dec.{ltb, leb}
+use mathlib.Core.List.{[], _∷_, _++_, append-assoc, append-nil}
+use lib.Dec.{ltb}
 use lib.ListN.{length, length-append}
 use lib.IntN.{ℤ, pos, negsuc, negℤ}
 use borrow.Author.Tests.{ltb-true, ltb-false, le-leb}
-use Rattle.text.specs.Text.{Bytes, byte, Each}
+use Rattle.text.specs.Text.{Bytes, Each}
 use Rattle.text.specs.Columns.{spaces, Allowed}
 use Rattle.numbers.specs.Number.{Digit, Digits, Integer, Between, decimalAfter}
-use Rattle.numbers.specs.Read.{signed, ranged, numberIn, signedRanged, signedIn}
+use Rattle.numbers.specs.Read.{ranged, numberIn, signedRanged, signedIn}
 use Rattle.numbers.specs.Agree.{integer-read, between-is}
 use Rattle.numbers.specs.Write.{textBy, sizedText, numberText, signedText, Fitting}
 use Rattle.numbers.specs.declared.NumberRead.{NumberRead}

@@ -1,4 +1,15 @@
 // Integer fields of a line: read by columns, written right-aligned.
+ghost use mathlib.Core.Path.{_≡_};
+ghost use mathlib.Core.Bool.{_&&_};
+ghost use Prim.Native.Nat.{_+_, _-_, _≤_, _<_};
+ghost use lib.Dec.{eqb};
+ghost use lib.IntN.{pos};
+ghost use lib.ListN.{length};
+ghost use lib.Seq.{sets};
+ghost use Rattle.text.specs.Columns.{column, columns, columnsFor};
+ghost use Rattle.numbers.specs.Read.{afterSpaces, is, signed, ranged, numberIn, signedRanged, signedIn};
+ghost use Rattle.numbers.specs.Parts.{sizeIn, withSign, sizedIn};
+ghost use Rattle.numbers.specs.Write.{sizedText, numberText, signedText};
 
 // A number of a range without negatives, as columns hold it.
 pub enum NumberRead {
@@ -12,4 +23,207 @@ pub enum SignedRead {
     Is(i32),
     Malformed,
     Outside,
+}
+
+// The number that digits stand for.
+pub enum Size {
+    Is(u32),
+    Malformed,
+}
+
+// A number before its range is asked: whether a `-` stands before its digits, and what they stand for.
+pub enum SizedRead {
+    Is { minus: bool, size: u32 },
+    Malformed,
+}
+
+fn column_at(line: &[u8], i: usize) -> u8
+    requires { ⌜ 1 ≤ i ⌝ }
+    ensures { λ r. ⌜ r ≡ column (now (line .entry)) i ⌝ }
+{
+    if i <= line.len() { line[i - 1] } else { 32 }
+}
+
+// The column at which the spaces that start in column i end, up to column e.
+pub fn spaces_end(line: &[u8], i: usize, e: usize) -> usize
+    requires { ⌜ (1 ≤ i) × (i ≤ e) ⌝ }
+    ensures { λ r. ⌜ afterSpaces (columnsFor (now (line .entry)) i (e - i)) ≡ columnsFor (now (line .entry)) r (e - r) ⌝ }
+    ensures { λ r. ⌜ (i ≤ r) × (r ≤ e) ⌝ }
+{
+    let mut a = i;
+    while a < e {
+        if column_at(line, a) != 32 {
+            return a;
+        }
+        a += 1;
+    }
+    e
+}
+
+// The digits from column i up to column e.
+pub fn digits(line: &[u8], i: usize, e: usize) -> Size
+    requires { ⌜ (1 ≤ i) × (i ≤ e) × (e ≤ i + 9) ⌝ }
+    ensures { λ r. ⌜ r ≡ sizeIn (columnsFor (now (line .entry)) i (e - i)) ⌝ }
+{
+    if e <= i {
+        return Size::Malformed;
+    }
+    let mut k: u32 = 0;
+    let mut a = i;
+    while a < e {
+        let b = column_at(line, a);
+        if b < 48 {
+            return Size::Malformed;
+        }
+        if 57 < b {
+            return Size::Malformed;
+        }
+        k = k * 10 + ((b - 48) as u32);
+        a += 1;
+    }
+    Size::Is(k)
+}
+
+// Whether column i has a `-` that may stand there.
+fn minus_at(line: &[u8], i: usize, negatives: bool) -> bool
+    requires { ⌜ 1 ≤ i ⌝ }
+    ensures { λ r. ⌜ r ≡ (negatives && eqb (column (now (line .entry)) i) 45) ⌝ }
+{
+    if negatives {
+        column_at(line, i) == 45
+    } else {
+        false
+    }
+}
+
+// The digits from column i up to column e, with the sign that stands before them.
+fn sized_digits(line: &[u8], i: usize, e: usize, minus: bool) -> SizedRead
+    requires { ⌜ (1 ≤ i) × (i ≤ e) × (e ≤ i + 9) ⌝ }
+    ensures { λ r. ⌜ r ≡ withSign minus (sizeIn (columnsFor (now (line .entry)) i (e - i))) ⌝ }
+{
+    match digits(line, i, e) {
+        Size::Is(k) => SizedRead::Is { minus, size: k },
+        Size::Malformed => SizedRead::Malformed,
+    }
+}
+
+// The integer field in columns i to j.
+pub fn sized(line: &[u8], i: usize, j: usize, negatives: bool) -> SizedRead
+    requires { ⌜ (1 ≤ i) × (i ≤ j + 1) × (j ≤ 1000) × (j + 1 ≤ i + 9) ⌝ }
+    ensures { λ r. ⌜ r ≡ sizedIn negatives (columns (now (line .entry)) i j) ⌝ }
+{
+    let e = j + 1;
+    let a = spaces_end(line, i, e);
+    if e <= a {
+        return SizedRead::Is {
+            minus: false,
+            size: 0,
+        };
+    }
+    if minus_at(line, a, negatives) {
+        return sized_digits(line, a + 1, e, true);
+    }
+    sized_digits(line, a, e, false)
+}
+
+fn within(k: u32, least: u32, most: u32) -> NumberRead
+    ensures { λ r. ⌜ r ≡ ranged least most (is (pos k)) ⌝ }
+{
+    if k < least {
+        return NumberRead::Outside;
+    }
+    if most < k {
+        return NumberRead::Outside;
+    }
+    NumberRead::Is(k)
+}
+
+// The number in columns i to j, of a range without negatives.
+pub fn number(line: &[u8], i: usize, j: usize, least: u32, most: u32) -> NumberRead
+    requires { ⌜ (1 ≤ i) × (i ≤ j + 1) × (j ≤ 1000) × (j + 1 ≤ i + 9) ⌝ }
+    ensures { λ r. ⌜ r ≡ numberIn least most (columns (now (line .entry)) i j) ⌝ }
+{
+    match sized(line, i, j, false) {
+        SizedRead::Is { minus: _, size } => within(size, least, most),
+        SizedRead::Malformed => NumberRead::Malformed,
+    }
+}
+
+// A number with a sign.
+pub fn with_sign(minus: bool, k: u32) -> i32
+    requires { ⌜ k < 1000000000 ⌝ }
+    ensures { λ r. ⌜ r ≡ signed minus k ⌝ }
+{
+    if minus { 0 - (k as i32) } else { k as i32 }
+}
+
+fn between(minus: bool, k: u32, below: u32, above: u32) -> SignedRead
+    requires { ⌜ k < 1000000000 ⌝ }
+    ensures { λ r. ⌜ r ≡ signedRanged below above (is (signed minus k)) ⌝ }
+{
+    if minus {
+        if below < k {
+            return SignedRead::Outside;
+        }
+        return SignedRead::Is(with_sign(true, k));
+    }
+    if above < k {
+        return SignedRead::Outside;
+    }
+    SignedRead::Is(with_sign(false, k))
+}
+
+// The number in columns i to j, of a range with negatives.
+pub fn signed_number(line: &[u8], i: usize, j: usize, below: u32, above: u32) -> SignedRead
+    requires { ⌜ (1 ≤ i) × (i ≤ j + 1) × (j ≤ 1000) × (j + 1 ≤ i + 9) ⌝ }
+    ensures { λ r. ⌜ r ≡ signedIn below above (columns (now (line .entry)) i j) ⌝ }
+{
+    match sized(line, i, j, true) {
+        SizedRead::Is { minus, size } => between(minus, size, below, above),
+        SizedRead::Malformed => SignedRead::Malformed,
+    }
+}
+
+// A number right-aligned in `width` columns from position `at` on, with a `-` or without.
+pub fn put_sized(out: &mut [u8], at: usize, width: usize, minus: bool, k: u32)
+    requires { ⌜ at + width ≤ length (now out) ⌝ }
+    ensures { λ _. ⌜ now (out .exit) ≡ sets (now (out .entry)) at (sizedText width minus k) ⌝ }
+{
+    let mut i = at + width;
+    let mut q = k;
+    let mut more = true;
+    let mut sign = minus;
+    while at < i {
+        i -= 1;
+        if more {
+            out[i] = 48 + (q % 10) as u8;
+            more = 9 < q;
+            q = q / 10;
+        } else {
+            if sign {
+                out[i] = 45;
+                sign = false;
+            } else {
+                out[i] = 32;
+            }
+        }
+    }
+}
+
+pub fn put_number(out: &mut [u8], at: usize, width: usize, k: u32)
+    requires { ⌜ at + width ≤ length (now out) ⌝ }
+    ensures { λ _. ⌜ now (out .exit) ≡ sets (now (out .entry)) at (numberText width k) ⌝ }
+{
+    put_sized(out, at, width, false, k);
+}
+
+pub fn put_signed(out: &mut [u8], at: usize, width: usize, v: i32)
+    requires { ⌜ at + width ≤ length (now out) ⌝ }
+    ensures { λ _. ⌜ now (out .exit) ≡ sets (now (out .entry)) at (signedText width v) ⌝ }
+{
+    if v < 0 {
+        put_sized(out, at, width, true, (-1 - v) as u32 + 1);
+    } else {
+        put_sized(out, at, width, false, v as u32);
+    }
 }

@@ -1,0 +1,34 @@
+-- The reading of an integer field as the code makes it: sign and size first, the range after. `integer-of` ties it to `Read`.
+use Prim.Native.Nat.{ℕ}
+use mathlib.Core.List.{[], _∷_}
+use mathlib.Core.Bool.{Bool, true, false, cond, _&&_}
+use lib.Dec.{eqb}
+use Rattle.text.specs.Text.{Bytes, byte}
+use Rattle.numbers.specs.Number.{decimalAfter}
+use Rattle.numbers.specs.Read.{IntegerRead, is, malformed, allDigits, someDigits, afterSpaces, signed}
+use Rattle.numbers.specs.declared.Size.{Size}
+use Rattle.numbers.specs.declared.SizedRead.{SizedRead}
+
+-- digits and nothing else, after digits that stand for k
+unfoldable pub sizeAfter : ℕ → Bytes → Size
+sizeAfter k ds = cond (allDigits ds) (Size.Is (decimalAfter k ds)) Size.Malformed
+
+-- one digit or more, and nothing else
+unfoldable pub sizeIn : Bytes → Size
+sizeIn ds = cond (someDigits ds) (Size.Is (decimalAfter 0 ds)) Size.Malformed
+
+unfoldable pub withSign : Bool → Size → SizedRead
+withSign minus (Size.Is k) = SizedRead.Is minus k
+withSign minus Size.Malformed = SizedRead.Malformed
+
+-- a field without its leading spaces
+unfoldable pub sizedFrom : Bool → Bytes → SizedRead
+sizedFrom negatives [] = SizedRead.Is false 0
+sizedFrom negatives (b ∷ bs) = cond (negatives && eqb b (byte "-")) (withSign true (sizeIn bs)) (withSign false (sizeIn (b ∷ bs)))
+
+unfoldable pub sizedIn : Bool → Bytes → SizedRead
+sizedIn negatives cs = sizedFrom negatives (afterSpaces cs)
+
+unfoldable pub integerOf : SizedRead → IntegerRead
+integerOf (SizedRead.Is minus k) = is (signed minus k)
+integerOf SizedRead.Malformed = malformed
