@@ -14,7 +14,7 @@ use Rattle.lines.specs.Judge.{contains, reserved, firstHeaderOf, countsO
 use Rattle.lines.specs.AgreeText.{true-false, or-false, none-of, contains-got, contains-is}
 pub use Rattle.lines.specs.AgreeField.{within-got, within-is}
 use Rattle.lines.specs.AgreeLine.{counts-got, counts-is, atom-got, atom-is, bond-got, bond-is}
-pub use Rattle.lines.specs.AgreeProperty.{NewEntries}
+unfoldable pub use Rattle.lines.specs.AgreeProperty.{NewEntries}
 use Rattle.lines.specs.AgreeProperty.{property-means, property-is, end-is}
 use Rattle.lines.specs.AgreeItem.{item-means, title-is, close-line-is, value-means, value-is, blank-line-is}
 
