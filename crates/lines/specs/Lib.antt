@@ -5,3 +5,6 @@ pub mod GotLaws
 pub mod AgreeField
 pub mod AgreeLine
 pub mod AgreeProperty
+pub mod AgreeText
+pub mod AgreeItem
+pub mod Agree
