@@ -1,14 +1,14 @@
 -- Each line judge finds exactly what the rules say: one law for each kind of line.
 use Prim.Native.Nat.{ℕ}
-use mathlib.Core.Path.{_≡_, refl, sym, ap, _∙_}
+use mathlib.Core.Path.{_≡_, sym, ap, _∙_}
 use mathlib.Core.Logic.{_↔_}
 use mathlib.Core.List.{List, _++_}
-use mathlib.Core.Bool.{Bool, true, false, _||_, not}
+use mathlib.Core.Bool.{false, not}
 use borrow.Author.Tests.{not-true}
 use Rattle.text.specs.Text.{Bytes, Line, bytes}
 use Rattle.text.specs.Columns.{Within}
-use Rattle.rules.specs.Forms.{Contains, FirstHeaderLine, Counts, CountsLine, Atom, AtomLine, Bond, BondLine, Kind, Property, PropertyLine, EndLine, DataHeader, RecordEnd, ValueLine, BlankLine}
-use Rattle.lines.specs.Got.{Got, got}
+use Rattle.rules.specs.Forms.{FirstHeaderLine, Counts, CountsLine, Atom, AtomLine, Bond, BondLine, Kind, Property, PropertyLine, EndLine, DataHeader, RecordEnd, ValueLine, BlankLine}
+use Rattle.lines.specs.Got.{got}
 use Rattle.lines.specs.GotLaws.{got-inj, need-got, need-is}
 use Rattle.lines.specs.Judge.{contains, reserved, firstHeaderOf, countsOf, atomOf, bondOf, propertyOf, property, last, itemOf, title, close, valueOf, value, blank}
 use Rattle.lines.specs.AgreeText.{true-false, or-false, none-of, contains-got, contains-is}

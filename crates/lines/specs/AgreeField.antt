@@ -1,21 +1,20 @@
 -- Each field of a line is judged as its rule says: `..-got` from what is found to the rule, `..-is` back.
-use Prim.Native.Nat.{ℕ, suc, _+_, _-_, _≤_}
+use Prim.Native.Nat.{ℕ, suc}
 use Prim.Native.String.{String}
 use native.Mathlib.Omega.{arith}
-use mathlib.Core.Path.{_≡_, refl, sym, ap, _∙_, subst}
-use mathlib.Core.Logic.{_↔_}
+use mathlib.Core.Path.{_≡_, refl, ap, _∙_, subst}
 use mathlib.Core.List.{List, [], _∷_}
-use mathlib.Core.Bool.{Bool, true, false, cond, _&&_, not}
+use mathlib.Core.Bool.{Bool, true, false, cond}
 use lib.Dec.{eqb, leb}
 use lib.ListN.{length}
 use lib.IntN.{ℤ, pos, negsuc}
 use borrow.Author.Tests.{eqb-true, eq-eqb, leb-true, le-leb}
-use Rattle.text.specs.Text.{Bytes, Line, bytes, byte, Each}
+use Rattle.text.specs.Text.{Line, bytes, byte}
 use Rattle.text.specs.Columns.{column, columns, Space, SpacesFrom, Has, Within}
 use Rattle.text.specs.Find.{badColumn, inkColumn}
 use Rattle.text.specs.Agree.{bad-none, ink-none}
 use Rattle.text.specs.declared.Found.{Found}
-use Rattle.numbers.specs.Number.{Integer, Number, Signed, Between, OneOf, Listed, SignedListed}
+use Rattle.numbers.specs.Number.{Number, Signed, OneOf, Listed, SignedListed}
 use Rattle.numbers.specs.Read.{numberIn, signedIn, isBetween}
 use Rattle.numbers.specs.Agree.{number-agrees, signed-agrees, is-between}
 use Rattle.numbers.specs.declared.NumberRead.{NumberRead}
@@ -25,16 +24,21 @@ use Rattle.coordinates.specs.Read.{coordinateIn}
 use Rattle.coordinates.specs.Agree.{coordinate-agrees}
 use Rattle.coordinates.specs.declared.CoordinateRead.{CoordinateRead}
 use Rattle.symbols.specs.Symbol.{Symbol}
-use Rattle.symbols.specs.Read.{symbolIn, sameBytes}
+use Rattle.symbols.specs.Read.{symbolIn}
 use Rattle.symbols.specs.Agree.{symbol-agrees, same-bytes}
 use Rattle.symbols.specs.declared.SymbolRead.{SymbolRead}
-use Rattle.lines.specs.Got.{Got, got, bad, then, need}
+use Rattle.lines.specs.Got.{Got, got, then, need}
 use Rattle.lines.specs.GotLaws.{got-inj, bad-got, then-got, then-is, need-got, need-is}
 use Rattle.lines.specs.Field.{numberGot, numberAt, signedGot, signedAt, elem, listedAt, sameInteger, elemSigned, signedListedAt, coordinateGot, coordinateAt, symbolGot, symbolAt, spaceAt, noneFound, spacesFrom, has, within}
 
--- a field is judged, and then the rest
-pub step : {A B : Type 0} {P : A → Type 0} (x : Got A) (f : A → Got B) (v : B) → ((a : A) → x ≡ got a → P a) → then x f ≡ got v → (a : A) × P a × (f a ≡ got v)
-step x f v p h = let t = then-got x f v h in (t .0, p (t .0) (t .1), t .2)
+-- a field is judged, and then the rest: with its value, the rule for it, and what the rest finds
+pub on : {A B X : Type 0} {P : A → Type 0} (x : Got A) (f : A → Got B) (v : B) →
+    then x f ≡ got v → ((a : A) → x ≡ got a → P a) → ((a : A) → P a → f a ≡ got v → X) → X
+on x f v h law rest = let t = then-got x f v h in rest (t .0) (law (t .0) (t .1)) (t .2)
+
+-- a test is passed, and then the rest
+pub after : {A X : Type 0} (b : Bool) (e c : ℕ) (x : Got A) (v : A) → need b e c x ≡ got v → (b ≡ true → x ≡ got v → X) → X
+after b e c x v h rest = let t = need-got b e c x v h in rest (t .0) (t .1)
 
 -- ---- numbers
 
@@ -43,28 +47,26 @@ number-read i k (NumberRead.Is j) h = ap NumberRead.Is (got-inj h)
 number-read i k NumberRead.Malformed h = bad-got h
 number-read i k NumberRead.Outside h = bad-got h
 
-module _ (l : Line) (i j least most k : ℕ) where
-  pub number-got : numberAt l i j least most ≡ got k → Number l i j least most k
-  unfolding numberAt
-  number-got h = number-agrees l i j least most k .0 (number-read i k (numberIn least most (columns l i j)) h)
+pub number-got : (l : Line) (i j least most k : ℕ) → numberAt l i j least most ≡ got k → Number l i j least most k
+unfolding numberAt
+number-got l i j least most k h = number-agrees l i j least most k .0 (number-read i k (numberIn least most (columns l i j)) h)
 
-  pub number-is : Number l i j least most k → numberAt l i j least most ≡ got k
-  unfolding numberAt
-  number-is n = ap (numberGot i) (number-agrees l i j least most k .1 n)
+pub number-is : {l : Line} {i j least most k : ℕ} → Number l i j least most k → numberAt l i j least most ≡ got k
+unfolding numberAt
+number-is {l} {i} {j} {least} {most} {k} n = ap (numberGot i) (number-agrees l i j least most k .1 n)
 
 signed-read : (i : ℕ) (z : ℤ) (r : SignedRead) → signedGot i r ≡ got z → r ≡ SignedRead.Is z
 signed-read i z (SignedRead.Is y) h = ap SignedRead.Is (got-inj h)
 signed-read i z SignedRead.Malformed h = bad-got h
 signed-read i z SignedRead.Outside h = bad-got h
 
-module _ (l : Line) (i j below above : ℕ) (z : ℤ) where
-  pub signed-got : signedAt l i j below above ≡ got z → Signed l i j below above z
-  unfolding signedAt
-  signed-got h = signed-agrees l i j below above z .0 (signed-read i z (signedIn below above (columns l i j)) h)
+pub signed-got : (l : Line) (i j below above : ℕ) (z : ℤ) → signedAt l i j below above ≡ got z → Signed l i j below above z
+unfolding signedAt
+signed-got l i j below above z h = signed-agrees l i j below above z .0 (signed-read i z (signedIn below above (columns l i j)) h)
 
-  pub signed-is : Signed l i j below above z → signedAt l i j below above ≡ got z
-  unfolding signedAt
-  signed-is n = ap (signedGot i) (signed-agrees l i j below above z .1 n)
+pub signed-is : {l : Line} {i j below above : ℕ} {z : ℤ} → Signed l i j below above z → signedAt l i j below above ≡ got z
+unfolding signedAt
+signed-is {l} {i} {j} {below} {above} {z} n = ap (signedGot i) (signed-agrees l i j below above z .1 n)
 
 -- ---- numbers of a list
 
@@ -128,40 +130,32 @@ module _ (l : Line) (i j most : ℕ) (list : List ℕ) (k : ℕ) where
   pub listed-got : listedAt l i j most list ≡ got k → Listed l i j list k
   unfolding listedAt
   listed-got h =
-      let a = step _ _ k (number-got l i j 0 most) h in
-      let b = need-got (elem (a .0) list) 8 i (got (a .0)) k (a .2) in
-      let e : a .0 ≡ k = got-inj (b .1) in
-      record {
-        field = subst (λ (m : ℕ). Integer false (columns l i j) (pos m)) e (a .1 .field);
-        listed = subst (λ (m : ℕ). OneOf m list) e (elem-true (a .0) list (b .0));
-      }
+      on _ _ k h (number-got l i j 0 most) λ a n h.
+      after _ _ _ _ k h λ among h.
+      subst (Listed l i j list) (got-inj h) (record { field = n .field; listed = elem-true a list among })
 
   -- where none of the list is above `most`
   pub listed-is : allPass (λ m. leb m most) list ≡ true → Listed l i j list k → listedAt l i j most list ≡ got k
   unfolding listedAt
   listed-is small n =
       let high = leb-true k most (pass-one (λ (m : ℕ). leb m most) (n .listed) small) in
-      then-is _ _ k (number-is l i j 0 most k (record { field = n .field; low = omega arith; high = high })) ∙
+      then-is _ _ k (number-is {l = l} {i = i} {j = j} {least = 0} {most = most} (record { field = n .field; low = omega arith; high = high })) ∙
       need-is (elem k list) 8 i (got k) (elem-is (n .listed))
 
 module _ (l : Line) (i j below above : ℕ) (list : List ℤ) (z : ℤ) where
   pub signed-listed-got : signedListedAt l i j below above list ≡ got z → SignedListed l i j list z
   unfolding signedListedAt
   signed-listed-got h =
-      let a = step _ _ z (signed-got l i j below above) h in
-      let b = need-got (elemSigned (a .0) list) 8 i (got (a .0)) z (a .2) in
-      let e : a .0 ≡ z = got-inj (b .1) in
-      record {
-        field = subst (λ (y : ℤ). Integer true (columns l i j) y) e (a .1 .field);
-        listed = subst (λ (y : ℤ). OneOf y list) e (elem-signed-true (a .0) list (b .0));
-      }
+      on _ _ z h (signed-got l i j below above) λ a n h.
+      after _ _ _ _ z h λ among h.
+      subst (SignedListed l i j list) (got-inj h) (record { field = n .field; listed = elem-signed-true a list among })
 
   -- where all of the list are between the two
   pub signed-listed-is : allPass (isBetween below above) list ≡ true → SignedListed l i j list z → signedListedAt l i j below above list ≡ got z
   unfolding signedListedAt
   signed-listed-is small n =
       let range = is-between below above z (pass-one (isBetween below above) (n .listed) small) in
-      then-is _ _ z (signed-is l i j below above z (record { field = n .field; range = range })) ∙
+      then-is _ _ z (signed-is {l = l} {i = i} {j = j} (record { field = n .field; range = range })) ∙
       need-is (elemSigned z list) 8 i (got z) (elem-signed-is (n .listed))
 
 -- ---- coordinates and symbols
@@ -195,11 +189,9 @@ module _ (l : Line) (i j k : ℕ) where
 -- ---- spaces and texts
 
 module _ {A : Type 0} (l : Line) (i : ℕ) (x : Got A) where
-  pub space-got : (v : A) → spaceAt l i x ≡ got v → Space (column l i) × (x ≡ got v)
+  pub space-got : {X : Type 0} (v : A) → spaceAt l i x ≡ got v → (Space (column l i) → x ≡ got v → X) → X
   unfolding spaceAt
-  space-got v h =
-      let n = need-got (eqb (column l i) (byte " ")) 15 i x v h in
-      (eqb-true (column l i) (byte " ") (n .0), n .1)
+  space-got v h rest = after _ _ _ _ v h λ e h. rest (eqb-true (column l i) (byte " ") e) h
 
   pub space-is : Space (column l i) → spaceAt l i x ≡ x
   unfolding spaceAt
@@ -213,9 +205,9 @@ none-is : {A : Type 0} (e : ℕ) (f : Found) (x : Got A) → f ≡ Found.Nothing
 none-is e f x h = rw h
 
 module _ {A : Type 0} (l : Line) (i : ℕ) (x : Got A) where
-  pub spaces-got : (v : A) → spacesFrom l i x ≡ got v → SpacesFrom l i × (x ≡ got v)
+  pub spaces-got : {X : Type 0} (v : A) → spacesFrom l i x ≡ got v → (SpacesFrom l i → x ≡ got v → X) → X
   unfolding spacesFrom
-  spaces-got v h = let n = none-got 15 (inkColumn l i) x v h in (ink-none l i .0 (n .0), n .1)
+  spaces-got v h rest = let n = none-got 15 (inkColumn l i) x v h in rest (ink-none l i .0 (n .0)) (n .1)
 
   pub spaces-is : SpacesFrom l i → spacesFrom l i x ≡ x
   unfolding spacesFrom

@@ -1,18 +1,18 @@
 -- Data headers, `$$$$` lines, value lines and blank lines are judged as their rules say.
-use Prim.Native.Nat.{ℕ, zero, suc, _+_, _≤_}
+use Prim.Native.Nat.{ℕ, zero, suc, _≤_}
 use native.Mathlib.Omega.{arith}
 use mathlib.Core.Path.{_≡_, refl, sym, ap, _∙_, subst}
-use mathlib.Core.List.{List, [], _∷_, _++_, append-nil, append-assoc}
+use mathlib.Core.List.{[], _∷_, _++_, append-nil, append-assoc}
 use mathlib.Core.Bool.{Bool, true, false, cond, _&&_}
 use lib.Dec.{eqb, leb}
 use lib.ListN.{length, drop}
 use borrow.Author.Tests.{eqb-true, eqb-false, eq-eqb, ne-eqb, leb-true, le-leb}
-use Rattle.text.specs.Text.{Bytes, Line, bytes, byte, Each, Without}
-use Rattle.text.specs.Columns.{column, columns, columnsFor, spaces, Allowed, Within, Has, SpacesFrom}
+use Rattle.text.specs.Text.{Bytes, Line, bytes, Each, Without}
+use Rattle.text.specs.Columns.{columns, columnsFor, spaces, Allowed, Within}
 use Rattle.numbers.specs.Read.{afterSpaces}
 use Rattle.numbers.specs.Agree.{and-true, led, pass-spaces}
-use Rattle.rules.specs.Forms.{DataHeader, RecordEnd, ValueLine, BlankLine, Begins}
-use Rattle.lines.specs.Got.{Got, got, bad}
+use Rattle.rules.specs.Forms.{DataHeader, RecordEnd, ValueLine, BlankLine}
+use Rattle.lines.specs.Got.{got, bad}
 use Rattle.lines.specs.GotLaws.{got-inj, bad-got}
 use Rattle.lines.specs.Judge.{HeaderRead, named, none, begins, blankb, nameOn, opened, spaced, arrowed, headerOf, ItemOrEnd, title, close, titleGot, isClose, itemOf, ValueOrBlank, value, blank, notHeader, valueOf}
 use Rattle.lines.specs.AgreeText.{true-false, none-of, begins-got, begins-is, blank-got, blank-is, blank-spaces, spaces-blank}

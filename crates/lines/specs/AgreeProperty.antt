@@ -1,22 +1,21 @@
 -- Property lines and `M  END` are judged as their rules say.
 use Prim.Native.Nat.{ℕ, zero, suc, _+_, _*_}
-use native.Mathlib.Omega.{arith}
 use mathlib.Core.Path.{_≡_, refl, sym, ap, _∙_, subst}
 use mathlib.Core.List.{List, [], _∷_}
 use mathlib.Core.Bool.{Bool, true, false, cond, not}
 use lib.ListN.{length}
-use lib.IntN.{ℤ, pos}
+use lib.IntN.{ℤ}
 use borrow.Author.Tests.{not-true}
-use Rattle.text.specs.Text.{Line, bytes}
-use Rattle.text.specs.Columns.{columns, SpacesFrom, Has, Within}
-use Rattle.numbers.specs.Number.{Number, Signed}
+use Rattle.text.specs.Text.{Line}
+use Rattle.text.specs.Columns.{SpacesFrom, Has, Within}
+use Rattle.numbers.specs.Number.{Number}
 use Rattle.symbols.specs.Read.{sameBytes}
-use Rattle.rules.specs.Forms.{Kind, CHG, RAD, ISO, tag, Entry, EntryNumber, EntryAt, EntriesFrom, Property, PropertyLine, EndLine}
-use Rattle.lines.specs.Got.{Got, got, bad, then, need}
-use Rattle.lines.specs.GotLaws.{got-inj, bad-got, then-got, then-is, need-got, need-is}
+use Rattle.rules.specs.Forms.{Kind, CHG, RAD, ISO, tag, Entry, EntryNumber, EntriesFrom, Property, PropertyLine, EndLine}
+use Rattle.lines.specs.Got.{Got, got, bad}
+use Rattle.lines.specs.GotLaws.{got-inj, bad-got, then-is, need-is}
 use Rattle.lines.specs.Field.{elem, spacesFrom, has}
 use Rattle.lines.specs.Judge.{PropertyOrEnd, property, last, entryNumberAt, entriesOf, listOf, propertyOf}
-use Rattle.lines.specs.AgreeField.{step, number-got, number-is, signed-got, signed-is, space-got, space-is, spaces-got, spaces-is, has-got, has-is}
+use Rattle.lines.specs.AgreeField.{on, after, number-got, number-is, signed-got, signed-is, space-got, space-is, spaces-got, spaces-is, has-got}
 
 -- no atom of the entries was seen before, nor stands twice among them
 unfoldable pub NewEntries : List ℕ → List Entry → Type 0
@@ -27,19 +26,19 @@ NewEntries seen (e ∷ es) = (elem (e .atom) seen ≡ false) × NewEntries (e .a
 
 entry-number-got : (l : Line) (i j : ℕ) (kind : Kind) (z : ℤ) → entryNumberAt l i j kind ≡ got z → EntryNumber l i j kind z
 unfolding entryNumberAt
-entry-number-got l i j CHG z h = EntryNumber.charge (signed-got l i j 15 15 z h)
+entry-number-got l i j CHG z h = EntryNumber.charge (signed-got l i j _ _ z h)
 entry-number-got l i j RAD z h =
-    let k = step _ _ z (number-got l i j 0 3) h in
-    subst (EntryNumber l i j RAD) (got-inj (k .2)) (EntryNumber.radical (k .1))
+    on _ _ z h (number-got l i j _ _) λ k k-is h.
+    subst (EntryNumber l i j RAD) (got-inj h) (EntryNumber.radical k-is)
 entry-number-got l i j ISO z h =
-    let k = step _ _ z (number-got l i j 1 999) h in
-    subst (EntryNumber l i j ISO) (got-inj (k .2)) (EntryNumber.isotope (k .1))
+    on _ _ z h (number-got l i j _ _) λ k k-is h.
+    subst (EntryNumber l i j ISO) (got-inj h) (EntryNumber.isotope k-is)
 
 entry-number-is : (l : Line) (i j : ℕ) {kind : Kind} {z : ℤ} → EntryNumber l i j kind z → entryNumberAt l i j kind ≡ got z
 unfolding entryNumberAt
-entry-number-is l i j (EntryNumber.charge {z = z} n) = signed-is l i j 15 15 z n
-entry-number-is l i j (EntryNumber.radical {k = k} n) = then-is _ _ k (number-is l i j 0 3 k n)
-entry-number-is l i j (EntryNumber.isotope {k = k} n) = then-is _ _ k (number-is l i j 1 999 k n)
+entry-number-is l i j (EntryNumber.charge n) = signed-is n
+entry-number-is l i j (EntryNumber.radical {k = k} n) = then-is _ _ k (number-is n)
+entry-number-is l i j (EntryNumber.isotope {k = k} n) = then-is _ _ k (number-is n)
 
 -- ---- entries
 
@@ -53,17 +52,17 @@ entries-got : (n : ℕ) (kind : Kind) (l : Line) (i k : ℕ) (seen : List ℕ) (
 unfolding entriesOf EntriesFrom NewEntries
 entries-got n kind l i zero seen es h = subst (Entries n kind l i 0 seen) (got-inj h) (record { count = refl; entries = tt; new = tt })
 entries-got n kind l i (suc k) seen es h =
-    let space = space-got l i _ es h in
-    let atom = step _ _ es (number-got l (i + 1) (i + 3) 1 n) (space .1) in
-    let new = need-got (not (elem (atom .0) seen)) 14 (i + 1) _ es (atom .2) in
-    let between = space-got l (i + 4) _ es (new .1) in
-    let number = step _ _ es (entry-number-got l (i + 5) (i + 7) kind) (between .1) in
-    let more = step _ _ es (entries-got n kind l (i + 8) k (atom .0 ∷ seen)) (number .2) in
-    subst (Entries n kind l i (suc k) seen) (got-inj (more .2))
+    space-got l _ _ es h λ space h.
+    on _ _ es h (number-got l _ _ _ _) λ atom atom-is h.
+    after _ _ _ _ es h λ new h.
+    space-got l _ _ es h λ between h.
+    on _ _ es h (entry-number-got l _ _ kind) λ number is-number h.
+    on _ _ es h (entries-got n kind l (i + 8) k (atom ∷ seen)) λ more more-are h.
+    subst (Entries n kind l i (suc k) seen) (got-inj h)
     (record {
-      count = ap suc (more .1 .count);
-      entries = (record { space = space .0; atom = atom .1; space-between = between .0; number = number .1 }, more .1 .entries);
-      new = (not-true (elem (atom .0) seen) (new .0), more .1 .new);
+      count = ap suc (more-are .count);
+      entries = (record { space = space; atom = atom-is; space-between = between; number = is-number }, more-are .entries);
+      new = (not-true (elem atom seen) new, more-are .new);
     })
 
 entries-is : (n : ℕ) (kind : Kind) (l : Line) (i : ℕ) (seen : List ℕ) (es : List Entry) →
@@ -71,11 +70,11 @@ entries-is : (n : ℕ) (kind : Kind) (l : Line) (i : ℕ) (seen : List ℕ) (es 
 unfolding entriesOf EntriesFrom NewEntries
 entries-is n kind l i seen [] h new = refl
 entries-is n kind l i seen (e ∷ es) h new =
-    space-is l i _ (h .0 .space) ∙
-    then-is _ _ _ (number-is l (i + 1) (i + 3) 1 n (e .atom) (h .0 .atom)) ∙
-    need-is _ 14 (i + 1) _ (ap not (new .0)) ∙
-    space-is l (i + 4) _ (h .0 .space-between) ∙
-    then-is _ _ _ (entry-number-is l (i + 5) (i + 7) (h .0 .number)) ∙
+    space-is l _ _ (h .0 .space) ∙
+    then-is _ _ _ (number-is (h .0 .atom)) ∙
+    need-is _ _ _ _ (ap not (new .0)) ∙
+    space-is l _ _ (h .0 .space-between) ∙
+    then-is _ _ _ (entry-number-is l _ _ (h .0 .number)) ∙
     then-is _ _ _ (entries-is n kind l (i + 8) (e .atom ∷ seen) es (h .1) (new .1))
 
 -- ---- a line of one kind
@@ -94,31 +93,31 @@ list-got : (n : ℕ) (kind : Kind) (seen : Kind → List ℕ) (l : Line) (r : Pr
     listOf n kind (seen kind) l ≡ got r → Judged n seen l r
 unfolding listOf
 list-got n kind seen l r w tagged h =
-    let k = step _ _ r (number-got l 7 9 1 8) h in
-    let es = step _ _ r (entries-got n kind l 10 (k .0) (seen kind)) (k .2) in
-    let rest = spaces-got l (10 + 8 * k .0) _ r (es .2) in
-    let e : k .0 ≡ length (es .0) = sym (es .1 .count) in
+    on _ _ r h (number-got l _ _ _ _) λ k k-is h.
+    on _ _ r h (entries-got n kind l 10 k (seen kind)) λ es es-are h.
+    spaces-got l _ _ r h λ rest h.
+    let e : k ≡ length es = sym (es-are .count) in
     record {
-      it = record { kind = kind; entries = es .0 };
-      is = sym (got-inj (rest .1));
+      it = record { kind = kind; entries = es };
+      is = sym (got-inj h);
       listing = (
         record {
           line = w;
           tagged = tagged;
-          count = subst (Number l 7 9 1 8) e (k .1);
-          entries = es .1 .entries;
-          rest = subst (λ (m : ℕ). SpacesFrom l (10 + 8 * m)) e (rest .0);
+          count = subst (Number l 7 9 1 8) e k-is;
+          entries = es-are .entries;
+          rest = subst (λ (m : ℕ). SpacesFrom l (10 + 8 * m)) e rest;
         },
-        es .1 .new,
+        es-are .new,
       );
     }
 
 list-is : (n : ℕ) (seen : List ℕ) (l : Line) (p : Property) → PropertyLine n l p → NewEntries seen (p .entries) → listOf n (p .kind) seen l ≡ got (property p)
 unfolding listOf
 list-is n seen l p h new =
-    then-is _ _ _ (number-is l 7 9 1 8 (length (p .entries)) (h .count)) ∙
+    then-is _ _ _ (number-is (h .count)) ∙
     then-is _ _ _ (entries-is n (p .kind) l 10 seen (p .entries) (h .entries) new) ∙
-    spaces-is l (10 + 8 * length (p .entries)) _ (h .rest)
+    spaces-is l _ _ (h .rest)
 
 -- ---- any property line, or the end
 
@@ -133,8 +132,8 @@ list-means {n} {seen} {l} f = subst (Means n seen l) (sym (f .is)) (f .listing)
 end-means : (n : ℕ) (seen : Kind → List ℕ) (l : Line) (r : PropertyOrEnd) → Within 80 l → (t : Bool) → has l 1 6 "M  END" ≡ t →
     cond t (spacesFrom l 7 (got last)) (bad 13 1) ≡ got r → Means n seen l r
 end-means n seen l r w true e h =
-    let rest = spaces-got l 7 _ r h in
-    subst (Means n seen l) (got-inj (rest .1)) (record { line = w; tagged = has-got l 1 6 "M  END" e; rest = rest .0 })
+    spaces-got l _ _ r h λ rest h.
+    subst (Means n seen l) (got-inj h) (record { line = w; tagged = has-got l 1 6 "M  END" e; rest = rest })
 end-means n seen l r w false e h = bad-got h
 
 -- the first tag that stands there decides

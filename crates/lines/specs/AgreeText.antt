@@ -1,13 +1,13 @@
 -- Tests on the bytes of a line: what it begins with or contains, and whether it is blank.
 use Prim.Native.Nat.{ℕ, zero, suc}
 use native.Mathlib.Omega.{arith}
-use mathlib.Core.Path.{_≡_, refl, sym, ap, _∙_, subst}
-use mathlib.Core.List.{List, [], _∷_, _++_}
-use mathlib.Core.Bool.{Bool, true, false, _&&_, _||_}
+use mathlib.Core.Path.{_≡_, refl, sym, ap}
+use mathlib.Core.List.{[], _∷_, _++_}
+use mathlib.Core.Bool.{Bool, true, false, _||_}
 use lib.Dec.{eqb}
 use lib.ListN.{length}
 use borrow.Author.Tests.{eqb-true, eq-eqb}
-use Rattle.text.specs.Text.{Bytes, Line, byte, Each}
+use Rattle.text.specs.Text.{Bytes, Line, Each}
 use Rattle.text.specs.Columns.{Blank, spaces}
 use Rattle.numbers.specs.Agree.{and-true}
 use Rattle.lines.specs.Judge.{begins, contains, blankb}

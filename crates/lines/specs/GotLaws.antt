@@ -1,7 +1,7 @@
 -- Laws of `then` and `need`: where a value is found, each step before it found one.
 use Prim.Native.Nat.{ℕ}
 use native.Mathlib.Omega.{arith}
-use mathlib.Core.Path.{_≡_, refl, ap}
+use mathlib.Core.Path.{_≡_, refl}
 use mathlib.Core.Bool.{Bool, true, false}
 use Rattle.lines.specs.Got.{Got, got, bad, then, need}
 
