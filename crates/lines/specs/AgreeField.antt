@@ -28,7 +28,7 @@ use Rattle.symbols.specs.Read.{symbolIn}
 use Rattle.symbols.specs.Agree.{symbol-agrees, same-bytes}
 use Rattle.symbols.specs.declared.SymbolRead.{SymbolRead}
 use Rattle.lines.specs.Got.{Got, got, then, need}
-use Rattle.lines.specs.GotLaws.{got-inj, bad-got, then-got, then-is, need-got, need-is}
+use Rattle.lines.specs.GotLaws.{got-inj, bad-got, then-got, then-is, need-got, need-is, cond-by}
 use Rattle.lines.specs.Field.{numberGot, numberAt, signedGot, signedAt, elem, listedAt, sameInteger, elemSigned, signedListedAt, coordinateGot, coordinateAt, symbolGot, symbolAt, spaceAt, noneFound, spacesFrom, has, within}
 
 -- a field is judged, and then the rest: with its value, the rule for it, and what the rest finds
@@ -73,11 +73,9 @@ signed-is {l} {i} {j} {below} {above} {z} n = ap (signedGot i) (signed-agrees l 
 pub elem-true : (k : ℕ) (xs : List ℕ) → elem k xs ≡ true → OneOf k xs
 unfolding elem
 elem-true k [] h = absurd (let z : _≡_ {A = ℕ} 0 1 = cc in omega arith)
-elem-true k (x ∷ xs) h = go (eqb k x) refl h (elem-true k xs)
-  where
-    go : (t : Bool) → eqb k x ≡ t → cond t true (elem k xs) ≡ true → (elem k xs ≡ true → OneOf k xs) → OneOf k (x ∷ xs)
-    go true e h more = subst (λ (y : ℕ). OneOf k (y ∷ xs)) (eqb-true k x e) OneOf.this
-    go false e h more = OneOf.later (more h)
+elem-true k (x ∷ xs) h =
+    cond-by _ _ _ _ h (λ e h. subst (λ (y : ℕ). OneOf k (y ∷ xs)) (eqb-true k x e) OneOf.this) λ e h.
+    OneOf.later (elem-true k xs h)
 
 or-true : (t : Bool) → cond t true true ≡ true
 or-true true = refl
@@ -101,11 +99,9 @@ integer-same (negsuc k) = eq-eqb k k refl
 elem-signed-true : (z : ℤ) (xs : List ℤ) → elemSigned z xs ≡ true → OneOf z xs
 unfolding elemSigned
 elem-signed-true z [] h = absurd (let z : _≡_ {A = ℕ} 0 1 = cc in omega arith)
-elem-signed-true z (x ∷ xs) h = go (sameInteger z x) refl h (elem-signed-true z xs)
-  where
-    go : (t : Bool) → sameInteger z x ≡ t → cond t true (elemSigned z xs) ≡ true → (elemSigned z xs ≡ true → OneOf z xs) → OneOf z (x ∷ xs)
-    go true e h more = subst (λ (y : ℤ). OneOf z (y ∷ xs)) (same-integer z x e) OneOf.this
-    go false e h more = OneOf.later (more h)
+elem-signed-true z (x ∷ xs) h =
+    cond-by _ _ _ _ h (λ e h. subst (λ (y : ℤ). OneOf z (y ∷ xs)) (same-integer z x e) OneOf.this) λ e h.
+    OneOf.later (elem-signed-true z xs h)
 
 elem-signed-is : {z : ℤ} {xs : List ℤ} → OneOf z xs → elemSigned z xs ≡ true
 unfolding elemSigned

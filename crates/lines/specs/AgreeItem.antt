@@ -2,18 +2,18 @@
 use Prim.Native.Nat.{ℕ, zero, suc, _≤_}
 use native.Mathlib.Omega.{arith}
 use mathlib.Core.Path.{_≡_, refl, sym, ap, _∙_, subst}
+use mathlib.Core.Logic.{_≢_}
 use mathlib.Core.List.{[], _∷_, _++_, append-nil, append-assoc}
-use mathlib.Core.Bool.{Bool, true, false, cond, _&&_}
-use lib.Dec.{eqb, leb}
+use mathlib.Core.Bool.{Bool, true, false, cond}
 use lib.ListN.{length, drop}
 use borrow.Author.Tests.{eqb-true, eqb-false, eq-eqb, ne-eqb, leb-true, le-leb}
 use Rattle.text.specs.Text.{Bytes, Line, bytes, Each, Without}
-use Rattle.text.specs.Columns.{columns, columnsFor, spaces, Allowed, Within}
+use Rattle.text.specs.Columns.{columns, columnsFor, spaces, Allowed, Within, Blank}
 use Rattle.numbers.specs.Read.{afterSpaces}
 use Rattle.numbers.specs.Agree.{and-true, led, pass-spaces}
 use Rattle.rules.specs.Forms.{DataHeader, RecordEnd, ValueLine, BlankLine}
-use Rattle.lines.specs.Got.{got, bad}
-use Rattle.lines.specs.GotLaws.{got-inj, bad-got}
+use Rattle.lines.specs.Got.{got}
+use Rattle.lines.specs.GotLaws.{got-inj, bad-got, cond-by}
 use Rattle.lines.specs.Judge.{HeaderRead, named, none, begins, blankb, nameOn, opened, spaced, arrowed, headerOf, ItemOrEnd, title, close, titleGot, isClose, itemOf, ValueOrBlank, value, blank, notHeader, valueOf}
 use Rattle.lines.specs.AgreeText.{true-false, none-of, begins-got, begins-is, blank-got, blank-is, blank-spaces, spaces-blank}
 
@@ -30,40 +30,36 @@ record Name (name bs r : Bytes) : Type 0 where
   no-open : Without 60 more
   no-close : Without 62 more
 
+no-name : {X : Type 0} {name : Bytes} → none ≡ named name → X
+no-name e = absurd (let z : _≡_ {A = ℕ} 0 1 = cc in omega arith)
+
+-- a test must hold for a name to be found
 cond-named : (t : Bool) (x : HeaderRead) (r : Bytes) → cond t x none ≡ named r → (t ≡ true) × (x ≡ named r)
-cond-named true x r h = (refl, h)
-cond-named false x r h = absurd (let z : _≡_ {A = ℕ} 0 1 = cc in omega arith)
+cond-named t x r h = cond-by _ _ _ _ h (λ e h. (e, h)) λ e h. no-name h
 
 named-inj : {m r : Bytes} → named m ≡ named r → m ≡ r
 named-inj e = cc
 
 -- the name's end
-ended : (name bs r : Bytes) → cond (leb 1 (length name) && (leb (length name) 30 && blankb bs)) (named name) none ≡ named r → Name name (62 ∷ bs) r
+ended : (name bs : Bytes) (b : ℕ) → b ≡ 62 → 1 ≤ length name → length name ≤ 30 → Blank bs → Name name (b ∷ bs) name
 unfolding Each
-ended name bs r h =
-    let t = cond-named (leb 1 (length name) && (leb (length name) 30 && blankb bs)) (named name) r h in
-    let a = and-true (leb 1 (length name)) (leb (length name) 30 && blankb bs) (t .0) in
-    let b = and-true (leb (length name) 30) (blankb bs) (a .1) in
-    subst (Name name (62 ∷ bs)) (named-inj (t .1))
-    (record {
+ended name bs b e low high after =
+    let s = blank-spaces bs after in
+    record {
       more = [];
       after = length bs;
-      parts = ap (λ (x : Bytes). 62 ∷ x) (blank-spaces bs (blank-got bs (b .1)));
+      parts = λ i. e i ∷ s i;
       whole = sym (append-nil name);
-      low = leb-true 1 (length name) (a .0);
-      high = leb-true (length name) 30 (b .0);
+      low = low;
+      high = high;
       no-open = tt;
       no-close = tt;
-    })
+    }
 
-name-by : (name bs r : Bytes) (b : ℕ) (t u : Bool) → eqb b 60 ≡ t → eqb b 62 ≡ u → (nameOn (name ++ (b ∷ [])) bs ≡ named r → Name (name ++ (b ∷ [])) bs r) →
-    cond t none (cond u (cond (leb 1 (length name) && (leb (length name) 30 && blankb bs)) (named name) none) (nameOn (name ++ (b ∷ [])) bs)) ≡ named r →
-    Name name (b ∷ bs) r
+-- a byte of the name
+longer : {name bs r : Bytes} {b : ℕ} → b ≢ 60 → b ≢ 62 → Name (name ++ (b ∷ [])) bs r → Name name (b ∷ bs) r
 unfolding Each
-name-by name bs r b true u e f more h = absurd (let z : _≡_ {A = ℕ} 0 1 = cc in omega arith)
-name-by name bs r b false true e f more h = subst (λ (x : ℕ). Name name (x ∷ bs) r) (sym (eqb-true b 62 f)) (ended name bs r h)
-name-by name bs r b false false e f more h =
-    let m = more h in
+longer {name} {b = b} p q m =
     record {
       more = b ∷ m .more;
       after = m .after;
@@ -71,14 +67,24 @@ name-by name bs r b false false e f more h =
       whole = m .whole ∙ append-assoc name (b ∷ []) (m .more);
       low = m .low;
       high = m .high;
-      no-open = (eqb-false b 60 e, m .no-open);
-      no-close = (eqb-false b 62 f, m .no-close);
+      no-open = (p, m .no-open);
+      no-close = (q, m .no-close);
     }
 
 name-got : (name bs r : Bytes) → nameOn name bs ≡ named r → Name name bs r
 unfolding nameOn
-name-got name [] r h = absurd (let z : _≡_ {A = ℕ} 0 1 = cc in omega arith)
-name-got name (b ∷ bs) r h = name-by name bs r b (eqb b 60) (eqb b 62) refl refl (name-got (name ++ (b ∷ [])) bs r) h
+name-got name [] r h = no-name h
+name-got name (b ∷ bs) r h =
+    cond-by _ _ _ _ h (λ e h. no-name h) λ e h.
+    cond-by _ _ _ _ h
+    (λ f h.
+    let t = cond-named _ _ r h in
+    let u = and-true _ _ (t .0) in
+    let v = and-true _ _ (u .1) in
+    subst (Name name (b ∷ bs)) (named-inj (t .1))
+    (ended name bs b (eqb-true b 62 f) (leb-true 1 (length name) (u .0)) (leb-true (length name) 30 (v .0)) (blank-got bs (v .1))))
+    λ f h.
+    longer (eqb-false b 60 e) (eqb-false b 62 f) (name-got (name ++ (b ∷ [])) bs r h)
 
 name-is : (name more : Bytes) (after : ℕ) → 1 ≤ length (name ++ more) → length (name ++ more) ≤ 30 → Without 60 more → Without 62 more →
     nameOn name (more ++ (62 ∷ spaces after)) ≡ named (name ++ more)
@@ -99,16 +105,16 @@ name-is name (b ∷ more) after low high no-open no-close =
 
 opened-got : (bs r : Bytes) → opened bs ≡ named r → (ds : Bytes) × (bs ≡ 60 ∷ ds) × (nameOn [] ds ≡ named r)
 unfolding opened
-opened-got [] r h = absurd (let z : _≡_ {A = ℕ} 0 1 = cc in omega arith)
+opened-got [] r h = no-name h
 opened-got (b ∷ bs) r h =
-    let t = cond-named (eqb b 60) (nameOn [] bs) r h in
+    let t = cond-named _ _ r h in
     (bs, ap (λ (x : ℕ). x ∷ bs) (eqb-true b 60 (t .0)), t .1)
 
 spaced-got : (bs r : Bytes) → spaced bs ≡ named r → (k : ℕ) × (ds : Bytes) × (bs ≡ spaces (suc k) ++ (60 ∷ ds)) × (nameOn [] ds ≡ named r)
 unfolding spaced
-spaced-got [] r h = absurd (let z : _≡_ {A = ℕ} 0 1 = cc in omega arith)
+spaced-got [] r h = no-name h
 spaced-got (b ∷ bs) r h =
-    let t = cond-named (eqb b 32) (opened (afterSpaces bs)) r h in
+    let t = cond-named _ _ r h in
     let o = opened-got (afterSpaces bs) r (t .1) in
     let s = led bs in
     let e : b ≡ 32 = eqb-true b 32 (t .0) in
@@ -117,9 +123,9 @@ spaced-got (b ∷ bs) r h =
 
 arrowed-got : (l r : Bytes) → arrowed l ≡ named r → (k : ℕ) × (ds : Bytes) × (l ≡ 62 ∷ (spaces (suc k) ++ (60 ∷ ds))) × (nameOn [] ds ≡ named r)
 unfolding arrowed
-arrowed-got [] r h = absurd (let z : _≡_ {A = ℕ} 0 1 = cc in omega arith)
+arrowed-got [] r h = no-name h
 arrowed-got (b ∷ bs) r h =
-    let t = cond-named (eqb b 62) (spaced bs) r h in
+    let t = cond-named _ _ r h in
     let s = spaced-got bs r (t .1) in
     let e : b ≡ 62 = eqb-true b 62 (t .0) in
     let p = s .2 in
@@ -128,7 +134,7 @@ arrowed-got (b ∷ bs) r h =
 pub header-got : (l name : Bytes) → Each Allowed l → headerOf l ≡ named name → DataHeader l name
 unfolding headerOf
 header-got l name allowed h =
-    let t = cond-named (leb (length l) 80) (arrowed l) name h in
+    let t = cond-named _ _ name h in
     let a = arrowed-got l name (t .1) in
     let m = name-got [] (a .1) name (a .3) in
     let e : m .more ≡ name = sym (m .whole) in
@@ -175,9 +181,9 @@ four (a ∷ b ∷ c ∷ d ∷ l) h =
 pub close-got : (l : Line) → Within 80 l → isClose l ≡ true → RecordEnd l
 unfolding columnsFor
 close-got l w h =
-    let a = and-true (begins (bytes "$$$$") l) (blankb (drop 4 l)) h in
+    let a = and-true _ _ h in
     let b = begins-got (bytes "$$$$") l (a .0) in
-    record { line = w; tagged = rw (b .1) refl; rest = blank-got (drop 4 l) (a .1) }
+    record { line = w; tagged = rw (b .1) refl; rest = blank-got _ (a .1) }
 
 pub close-is : (l : Line) → RecordEnd l → isClose l ≡ true
 close-is l r = rw (four l (r .tagged), blank-is (drop 4 l) (r .rest))
@@ -191,13 +197,11 @@ title-means : (l : Line) (r : ItemOrEnd) → Within 80 l → (h : HeaderRead) �
 title-means l r w (named name) e h = subst (MeansItem l) (got-inj h) (header-got l name (w .allowed) e)
 title-means l r w none e h = bad-got h
 
-item-by : (l : Line) (r : ItemOrEnd) → Within 80 l → (t : Bool) → isClose l ≡ t → cond t (got close) (titleGot (headerOf l)) ≡ got r → MeansItem l r
-item-by l r w true e h = subst (MeansItem l) (got-inj h) (close-got l w e)
-item-by l r w false e h = title-means l r w (headerOf l) refl h
-
 pub item-means : (l : Line) (r : ItemOrEnd) → Within 80 l → itemOf l ≡ got r → MeansItem l r
 unfolding itemOf
-item-means l r w h = item-by l r w (isClose l) refl h
+item-means l r w h =
+    cond-by _ _ _ _ h (λ e h. subst (MeansItem l) (got-inj h) (close-got l w e)) λ e h.
+    title-means l r w (headerOf l) refl h
 
 not-close : (l name : Bytes) → DataHeader l name → isClose l ≡ false
 unfolding begins
@@ -217,9 +221,6 @@ abbrev MeansValue : Line → ValueOrBlank → Type 0
 MeansValue l value = ValueLine l
 MeansValue l blank = BlankLine l
 
-no-name : {X : Type 0} {name : Bytes} → none ≡ named name → X
-no-name e = absurd (let z : _≡_ {A = ℕ} 0 1 = cc in omega arith)
-
 other-means : (l : Line) (r : ValueOrBlank) → Within 200 l → blankb l ≡ false → begins (bytes "$$$$") l ≡ false →
     (h : HeaderRead) → headerOf l ≡ h → notHeader h ≡ got r → MeansValue l r
 other-means l r w p q (named name) e h = bad-got h
@@ -232,19 +233,12 @@ other-means l r w p q none e h =
       no-header = λ name d. no-name (sym e ∙ header-is l name d);
     })
 
-dollars-by : (l : Line) (r : ValueOrBlank) → Within 200 l → blankb l ≡ false → (t : Bool) → begins (bytes "$$$$") l ≡ t →
-    cond t (bad 17 1) (notHeader (headerOf l)) ≡ got r → MeansValue l r
-dollars-by l r w p true e h = bad-got h
-dollars-by l r w p false e h = other-means l r w p e (headerOf l) refl h
-
-value-by : (l : Line) (r : ValueOrBlank) → Within 200 l → (t : Bool) → blankb l ≡ t →
-    cond t (got blank) (cond (begins (bytes "$$$$") l) (bad 17 1) (notHeader (headerOf l))) ≡ got r → MeansValue l r
-value-by l r w true e h = subst (MeansValue l) (got-inj h) (record { line = w; blank = blank-got l e })
-value-by l r w false e h = dollars-by l r w e (begins (bytes "$$$$") l) refl h
-
 pub value-means : (l : Line) (r : ValueOrBlank) → Within 200 l → valueOf l ≡ got r → MeansValue l r
 unfolding valueOf
-value-means l r w h = value-by l r w (blankb l) refl h
+value-means l r w h =
+    cond-by _ _ _ _ h (λ e h. subst (MeansValue l) (got-inj h) (record { line = w; blank = blank-got l e })) λ p h.
+    cond-by _ _ _ _ h (λ e h. bad-got h) λ q h.
+    other-means l r w p q (headerOf l) refl h
 
 no-header : (l : Line) → Each Allowed l → ((name : Bytes) → ¬ DataHeader l name) → (h : HeaderRead) → headerOf l ≡ h → notHeader h ≡ got value
 no-header l allowed n (named name) e = absurd (n name (header-got l name allowed e))

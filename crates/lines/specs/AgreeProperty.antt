@@ -2,7 +2,7 @@
 use Prim.Native.Nat.{ℕ, zero, suc, _+_, _*_}
 use mathlib.Core.Path.{_≡_, refl, sym, ap, _∙_, subst}
 use mathlib.Core.List.{List, [], _∷_}
-use mathlib.Core.Bool.{Bool, true, false, cond, not}
+use mathlib.Core.Bool.{false, not}
 use lib.ListN.{length}
 use lib.IntN.{ℤ}
 use borrow.Author.Tests.{not-true}
@@ -11,9 +11,9 @@ use Rattle.text.specs.Columns.{SpacesFrom, Has, Within}
 use Rattle.numbers.specs.Number.{Number}
 use Rattle.symbols.specs.Read.{sameBytes}
 use Rattle.rules.specs.Forms.{Kind, CHG, RAD, ISO, tag, Entry, EntryNumber, EntriesFrom, Property, PropertyLine, EndLine}
-use Rattle.lines.specs.Got.{Got, got, bad}
-use Rattle.lines.specs.GotLaws.{got-inj, bad-got, then-is, need-is}
-use Rattle.lines.specs.Field.{elem, spacesFrom, has}
+use Rattle.lines.specs.Got.{got}
+use Rattle.lines.specs.GotLaws.{got-inj, bad-got, then-is, need-is, cond-by}
+use Rattle.lines.specs.Field.{elem}
 use Rattle.lines.specs.Judge.{PropertyOrEnd, property, last, entryNumberAt, entriesOf, listOf, propertyOf}
 use Rattle.lines.specs.AgreeField.{on, after, number-got, number-is, signed-got, signed-is, space-got, space-is, spaces-got, spaces-is, has-got}
 
@@ -129,27 +129,17 @@ Means n seen l last = EndLine l
 list-means : {n : ℕ} {seen : Kind → List ℕ} {l : Line} {r : PropertyOrEnd} → Judged n seen l r → Means n seen l r
 list-means {n} {seen} {l} f = subst (Means n seen l) (sym (f .is)) (f .listing)
 
-end-means : (n : ℕ) (seen : Kind → List ℕ) (l : Line) (r : PropertyOrEnd) → Within 80 l → (t : Bool) → has l 1 6 "M  END" ≡ t →
-    cond t (spacesFrom l 7 (got last)) (bad 13 1) ≡ got r → Means n seen l r
-end-means n seen l r w true e h =
-    spaces-got l _ _ r h λ rest h.
-    subst (Means n seen l) (got-inj h) (record { line = w; tagged = has-got l 1 6 "M  END" e; rest = rest })
-end-means n seen l r w false e h = bad-got h
-
--- the first tag that stands there decides
-tag-means : (n : ℕ) (seen : Kind → List ℕ) (l : Line) (r : PropertyOrEnd) (kind : Kind) (other : Got PropertyOrEnd) → Within 80 l → (t : Bool) → has l 1 6 (tag kind) ≡ t →
-    (other ≡ got r → Means n seen l r) → cond t (listOf n kind (seen kind) l) other ≡ got r → Means n seen l r
-tag-means n seen l r kind other w true e more h = list-means (list-got n kind seen l r w (has-got l 1 6 (tag kind) e) h)
-tag-means n seen l r kind other w false e more h = more h
-
 pub property-means : (n : ℕ) (seen : Kind → List ℕ) (l : Line) (r : PropertyOrEnd) → Within 80 l → propertyOf n seen l ≡ got r → Means n seen l r
 unfolding propertyOf
 property-means n seen l r w h =
-    tag-means n seen l r CHG _ w (has l 1 6 (tag CHG)) refl
-    (tag-means n seen l r RAD _ w (has l 1 6 (tag RAD)) refl
-    (tag-means n seen l r ISO _ w (has l 1 6 (tag ISO)) refl
-    (end-means n seen l r w (has l 1 6 "M  END") refl)))
-    h
+    cond-by _ _ _ _ h (λ t h. list-means (list-got n CHG seen l r w (has-got l 1 6 (tag CHG) t) h)) λ t h.
+    cond-by _ _ _ _ h (λ t h. list-means (list-got n RAD seen l r w (has-got l 1 6 (tag RAD) t) h)) λ t h.
+    cond-by _ _ _ _ h (λ t h. list-means (list-got n ISO seen l r w (has-got l 1 6 (tag ISO) t) h)) λ t h.
+    cond-by _ _ _ _ h
+    (λ t h.
+    spaces-got l _ _ r h λ rest h.
+    subst (Means n seen l) {x = last} (got-inj h) (record { line = w; tagged = has-got l 1 6 "M  END" t; rest = rest }))
+    λ t h. bad-got h
 
 pub tagged-is : (n : ℕ) (seen : Kind → List ℕ) (l : Line) (kind : Kind) → Has l 1 6 (tag kind) → propertyOf n seen l ≡ listOf n kind (seen kind) l
 unfolding propertyOf sameBytes

@@ -2,7 +2,7 @@
 use Prim.Native.Nat.{ℕ}
 use native.Mathlib.Omega.{arith}
 use mathlib.Core.Path.{_≡_, refl}
-use mathlib.Core.Bool.{Bool, true, false}
+use mathlib.Core.Bool.{Bool, true, false, cond}
 use Rattle.lines.specs.Got.{Got, got, bad, then, need}
 
 pub got-inj : {A : Type 0} {a b : A} → _≡_ {A = Got A} (got a) (got b) → a ≡ b
@@ -28,3 +28,8 @@ need-got false e c x v p = bad-got p
 pub need-is : {A : Type 0} (b : Bool) (e c : ℕ) (x : Got A) → b ≡ true → need b e c x ≡ x
 unfolding need
 need-is b e c x p = rw p
+
+-- a test decides: with what it says, and what was then found
+pub cond-by : {A X : Type 0} (t : Bool) (x y v : A) → cond t x y ≡ v → (t ≡ true → x ≡ v → X) → (t ≡ false → y ≡ v → X) → X
+cond-by true x y v h p q = p refl h
+cond-by false x y v h p q = q refl h
