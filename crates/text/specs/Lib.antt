@@ -5,3 +5,4 @@ pub mod First
 pub mod Cut
 pub mod Written
 pub mod Agree
+pub mod Search
