@@ -6,7 +6,7 @@ use mathlib.Core.Path.{_≡_, refl, sym, ap, _∙_}
 use mathlib.Core.Bool.{Bool, true, false}
 use lib.ListN.{length, getD, drop, length-drop}
 use borrow.Author.Tests.{eq-eqb, ne-eqb}
-use Rattle.text.specs.Text.{Bytes, Line}
+use Rattle.text.specs.Text.{Bytes, Line, LF, byte}
 use Rattle.text.specs.Find.{firstFrom, isLf, isBad, isInk, badColumn, inkColumn, lineTo, lineAt, isBlank}
 use Rattle.text.specs.First.{first-hit, first-miss, first-none, first-within}
 use Rattle.text.specs.Agree.{ink-none, blank-is}
@@ -54,7 +54,7 @@ module _ (p : ℕ → Bool) (s : Bytes) where
 
 -- the first LF: positions count from 0
 module _ (s : Bytes) (at i : ℕ) where
-  pub lf-hit : Passed isLf s at i → i < length s → getD s i 0 ≡ 10 → At i ≡ firstFrom isLf at (drop at s)
+  pub lf-hit : Passed isLf s at i → i < length s → getD s i 0 ≡ LF → At i ≡ firstFrom isLf at (drop at s)
   lf-hit a h t = rw (add-zero, add-zero) at (passed-hit isLf s at i 0 a h (eq-eqb _ _ t))
 
   pub lf-over : Passed isLf s at i → length s ≤ i → Nothing ≡ firstFrom isLf at (drop at s)
@@ -93,13 +93,13 @@ module _ (l : Line) (i k : ℕ) (one : 1 ≤ i) where
   from : i - 1 + 1 ≡ i
   from = omega arith
 
-  pub ink-hit : Passed isInk l (i - 1) k → k < length l → (getD l k 0 ≡ 32 → ⊥) → At (k + 1) ≡ inkColumn l i
+  pub ink-hit : Passed isInk l (i - 1) k → k < length l → (getD l k 0 ≡ byte " " → ⊥) → At (k + 1) ≡ inkColumn l i
   unfolding inkColumn
   ink-hit a h t =
       let e : isInk (getD l k 0) ≡ true = rw (ne-eqb _ _ t) in
       rw from at (passed-hit isInk l (i - 1) k 1 a h e)
 
-  pub ink-next : Passed isInk l (i - 1) k → k < length l → getD l k 0 ≡ 32 → Passed isInk l (i - 1) (k + 1)
+  pub ink-next : Passed isInk l (i - 1) k → k < length l → getD l k 0 ≡ byte " " → Passed isInk l (i - 1) (k + 1)
   ink-next a h t =
       let e : isInk (getD l k 0) ≡ false = rw (eq-eqb _ _ t) in
       passed-next isInk l (i - 1) k a h e

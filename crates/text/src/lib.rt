@@ -35,7 +35,7 @@ fn lf_in_block(s: &[u8], at: usize) -> usize
     let mut w: usize = 0;
     let mut k: usize = 0;
     while k < 16 {
-        if s[at + k] == 10 {
+        if s[at + k] == b'\n' {
             w = 1;
         }
         k += 1;
@@ -67,7 +67,7 @@ fn find_lf(s: &[u8], at: usize) -> Found
     }
     let mut i = near_lf(s, at);
     while i < s.len() {
-        if s[i] == 10 {
+        if s[i] == b'\n' {
             return Found::At(i);
         }
         i += 1;
@@ -81,7 +81,7 @@ fn line_to(s: &[u8], at: usize, k: usize) -> LineAt
     ensures { λ r. ⌜ r ≡ lineTo (now (s .entry)) at (Found.At k) ⌝ }
 {
     if at < k {
-        if s[k - 1] == 13 {
+        if s[k - 1] == b'\r' {
             LineAt::Line {
                 end: k - 1,
                 next: k + 1,
@@ -171,7 +171,7 @@ pub fn ink_column(line: &[u8], i: usize) -> Found
 {
     let mut k = i - 1;
     while k < line.len() {
-        if line[k] != 32 {
+        if line[k] != b' ' {
             return Found::At(k + 1);
         }
         k += 1;
