@@ -55,7 +55,7 @@ module _ (p : ℕ → Bool) (s : Bytes) where
 -- the first LF: positions count from 0
 module _ (s : Bytes) (at i : ℕ) where
   pub lf-hit : Passed isLf s at i → i < length s → getD s i 0 ≡ LF → At i ≡ firstFrom isLf at (drop at s)
-  lf-hit a h t = rw (add-zero, add-zero) at (passed-hit isLf s at i 0 a h (eq-eqb _ _ t))
+  lf-hit a h t = rw (add-zero i, add-zero at) at (passed-hit isLf s at i 0 a h (eq-eqb _ _ t))
 
   pub lf-over : Passed isLf s at i → length s ≤ i → Nothing ≡ firstFrom isLf at (drop at s)
   lf-over a h = rw add-zero at (passed-none isLf s at i 0 a h)

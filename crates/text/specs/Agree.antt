@@ -5,7 +5,7 @@ use native.Mathlib.Omega.{arith}
 use mathlib.Core.Path.{_≡_, refl, sym, ap, ap₂, _∙_, subst}
 use mathlib.Core.Logic.{_↔_}
 use mathlib.Core.List.{[], _∷_, _++_}
-use mathlib.Core.Bool.{Bool, true, false, _&&_, _||_}
+use mathlib.Core.Bool.{Bool, true, false, _&&_, _||_, and-eq-true-iff}
 use lib.Dec.{eqb, ltb}
 use lib.ListN.{length, getD, take, drop, length-drop, drop-of-length-le, List·getD-eq-default, List·getD-append}
 use lib.Seq.{drop-append-seam, getD-append-add, getD-drop}
@@ -17,10 +17,6 @@ use Rattle.text.specs.First.{each-as, first-within, first-nothing, nothi
 use Rattle.text.specs.declared.Found.{Found}
 
 -- ---- tests on one byte
-
-both : (a b : Bool) → (a && b) ≡ true → (a ≡ true) × (b ≡ true)
-both true b h = (refl, h)
-both false b h = absurd (let z : _≡_ {A = ℕ} 0 1 = cc in omega arith)
 
 neither : (a b : Bool) → (a || b) ≡ false → (a ≡ false) × (b ≡ false)
 neither true b h = absurd (let z : _≡_ {A = ℕ} 0 1 = cc in omega arith)
@@ -54,7 +50,7 @@ blank-is l = (to l, back l)
   where
     to : (l : Line) → isBlank l ≡ true → Blank l
     to [] h = tt
-    to (b ∷ l) h = let p = both (eqb b (byte " ")) (isBlank l) h in (eqb-true b (byte " ") (p .0), to l (p .1))
+    to (b ∷ l) h = let p = and-eq-true-iff (eqb b (byte " ")) (isBlank l) .0 h in (eqb-true b (byte " ") (p .0), to l (p .1))
 
     back : (l : Line) → Blank l → isBlank l ≡ true
     back [] e = refl
@@ -68,7 +64,7 @@ same-bytes a b = (to a b, λ e. subst (λ (x : Bytes). sameBytes a x ≡ true) e
     to [] [] h = refl
     to [] (y ∷ b) h = absurd (let z : _≡_ {A = ℕ} 0 1 = cc in omega arith)
     to (x ∷ a) [] h = absurd (let z : _≡_ {A = ℕ} 0 1 = cc in omega arith)
-    to (x ∷ a) (y ∷ b) h = let p = both (eqb x y) (sameBytes a b) h in ap₂ (λ (v : ℕ) (vs : Bytes). v ∷ vs) (eqb-true x y (p .0)) (to a b (p .1))
+    to (x ∷ a) (y ∷ b) h = let p = and-eq-true-iff (eqb x y) (sameBytes a b) .0 h in ap₂ (λ (v : ℕ) (vs : Bytes). v ∷ vs) (eqb-true x y (p .0)) (to a b (p .1))
 
     back : (a : Bytes) → sameBytes a a ≡ true
     back [] = refl

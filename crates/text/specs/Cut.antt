@@ -4,7 +4,7 @@ use native.Mathlib.Omega.{arith}
 use mathlib.Core.Path.{_≡_, refl, sym, ap, _∙_}
 use mathlib.Core.Logic.{_≢_}
 use mathlib.Core.List.{List, [], _∷_, _++_, map}
-use mathlib.Core.Bool.{Bool, true, false, cond, _&&_}
+use mathlib.Core.Bool.{Bool, true, false, cond, _&&_, and-eq-true-iff}
 use lib.Dec.{eqb, ltb}
 use lib.ListN.{length, getD, take, drop, length-drop, length-append}
 use lib.Seq.{split-at, take-suc, getD-drop, drop-drop}
@@ -150,10 +150,6 @@ lines-same p q = let e = sym (lines-cut p) ∙ lines-cut q in (ap (λ (c : Cut).
 
 -- ---- by positions
 
-both : (a b : Bool) → (a && b) ≡ true → (a ≡ true) × (b ≡ true)
-both true b h = (refl, h)
-both false b h = absurd (let z : _≡_ {A = ℕ} 0 1 = cc in omega arith)
-
 -- a line that starts at `at`, has its LF at k, ends before e, and is followed at n
 record Ends (s : Bytes) (at k e n : ℕ) : Type 0 where
   found : firstFrom isLf at (drop at s) ≡ At k
@@ -184,7 +180,7 @@ line-within s at e n line =
     let k = ends s at e n line .0 in
     let h = ends s at e n line .1 in
     let w = lf-within h in
-    let b = end-by (ltb at k && eqb (getD s (k - 1) 0) CR) at k e (λ t. ltb-true at k (both (ltb at k) _ t .0)) (w .0) (h .end) in
+    let b = end-by (ltb at k && eqb (getD s (k - 1) 0) CR) at k e (λ t. ltb-true at k (and-eq-true-iff (ltb at k) _ .0 t .0)) (w .0) (h .end) in
     let same : k + 1 ≡ n = h .next in
     (b .0, omega arith, omega arith)
 

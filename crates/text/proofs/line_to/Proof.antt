@@ -25,15 +25,15 @@ add-t14 c = search needs
 
 returns : tie.Need-returns
 unfolding lineTo
-returns c = search (needs, lt-ltb, le-ltb, eq-eqb, ne-eqb)
+returns c = search (needs, lt-ltb, eq-eqb)
 
 returns-2 : tie.Need-returns-2
 unfolding lineTo
-returns-2 c = search (needs, lt-ltb, le-ltb, eq-eqb, ne-eqb)
+returns-2 c = search (needs, lt-ltb, ne-eqb)
 
 returns-3 : tie.Need-returns-3
 unfolding lineTo
-returns-3 c = search (needs, lt-ltb, le-ltb, eq-eqb, ne-eqb)
+returns-3 c = search (needs, le-ltb)
 
 pub line-to-spec : {M : Type 1} → statement M
 line-to-spec =

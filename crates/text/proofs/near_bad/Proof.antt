@@ -24,7 +24,7 @@ bad-in-block-requires : tie.Need-bad-in-block-requires Inv-loop μ-loop
 bad-in-block-requires c κs = search needs
 
 returns : tie.Need-returns Inv-loop μ-loop
-returns c = search (needs, passed-start)
+returns c = search needs
 
 add-i : tie.Need-add-i Inv-loop μ-loop
 add-i c = search needs
@@ -36,7 +36,7 @@ loop-again : tie.Need-loop-again Inv-loop μ-loop
 loop-again c = (search needs, passed-join isBad _ _ _ _ (c .before .before .before .loop .inv .1) (c .before .bad-in-block .ensures (c .if1 .left)))
 
 returns-2 : tie.Need-returns-2 Inv-loop μ-loop
-returns-2 c = search (needs, passed-start)
+returns-2 c = search needs
 
 pub near-bad-spec : {M : Type 1} → statement M
 near-bad-spec =

@@ -24,7 +24,7 @@ lf-in-block-requires : tie.Need-lf-in-block-requires Inv-loop μ-loop
 lf-in-block-requires c κs = search needs
 
 returns : tie.Need-returns Inv-loop μ-loop
-returns c = search (needs, passed-start)
+returns c = search needs
 
 add-i : tie.Need-add-i Inv-loop μ-loop
 add-i c = search needs
@@ -36,7 +36,7 @@ loop-again : tie.Need-loop-again Inv-loop μ-loop
 loop-again c = (search needs, passed-join isLf _ _ _ _ (c .before .before .before .loop .inv .1) (c .before .lf-in-block .ensures (c .if1 .left)))
 
 returns-2 : tie.Need-returns-2 Inv-loop μ-loop
-returns-2 c = search (needs, passed-start)
+returns-2 c = search needs
 
 pub near-lf-spec : {M : Type 1} → statement M
 near-lf-spec =
