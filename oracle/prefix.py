@@ -29,11 +29,12 @@ def spellings(values, width=3):
     return "(?:%s)" % "|".join(sorted(set(out)))
 
 
-LINE = "[ -~]{80}\n"
+ANY = "[ -~]"
+LINE = ANY + "{80}\n"
 TITLE = "(?![ -~]*(?:[$]{4}|[$]MDL|[$]RXN|[$]RDFILE))" + LINE
 COUNT = spellings(range(256))
-COUNTS = ("(" + COUNT + ")(" + COUNT + ")" + spellings([0]) + "..." + spellings([0, 1])
-          + spellings([0]) + ".{15} V2000 {41}\n")
+COUNTS = ("(" + COUNT + ")(" + COUNT + ")" + spellings([0]) + ANY * 3 + spellings([0, 1])
+          + spellings([0]) + ANY * 15 + " V2000 {41}\n")
 XYZ = "(?: {10}|(?:%s)[.][0-9]{4})" % "|".join(
     [" " * (5 - d) + "[0-9]{%d}" % d for d in range(1, 6)]
     + [" " * (4 - d) + "-[0-9]{%d}" % d for d in range(1, 5)])
@@ -48,7 +49,7 @@ HEAD = re.compile(TITLE + LINE + LINE + COUNTS)
 def atom_pattern(n):
     return (XYZ * 3 + " " + SYMBOL + spellings(range(-3, 5), 2) + spellings(range(8))
             + spellings(range(4)) + spellings(range(6)) + spellings([0, 1]) + spellings(range(16))
-            + spellings([0, 1]) + ".{6}" + spellings(range(n + 1)) + spellings(range(3))
+            + spellings([0, 1]) + ANY * 6 + spellings(range(n + 1)) + spellings(range(3))
             + spellings([0, 1]) + " {11}\n")
 
 
@@ -57,7 +58,7 @@ def bond_pattern(n):
     stereo = "(?:%s)" % "|".join([spellings([1]) + spellings([0, 1, 4, 6]),
                                   spellings([2]) + spellings([0, 3]),
                                   spellings(range(3, 9)) + spellings([0])])
-    return (ends * 2 + stereo + "..." + spellings(range(3))
+    return (ends * 2 + stereo + ANY * 3 + spellings(range(3))
             + spellings([-1, 0, 1, 2, 4, 5, 8, 9, 12, 13]) + " {59}\n")
 
 
