@@ -3,6 +3,8 @@
 import random
 
 import prefix
+import vectors
+from cases import answers, digest
 from counter import counter_line
 from ctfile import check, molfile, read_record, record_at, sdfile
 from damage import aimed, damaged, surplus, truncated
@@ -165,6 +167,20 @@ def counter_around_its_buffer():
         expect("earlier long record", counter_line(long + b"$$$$\n"), "record 1 too long")
 
 
+def vector_cases():
+    """The case file is the same for a seed, reads back to its end, and knows every operation."""
+    data = vectors.make_cases(5, 450)
+    expect("same cases for a seed", vectors.make_cases(5, 450) == data, True)
+    expected = answers(data)
+    expect("one line a case", expected.count("\n"), 450)
+    for operation in (b"check", b"read", b"fetch", b"write", b"catalogue"):
+        expect("%s cases" % operation, data.count(b"\n" + operation + b" ") > 20, True)
+    expect("digest of nothing", digest([]), 1)
+    expect("digest of 0", digest([0]), 2147549248)
+    expect("digest of -1, 2", digest([-1, 2]), (2147549247 * 65599 + 2147483651) % 4294967291)
+
+
 ALL = [good_files_read_as_drafted, canonical_round_trips, writing_what_was_read, aimed_damage_is_met,
        cut_files, refused_line_by_prefixes, accepted_beginnings_can_be_finished,
-       columns_left_of_a_refusal_are_good, counter_follows_check, counter_around_its_buffer]
+       columns_left_of_a_refusal_are_good, counter_follows_check, counter_around_its_buffer,
+       vector_cases]

@@ -159,7 +159,7 @@ def spoil_entry_count(rng, row):
 
 
 def spoil_entry(rng, row):
-    """One thing about one entry: a space, the atom, the number, an atom twice, or entries missing."""
+    """One thing about one entry: a space, the atom, the number, or an entry missing."""
     tag, entries = row.draft.properties[row.index]
     k = rng.randrange(len(entries))
     first, n = 10 + 8 * k, row.draft.n
@@ -177,17 +177,20 @@ def spoil_entry(rng, row):
     if choice == 3:
         row.text = put(row.text, first + 5, malformed(rng, 3, tag == "CHG"))
         return 7, first + 5
-    if choice == 4 and tag != "ISO" and rng.random() < 0.7:
+    if choice == 4:
         row.text = put(row.text, first + 5, outside(rng, NUMBERS[tag], 3))
         return 8, first + 5
     if choice == 5 and len(entries) < 8 and rng.random() < 0.5:
         row.text = put(row.text[:9 + 8 * len(entries)], 7, "%3d" % (len(entries) + 1))
         return 8, 11 + 8 * len(entries)
-    return spoil_again(rng, row, tag, k)
+    row.text = put(row.text, first + 1, "  0")
+    return 8, first + 1
 
 
-def spoil_again(rng, row, tag, k):
-    """An atom listed before, on this line or an earlier one of its kind."""
+def spoil_repeat(rng, row):
+    """An atom listed before, on this line or an earlier one of its kind (8 if there is none)."""
+    tag, entries = row.draft.properties[row.index]
+    k = rng.randrange(len(entries)) if rng.random() < 0.5 else len(entries) - 1
     earlier = [a for t, es in row.draft.properties[:row.index] if t == tag for a, _ in es]
     earlier += [a for a, _ in row.draft.properties[row.index][1][:k]]
     first = 11 + 8 * k
@@ -233,17 +236,20 @@ def spoil_value_place(rng, row):
     return 17, 1
 
 
-SPOILERS = [
-    ("title", spoil_title, 1), ("counts", spoil_field, 3), ("counts", spoil_version, 1),
-    ("counts", spoil_bond_total, 1), ("counts", spoil_rest, 1), ("atom", spoil_field, 5),
-    ("atom", spoil_coordinate, 2), ("atom", spoil_symbol, 1), ("atom", spoil_gap, 1),
-    ("atom", spoil_rest, 1), ("bond", spoil_field, 3), ("bond", spoil_stereo, 1),
-    ("bond", spoil_ends, 3), ("bond", spoil_rest, 1), ("property", spoil_tag, 1),
-    ("property", spoil_entry_count, 1), ("property", spoil_entry, 7), ("property", spoil_rest, 1),
-    ("end", spoil_tag, 1), ("end", spoil_rest, 1), ("header", spoil_item_place, 2),
-    ("close", spoil_item_place, 1), ("value", spoil_value_place, 2),
-    ("blank", spoil_value_place, 1), ("any", spoil_length, 3), ("any", spoil_byte, 3)]
-WEIGHTED = [(place, spoil) for place, spoil, weight in SPOILERS for _ in range(weight)]
+SPOILERS = [        # the place, the way, how often, and the numbers that can come of it
+    ("title", spoil_title, 1, (5,)), ("counts", spoil_field, 3, (7, 8)),
+    ("counts", spoil_version, 1, (6,)), ("counts", spoil_bond_total, 1, (12,)),
+    ("counts", spoil_rest, 1, (15,)), ("atom", spoil_field, 5, (7, 8)),
+    ("atom", spoil_coordinate, 2, (7,)), ("atom", spoil_symbol, 1, (9,)),
+    ("atom", spoil_gap, 1, (15,)), ("atom", spoil_rest, 1, (15,)), ("bond", spoil_field, 3, (7, 8)),
+    ("bond", spoil_stereo, 1, (8,)), ("bond", spoil_ends, 3, (10, 11)), ("bond", spoil_rest, 1, (15,)),
+    ("property", spoil_tag, 1, (13,)), ("property", spoil_entry_count, 1, (7, 8)),
+    ("property", spoil_entry, 4, (7, 8, 15)), ("property", spoil_repeat, 2, (14,)),
+    ("property", spoil_rest, 1, (15,)), ("end", spoil_tag, 1, (13,)), ("end", spoil_rest, 1, (15,)),
+    ("header", spoil_item_place, 2, (16,)), ("close", spoil_item_place, 1, (16,)),
+    ("value", spoil_value_place, 2, (17,)), ("blank", spoil_value_place, 1, (17,)),
+    ("any", spoil_length, 3, (3,)), ("any", spoil_byte, 3, (4,))]
+AIMED_NUMBERS = sorted({number for *_, numbers in SPOILERS for number in numbers})
 
 
 def spoil_later(rng, rows, index):
@@ -253,26 +259,38 @@ def spoil_later(rng, rows, index):
             row.text = rng.choice([b"", b"\x00", b"x" * 300, b"$$$$", row.text[::-1]])
 
 
-def aimed(rng, kind):
-    """One spoiled file with the refusal it must meet."""
-    while True:
-        place, spoil = rng.choice(WEIGHTED)
-        before = [] if kind == 0 else [draft_record(rng) for _ in range(rng.choice([0, 0, 0, 1]))]
-        n = rng.choice([1, 2, 3, 4]) if place in ("atom", "property") else None
-        n = rng.choice([2, 3, 4]) if place == "bond" else n
-        draft = draft_record(rng, n, items=2 if place in ("header", "value", "blank") else None)
-        rows = file_rows(rng, before + [draft], kind)
-        first = len(rows) - len(file_rows(rng, [draft], kind))
-        if spoil is spoil_bond_total and draft.n > 20:
-            continue
-        fitting = [k for k in range(first, len(rows)) if place in ("any", rows[k].place)]
-        if fitting:
-            break
+def draft_for(rng, place):
+    """A draft in which lines of that place are likely to stand."""
+    n = {"atom": [1, 2, 3, 4], "property": [1, 2, 3, 4, 9, 12], "bond": [2, 3, 4]}.get(place)
+    return draft_record(rng, n and rng.choice(n),
+                        items=2 if place in ("header", "value", "blank") else None)
+
+
+def aim(rng, kind, place, spoil):
+    """One try: a file with that place spoiled, or None if the file has no such line."""
+    before = [draft_record(rng) for _ in range(rng.choice([0, 0, 0, kind]))]
+    draft = draft_for(rng, place)
+    rows = file_rows(rng, before + [draft], kind)
+    fitting = [k for k, row in enumerate(rows)
+               if row.draft is draft and place in ("any", row.place)]
+    if not fitting:
+        return None
     index = rng.choice(fitting)
     number, column = spoil(rng, rows[index])
     if rng.random() < 0.5:
         spoil_later(rng, rows, index)
     return Aim(kind, rows, index, number, column)
+
+
+def aimed(rng, kind, wanted=None):
+    """One spoiled file with the refusal it must meet; of the wanted number, if one is given."""
+    ways = [(place, spoil) for place, spoil, weight, numbers in SPOILERS for _ in range(weight)
+            if wanted is None or wanted in numbers]
+    ways = [way for way in ways if kind == 1 or way[0] not in ("header", "close", "value", "blank")]
+    while True:
+        shot = aim(rng, kind, *rng.choice(ways))
+        if shot and wanted in (None, shot.number):
+            return shot
 
 
 def surplus(rng):

@@ -288,7 +288,7 @@ if __name__ == "__main__":
                  writing, catalogues, counting, *crosschecks.ALL):
         before = len(FAILURES)
         test()
-        print("%-28s %s" % (test.__name__, "ok" if len(FAILURES) == before else "FAILED"))
+        print("%-36s %s" % (test.__name__, "ok" if len(FAILURES) == before else "FAILED"))
     for failure in FAILURES[:40]:
         print(failure)
     sys.exit(1 if FAILURES else 0)
