@@ -31,26 +31,31 @@ def head(*words):
     return (" ".join(map(str, words)) + "\n").encode()
 
 
+def block(data):
+    assert len(data) < 65536
+    return data + b"\n"
+
+
 def check_case(kind, data):
-    return head("check", kind, len(data)) + data + b"\n"
+    return head("check", kind, len(data)) + block(data)
 
 
 def read_case(kind, atom_room, bond_room, data):
-    return head("read", kind, atom_room, bond_room, len(data)) + data + b"\n"
+    return head("read", kind, atom_room, bond_room, len(data)) + block(data)
 
 
 def fetch_case(name, data):
-    return head("fetch", len(name), len(data)) + name + b"\n" + data + b"\n"
+    return head("fetch", len(name), len(data)) + block(name) + block(data)
 
 
 def catalogue_case(atom_room, bond_room, room, data):
-    return head("catalogue", atom_room, bond_room, room, len(data)) + data + b"\n"
+    return head("catalogue", atom_room, bond_room, room, len(data)) + block(data)
 
 
 def write_case(n, m, chiral, rooms, atoms, bonds, header, items, room):
     first = head("write", n, m, chiral, *rooms, len(atoms), len(bonds), len(header), len(items), room)
     rows = b"".join(head(*row) for row in list(atoms) + list(bonds))
-    return first + rows + header + b"\n" + items + b"\n"
+    return first + rows + block(header) + block(items)
 
 
 class Reader:

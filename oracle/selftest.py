@@ -6,46 +6,12 @@ Expected answers here were worked out by hand from document 01.
 import sys
 
 import crosschecks
+import writer_tests
 from counter import counter_line
 from ctfile import check, fetch, read_record
 from expect import FAILURES, expect
-from writer import write_catalogue, write_record
-
-SAMPLE = b"""AB-00417
-
-drum 3
-  2  1  0  0  0  0  0  0  0  0999 V2000
-    0.0000    0.0000    0.0000 C   0  0  0  0  0  0  0  0  0  0  0  0
-    1.2500   -0.8250    0.0000 O   0  5  0  0  0  0  0  0  0  0  0  0
-  1  2  1  0  0  0  0
-M  CHG  1   2  -1
-M  END
->  <LOT>
-00417
-
-$$$$
-"""
-LINES = SAMPLE.split(b"\n")[:-1]
-MOLFILE = SAMPLE[:244]
-FILL = 77                           # what tables hold before a reading
-
-
-def edit(line=None, text=None, column=None, drop=None):
-    """The sample with one line replaced, written over from a column, or dropped."""
-    lines = list(LINES)
-    if drop:
-        del lines[drop - 1]
-    elif column:
-        old = lines[line - 1].ljust(column - 1)
-        lines[line - 1] = old[:column - 1] + text + old[column - 1 + len(text):]
-    elif line:
-        lines[line - 1] = text
-    return b"".join(l + b"\n" for l in lines)
-
-
-def tables(atoms=255, bonds=255, fill=FILL):
-    return [fill] * (16 * atoms), [fill] * (6 * bonds)
-
+from samples import FILL, LINES, MOLFILE, SAMPLE, edit, read, tables
+from writer import write_record
 
 def refused(name, data, number, line, column, kind=1):
     """check and read_record must agree on a refusal of the only record."""
@@ -57,11 +23,6 @@ def refused(name, data, number, line, column, kind=1):
            ([0] * 4080 + [FILL] * 16, [0] * 1530 + [FILL] * 12))
     if kind == 1:
         expect(name + ", fetch", fetch(data, b"LOT"), want)
-
-
-def read(data, kind=1):
-    atoms, bonds = tables()
-    return read_record(kind, data, atoms, bonds), atoms, bonds
 
 
 def bench_samples():
@@ -205,73 +166,6 @@ def good_by_hand():
     expect("an item without values", fetch(double, b"E"), ("found", 0, 0))
 
 
-def rooms():
-    for atoms, bonds in ((254, 255), (255, 254), (0, 0)):
-        a, b = tables(atoms, bonds)
-        expect("2", read_record(1, SAMPLE, a, b), ("refused", 2, 0, 0))
-        expect("1 before 2", read_record(7, SAMPLE, a, b), ("refused", 1, 0, 0))
-        expect("2 on writing", write_record(a, b, 999, 0, 0, b"", b"", bytearray()),
-               ("refused", 2, 0, 0))
-        expect("2 on a catalogue", write_catalogue(b"\x00\n", a, b, bytearray()),
-               ("refused", 2, 0, 0))
-        expect("2 leaves the tables", (a, b), tables(atoms, bonds))
-
-
-def writing():
-    _, atoms, bonds = read(SAMPLE)
-    head, items = SAMPLE[:17], SAMPLE[244:260]
-
-    def write(want, header=head, data=items, n=2, m=1, chiral=0, size=265, change=None):
-        a, b = list(atoms), list(bonds)
-        for table, place, value in change or ():
-            (a if table == "a" else b)[place] = value
-        room = bytearray(b"\xa5" * size)
-        got = write_record(a, b, n, m, chiral, header, data, room)
-        expect("writing", got, want)
-        expect("a refusal writes nothing", got[0] == "accepted" or set(room) <= {0xa5}, True)
-        return bytes(room)
-
-    expect("room past the text", write(("accepted", 265), size=300)[265:], b"\xa5" * 35)
-    write(("refused", 20, 0, 0), size=264)
-    for wrong in (dict(n=256), dict(m=2), dict(n=1, m=1), dict(chiral=2), dict(n=0)):
-        write(("refused", 21, 0, 0), **wrong)
-    for place, value in ((0, 10 ** 9), (1, -10 ** 8), (3, 0), (3, 123), (4, 5), (5, 16), (6, 4),
-                         (7, 1000), (7, -1), (8, 4), (9, 6), (10, 2), (11, 16), (12, 2), (13, 3),
-                         (14, 3), (15, -1)):
-        write(("refused", 21, 0, 0), change=[("a", place, value)])
-    for place, value in ((0, 0), (0, 2), (1, 3), (2, 9), (3, 3), (4, 3), (5, 3)):
-        write(("refused", 21, 0, 0), change=[("b", place, value)])
-    write(("refused", 21, 0, 0), change=[("a", 4, 1), ("a", 23, 18)])
-    write(("accepted", 283), change=[("a", 23, 18)], size=283)
-    write(("accepted", 265), change=[("a", 40, -5), ("b", 6, 9)])
-    write(("refused", 21, 0, 0), header=b"", data=b"x", size=0, n=256)
-    for header, number, line, column in (
-            (b"", 19, 1, 1), (b"a\n\n", 19, 3, 1), (b"a\n\nx", 19, 3, 1), (head + b"x", 19, 4, 1),
-            (head + b"\n", 18, 4, 1), (head + b"\t\n", 4, 4, 1), (head + b"x" * 81 + b"\n", 3, 4, 81),
-            (b"$RXN\n\n\n", 5, 1, 1), (b"\n" + b"x" * 81 + b"\n", 3, 2, 81)):
-        write(("refused", number, line, column), header=header, data=b"bad\n", size=0)
-    for data, number, line, column in (
-            (b"$$$$\n", 16, 1, 1), (items + b"$$$$\n", 16, 4, 1), (b"\n", 16, 1, 1),
-            (b">  <A>\n", 19, 2, 1), (b">  <A>\n\nx", 19, 3, 1), (b">  <A>\n$$$$\n", 17, 2, 1),
-            (b">  <A>\nv\n> <B>\n", 17, 3, 1), (items + b" " * 81 + b"\n", 3, 4, 81)):
-        write(("refused", number, line, column), data=data, size=0)
-    loose = b"> <LOT>  \r\n00417\r\n   \r\n"
-    expect("canonical items", write(("accepted", 265), data=loose), SAMPLE)
-    expect("canonical header", write(("accepted", 265), header=head.replace(b"\n", b"\r\n")), SAMPLE)
-    write(("accepted", 249), data=b"")
-
-
-def catalogues():
-    for data, size, want in ((b"", 0, ("accepted", 0)), (SAMPLE * 2, 530, ("accepted", 530)),
-                             (SAMPLE * 2, 529, ("refused", 20, 0, 0)),
-                             (SAMPLE + b"\n", 0, ("refused", 19, 15, 1))):
-        atoms, bonds = tables(256, 255)
-        room = bytearray(b"\xa5" * size)
-        expect("catalogue", write_catalogue(data, atoms, bonds, room), want)
-        expect("catalogue's room", bytes(room), data if want[0] == "accepted" else b"\xa5" * size)
-        expect("work tables", (atoms, bonds), ([0] * 4080 + [FILL] * 16, [0] * 1530))
-
-
 def counting():
     expect("no input", counter_line(b""), "accepted 0")
     expect("three records", counter_line(SAMPLE * 3), "accepted 3")
@@ -284,10 +178,13 @@ def counting():
 
 
 if __name__ == "__main__":
-    for test in (bench_samples, sample_record, easy_mistakes, refusals_by_hand, good_by_hand, rooms,
-                 writing, catalogues, counting, *crosschecks.ALL):
+    for test in (bench_samples, sample_record, easy_mistakes, refusals_by_hand, good_by_hand, counting,
+                 *writer_tests.ALL, *crosschecks.ALL):
         before = len(FAILURES)
-        test()
+        try:
+            test()
+        except Exception as problem:
+            FAILURES.append("%s stopped: %r" % (test.__name__, problem))
         print("%-36s %s" % (test.__name__, "ok" if len(FAILURES) == before else "FAILED"))
     for failure in FAILURES[:40]:
         print(failure)
