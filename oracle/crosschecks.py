@@ -6,12 +6,12 @@ import prefix
 import vectors
 from cases import answers, digest
 from counter import counter_line
-from ctfile import Context, check, molfile, read_record, record_at, sdfile
-from damage import FIELDS, aimed, damaged, limits, put, surplus, truncated
+from ctfile import check, molfile, read_record, record_at, sdfile
+from damage import aimed, damaged, surplus, truncated
 from expect import expect
+from field_tests import PLAIN
 from generate import (all_symbols, draft_record, file_rows, good_drafts, plain_bytes, record_rows,
                       sized_record, to_bytes)
-from forms import ATOM, BOND, COUNTS, Complaint, property_form
 from lines import Refusal, Sheet
 from writer import catalogue_text, write_record
 
@@ -114,55 +114,6 @@ def last_record_start(kind, lines):
     return first
 
 
-def every_number_of_every_field():
-    """All numbers a field can hold, by the lists that the damage goes by: good, or 8 there."""
-    forms = {"counts": COUNTS, "atom": ATOM, "bond": BOND}
-    for place, fields in FIELDS.items():
-        line = put(PLAIN[place], 4, "  0") if place == "counts" else PLAIN[place]
-        for first, last, good in fields:
-            width, good = last - first + 1, limits(good, 2)
-            low = -(10 ** (width - 1)) + 1 if min(good) < 0 else 0
-            for value in range(low, 10 ** width):
-                got = judged(forms[place], put(line, first, str(value).rjust(width)))
-                # stereo is 0 here, which goes with every bond type; m is held down by n = 2 too
-                want = None if value in good else (8, first)
-                want = (12, 4) if (place, first) == ("counts", 4) and value in range(2, 256) else want
-                expect("%s column %d, %d" % (place, first, value), got, want)
-
-
-def every_bond_type_with_every_stereo():
-    pairs = {(1, 0), (1, 1), (1, 4), (1, 6), (2, 0), (2, 3)} | {(k, 0) for k in range(3, 9)}
-    for kind in range(1000):
-        for stereo in range(8 if kind > 9 else 1000):
-            got = judged(BOND, put(PLAIN["bond"], 7, "%3d%3d" % (kind, stereo)))
-            bad = (8, 7) if kind not in range(1, 9) else (8, 10)
-            expect("type %d, stereo %d" % (kind, stereo), got, None if (kind, stereo) in pairs else bad)
-
-
-def every_property_number():
-    good = {b"CHG": range(-15, 16), b"RAD": range(4), b"ISO": range(1, 1000)}
-    for tag, numbers in good.items():
-        for value in range(-99, 1000):
-            line = b"M  " + tag + b"  1   2 %3d" % value
-            got = judged(property_form(tag, 1), line)
-            bad = (8, 15) if value >= 0 or tag == b"CHG" else (7, 15)
-            expect("%s %d" % (tag, value), got, None if value in numbers else bad)
-
-
-def judged(form, line):
-    """None, or number and column, for a line of a record with two atoms."""
-    try:
-        form.judge(line, Context(2))
-        return None
-    except Complaint as complaint:
-        return complaint.args
-
-
-PLAIN = {"counts": b"  2  1  0  0  0  0  0  0  0  0999 V2000",
-         "atom": b"    0.0000    0.0000    0.0000 C   0  0  0  0  0  0  0  0  0  0  0  0",
-         "bond": b"  1  2  1  0  0  0  0"}
-
-
 def columns_left_of_a_refusal_are_good():
     """With plain columns from the refused one on, the line isn't refused any more; with plain
     columns only after the refused field, it is refused the same."""
@@ -225,8 +176,7 @@ def vector_cases():
     expect("digest of -1, 2", digest([-1, 2]), (2147549247 * 65599 + 2147483651) % 4294967291)
 
 
-ALL = [every_number_of_every_field, every_bond_type_with_every_stereo, every_property_number,
-       good_files_read_as_drafted, canonical_round_trips, writing_what_was_read,
+ALL = [good_files_read_as_drafted, canonical_round_trips, writing_what_was_read,
        aimed_damage_is_met, cut_files, refused_line_by_prefixes,
        accepted_beginnings_can_be_finished, columns_left_of_a_refusal_are_good,
        counter_follows_check, counter_around_its_buffer, vector_cases]

@@ -6,12 +6,14 @@ Expected answers here were worked out by hand from document 01.
 import sys
 
 import crosschecks
+import field_tests
 import writer_tests
 from counter import counter_line
 from ctfile import check, fetch, read_record
 from expect import FAILURES, expect
 from samples import FILL, LINES, MOLFILE, SAMPLE, edit, read, tables
 from writer import write_record
+
 
 def refused(name, data, number, line, column, kind=1):
     """check and read_record must agree on a refusal of the only record."""
@@ -179,7 +181,7 @@ def counting():
 
 if __name__ == "__main__":
     for test in (bench_samples, sample_record, easy_mistakes, refusals_by_hand, good_by_hand, counting,
-                 *writer_tests.ALL, *crosschecks.ALL):
+                 *writer_tests.ALL, *field_tests.ALL, *crosschecks.ALL):
         before = len(FAILURES)
         try:
             test()

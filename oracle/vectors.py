@@ -92,15 +92,17 @@ def make_read(rng):
 
 
 def make_fetch(rng):
-    draft = draft_record(rng, rng.choice([0, 1, 2]), items=rng.choice([0, 1, 2, 3]))
+    draft = draft_record(rng, rng.choice([0, 1, 2]), items=rng.choice([0, 1, 2, 3, 3]))
+    if len(draft.items) > 1 and rng.random() < 0.3:     # the same name again, with other values
+        draft.items[-1] = (draft.items[0][0], [b"second", b"values"])
     data = to_bytes(rng, record_rows(rng, draft, 1)) + rng.choice([b"", b"\xff", b"t\n"])
-    name = rng.choice(NAMES + [n for n, _ in draft.items] * 6)
+    name = rng.choice([n for n, _ in draft.items] * 6 + NAMES[:3])
     choice = rng.random()
-    if choice < 0.2:
+    if choice < 0.15:
         name = rng.choice([b"", name[:-1], name + b" ", name.lower(), b"n" * 31, b"\n", b"<A>"])
-    elif choice < 0.4:
+    elif choice < 0.3:
         data = blind(rng, data)
-    elif choice < 0.5:
+    elif choice < 0.4:
         data = to_bytes(rng, aimed_file(rng, 1).rows)
     return fetch_case(name, data)
 

@@ -1,7 +1,7 @@
 """Tests of writing by hand: rooms, refusals in their order, and the canonical text itself."""
 
-from expect import expect
 from ctfile import read_record
+from expect import expect
 from samples import FILL, SAMPLE, read, tables
 from writer import write_catalogue, write_record
 
