@@ -1,0 +1,134 @@
+"""The case file: how a case is written, read back, and answered (see docs/VECTORS.md)."""
+
+from ctfile import check, fetch, read_record
+from writer import write_catalogue, write_record
+
+MODULUS = 4294967291        # the greatest prime below 2**32
+FACTOR = 65599
+OFFSET = 2147483649         # makes every i32 positive, and never 0
+SPLIT_ATOMS, SPLIT_BONDS = 255 * 16, 255 * 6
+
+
+def digest(numbers):
+    """A polynomial hash of numbers in the i32 range; bytes are numbers from 0 to 255."""
+    value = 1
+    for number in numbers:
+        value = (value * FACTOR + number + OFFSET) % MODULUS
+    return value
+
+
+def table(room, width):
+    """A table before a case: place i holds 1000003 + i."""
+    return [1000003 + i for i in range(room * width)]
+
+
+def lent_room(size):
+    """Room before a case: byte i holds (7 * i + 13) mod 251."""
+    return bytearray((7 * i + 13) % 251 for i in range(size))
+
+
+def head(*words):
+    return (" ".join(map(str, words)) + "\n").encode()
+
+
+def block(data):
+    assert len(data) < 65536
+    return data + b"\n"
+
+
+def check_case(kind, data):
+    return head("check", kind, len(data)) + block(data)
+
+
+def read_case(kind, atom_room, bond_room, data):
+    return head("read", kind, atom_room, bond_room, len(data)) + block(data)
+
+
+def fetch_case(name, data):
+    return head("fetch", len(name), len(data)) + block(name) + block(data)
+
+
+def catalogue_case(atom_room, bond_room, room, data):
+    return head("catalogue", atom_room, bond_room, room, len(data)) + block(data)
+
+
+def write_case(n, m, chiral, rooms, atoms, bonds, header, items, room):
+    first = head("write", n, m, chiral, *rooms, len(atoms), len(bonds), len(header), len(items), room)
+    rows = b"".join(head(*row) for row in list(atoms) + list(bonds))
+    return first + rows + block(header) + block(items)
+
+
+class Reader:
+    """Walks a case file from front to back, never looking back."""
+
+    def __init__(self, data):
+        self.data, self.at = data, 0
+
+    def line(self):
+        end = self.data.index(b"\n", self.at)
+        text, self.at = self.data[self.at:end].decode(), end + 1
+        return text.split(" ")
+
+    def block(self, size):
+        text, self.at = self.data[self.at:self.at + size], self.at + size + 1
+        assert len(text) == size and self.data[self.at - 1:self.at] == b"\n"
+        return text
+
+    def done(self):
+        return self.at == len(self.data)
+
+
+def verdict(answer):
+    """The common front of an answer's line."""
+    if answer[0] == "refused":
+        return "refused %d line %d column %d" % answer[1:]
+    return " ".join(map(str, answer))
+
+
+def tables_text(atoms, bonds):
+    parts = (atoms[:SPLIT_ATOMS], atoms[SPLIT_ATOMS:], bonds[:SPLIT_BONDS], bonds[SPLIT_BONDS:])
+    return " atoms %d %d bonds %d %d" % tuple(map(digest, parts))
+
+
+def answer_read(reader, kind, atom_room, bond_room, size):
+    atoms, bonds = table(atom_room, 16), table(bond_room, 6)
+    answer = read_record(kind, reader.block(size), atoms, bonds)
+    return verdict(answer) + tables_text(atoms, bonds)
+
+
+def answer_fetch(reader, name_size, size):
+    name = reader.block(name_size)
+    answer = fetch(reader.block(size), name)
+    return verdict(answer) + ("" if answer[0] == "found" else " stretch 0 0")
+
+
+def answer_write(reader, n, m, chiral, atom_room, bond_room, atoms, bonds, header, items, room):
+    atom_table, bond_table = table(atom_room, 16), table(bond_room, 6)
+    for k in range(atoms):
+        atom_table[16 * k:16 * k + 16] = map(int, reader.line())
+    for k in range(bonds):
+        bond_table[6 * k:6 * k + 6] = map(int, reader.line())
+    head_bytes, item_bytes, lent = reader.block(header), reader.block(items), lent_room(room)
+    answer = write_record(atom_table, bond_table, n, m, chiral, head_bytes, item_bytes, lent)
+    return verdict(answer) + " room %d" % digest(lent)
+
+
+def answer_catalogue(reader, atom_room, bond_room, room, size):
+    atoms, bonds, lent = table(atom_room, 16), table(bond_room, 6), lent_room(room)
+    answer = write_catalogue(reader.block(size), atoms, bonds, lent)
+    return verdict(answer) + " room %d" % digest(lent) + tables_text(atoms, bonds)
+
+
+OPERATIONS = {
+    "check": lambda reader, kind, size: verdict(check(kind, reader.block(size))),
+    "read": answer_read, "fetch": answer_fetch, "write": answer_write,
+    "catalogue": answer_catalogue}
+
+
+def answers(data):
+    """The expected output for a case file: one line for each case."""
+    reader, lines = Reader(data), []
+    while not reader.done():
+        operation, *numbers = reader.line()
+        lines.append(OPERATIONS[operation](reader, *map(int, numbers)))
+    return "".join(line + "\n" for line in lines)

@@ -1,0 +1,254 @@
+"""An independent reading of V2000 molfiles (kind 0) and SDfiles (kind 1): check, read, fetch.
+
+A record is taken as slices of the file's lines: the counts line says how long the atom and bond
+slices are, and every slice has a whole-line pattern (forms.py). A bad line raises a Refusal.
+"""
+
+from forms import (ATOM, BLANK, BOND, COUNTS, Complaint, END, ENTRY_COUNT, PROPERTY_TAG,
+                   RECORD_END, RESERVED, header_name, property_form)
+from lines import Refusal, Sheet
+
+MOLFILE, SDFILE = 0, 1
+PLACES = 255                        # atoms and bonds a table must have room for
+CODE_CHARGE = {1: 3, 2: 2, 3: 1, 5: -1, 6: -2, 7: -3}
+
+
+class Context:
+    """What a line's judgement may ask about the record around it."""
+
+    def __init__(self, n, listed=()):
+        self.n, self.listed = n, listed
+
+
+class Item:
+    """A data item: its name and its value lines."""
+
+    def __init__(self, name, values):
+        self.name, self.values = name, values
+
+    def stretch(self):
+        return (self.values[0].start, self.values[-1].end) if self.values else (0, 0)
+
+
+class Record:
+    """What one record says, and where its parts stand in the caller's bytes."""
+
+    n = m = chiral = 0
+    header = atoms = bonds = items = ()
+    lines_used = 0
+    length = header_end = items_start = items_end = 0
+
+    def answer(self):
+        return (self.n, self.m, self.chiral, self.length,
+                0, self.header_end, self.items_start, self.items_end)
+
+    def reading(self):
+        """The reading of document 01, without places in the bytes."""
+        return (tuple(line.text for line in self.header), self.n, self.m, self.chiral,
+                tuple(map(tuple, self.atoms)), tuple(map(tuple, self.bonds)),
+                tuple((i.name, tuple(v.text for v in i.values)) for i in self.items))
+
+
+def judge(form, sheet, index, ctx=None):
+    """Line `index` by its form, with the line added to a complaint."""
+    text = sheet.take(index).text
+    try:
+        return form.judge(text, ctx)
+    except Complaint as complaint:
+        number, column = complaint.args
+        raise Refusal(number, index + 1, column) from None
+
+
+def header_lines(sheet, first):
+    lines = []
+    for k in range(3):
+        lines.append(sheet.take(first + k))
+        if k == 0 and RESERVED.search(lines[0].text):
+            raise Refusal(5, first + 1, 1)
+    return lines
+
+
+def bond_lines(sheet, first, m, ctx):
+    """Bond lines as values; a pair is unordered, so it is kept as a frozenset."""
+    bonds, pairs = [], set()
+    for index in range(first, first + m):
+        bond = judge(BOND, sheet, index, ctx)
+        pair = frozenset((bond["first"], bond["second"]))
+        if len(pair) == 1:
+            raise Refusal(10, index + 1, 1)
+        if pair in pairs:
+            raise Refusal(11, index + 1, 1)
+        pairs.add(pair)
+        bonds.append(bond)
+    return bonds
+
+
+def property_lines(sheet, first, n):
+    """Atom numbers to values for each property seen, and the index of the line after `M  END`."""
+    found, index = {}, first
+    while True:
+        kind = judge(PROPERTY_TAG, sheet, index)["tag"][3:]
+        if kind == b"END":
+            judge(END, sheet, index)
+            return found, index + 1
+        entries = judge(ENTRY_COUNT, sheet, index)["entries"]
+        listed = found.setdefault(kind, {})
+        values = judge(property_form(kind, entries), sheet, index, Context(n, listed))
+        for k in range(entries):
+            listed[values["atom%d" % k]] = values["number%d" % k]
+        index += 1
+
+
+def items_until_end(sheet, index, ends=True):
+    """Items from line `index`. With `ends`, up to and past the `$$$$` line; without (the writer's
+    part), to the end of the bytes, and a `$$$$` line is 16."""
+    items = []
+    while ends or index < len(sheet.lines):
+        text = sheet.take(index).text
+        if ends and RECORD_END.fullmatch(text):
+            return items, index + 1
+        name = header_name(text)
+        if name is None:
+            raise Refusal(16, index + 1, 1)
+        values = value_lines(sheet, index + 1)
+        items.append(Item(name, values))
+        index += 1 + len(values) + 1
+    return items, index
+
+
+def value_lines(sheet, index):
+    values = []
+    while True:
+        line = sheet.take(index, 200)
+        if BLANK.fullmatch(line.text):
+            return values
+        if line.text.startswith(b"$$$$") or header_name(line.text) is not None:
+            raise Refusal(17, index + 1, 1)
+        values.append(line)
+        index += 1
+
+
+def atom_numbers(atom, number, found):
+    """The 16 numbers of an atom, by the meaning of codes and property lines."""
+    code = atom["code"]
+    charge = CODE_CHARGE.get(code, 0)
+    radical = 2 if code == 4 else 0
+    mass, isotope = atom["mass"], 0
+    if b"CHG" in found:
+        charge = found[b"CHG"].get(number, 0)
+    if b"RAD" in found:
+        radical = found[b"RAD"].get(number, 0)
+    if b"ISO" in found:
+        mass, isotope = 0, found[b"ISO"].get(number, 0)
+    return [atom["x"], atom["y"], atom["z"], atom["symbol"], mass, charge, radical, isotope,
+            atom["parity"], atom["hydrogens"], atom["care"], atom["valence"], atom["h0"],
+            atom["map"], atom["inversion"], atom["exact"]]
+
+
+def bond_numbers(bond):
+    return [bond[name] for name in ("first", "second", "type", "stereo", "topology", "centre")]
+
+
+def record_at(sheet, first, kind):
+    """The record whose first line has index `first`; places count from that line's first byte."""
+    record, origin = Record(), sheet.starts_at(first)
+    record.header = header_lines(sheet, first)
+    counts = judge(COUNTS, sheet, first + 3)
+    record.n, record.m, record.chiral = counts["n"], counts["m"], counts["chiral"]
+    ctx = Context(record.n)
+    first_atom = first + 4
+    first_bond = first_atom + record.n
+    atoms = [judge(ATOM, sheet, index, ctx) for index in range(first_atom, first_bond)]
+    bonds = bond_lines(sheet, first_bond, record.m, ctx)
+    found, after = property_lines(sheet, first_bond + record.m, record.n)
+    record.atoms = [atom_numbers(a, k, found) for k, a in enumerate(atoms, 1)]
+    record.bonds = [bond_numbers(b) for b in bonds]
+    record.header_end = sheet.starts_at(first + 3) - origin
+    record.items_start = record.items_end = sheet.starts_at(after) - origin
+    if kind == SDFILE:
+        record.items, after = items_until_end(sheet, after)
+        record.items_end = sheet.starts_at(after - 1) - origin
+    record.lines_used = after - first
+    record.length = sheet.starts_at(after) - origin
+    return record
+
+
+def molfile(sheet):
+    """The one record of a molfile; nothing may follow it."""
+    record = record_at(sheet, 0, MOLFILE)
+    if record.lines_used < len(sheet.lines):
+        sheet.take(record.lines_used)          # 3 and 4 come before 18
+        raise Refusal(18, record.lines_used + 1, 1)
+    if sheet.unfinished:
+        raise sheet.cut_short()
+    return record
+
+
+def sdfile(sheet):
+    """All records of an SDfile, in order."""
+    records, first = [], 0
+    while first < len(sheet.lines):
+        records.append(record_at(sheet, first, SDFILE))
+        first += records[-1].lines_used
+    if sheet.unfinished:
+        raise sheet.cut_short()
+    return records
+
+
+def one_record(kind, data):
+    """The record at the start of `data`: all the bytes for kind 0, up to its `$$$$` for kind 1."""
+    sheet = Sheet(data)
+    return molfile(sheet) if kind == MOLFILE else record_at(sheet, 0, SDFILE)
+
+
+def check(kind, data):
+    try:
+        if kind not in (MOLFILE, SDFILE):
+            raise Refusal(1)
+        sheet = Sheet(data)
+        records = [molfile(sheet)] if kind == MOLFILE else sdfile(sheet)
+        return ("accepted", len(records))
+    except Refusal as refusal:
+        return refusal.answer()
+
+
+def table_rooms(atom_table, bond_table):
+    """How many atoms and bonds fit into flat tables."""
+    return len(atom_table) // 16, len(bond_table) // 6
+
+
+def fill_table(table, width, rows):
+    """Rows, then zeros up to 255 places; memory beyond stays."""
+    flat = [number for row in rows for number in row]
+    flat += [0] * (PLACES * width - len(flat))
+    table[:PLACES * width] = flat
+
+
+def read_record(kind, data, atom_table, bond_table):
+    """("accepted", n, m, chiral, length, header start, header end, items start, items end) or the
+    refusal. The tables are flat lists of numbers and are changed in place."""
+    if kind not in (MOLFILE, SDFILE):
+        return Refusal(1).answer()
+    if min(table_rooms(atom_table, bond_table)) < PLACES:
+        return Refusal(2).answer()
+    try:
+        record = one_record(kind, data)
+        answer = ("accepted",) + record.answer()
+    except Refusal as refusal:
+        record, answer = Record(), refusal.answer()
+    fill_table(atom_table, 16, record.atoms)
+    fill_table(bond_table, 6, record.bonds)
+    return answer
+
+
+def fetch(data, name):
+    """("found", start, end) of the first item of that name, or the refusal; a refused fetch hands
+    back the empty stretch 0 to 0 besides."""
+    try:
+        record = one_record(SDFILE, data)
+        named = [item for item in record.items if item.name == name]
+        if not named:
+            raise Refusal(22)
+        return ("found",) + named[0].stretch()
+    except Refusal as refusal:
+        return refusal.answer()

@@ -1,0 +1,43 @@
+"""The sample record of document 01, and small edits of it."""
+
+from ctfile import read_record
+
+SAMPLE = b"""AB-00417
+
+drum 3
+  2  1  0  0  0  0  0  0  0  0999 V2000
+    0.0000    0.0000    0.0000 C   0  0  0  0  0  0  0  0  0  0  0  0
+    1.2500   -0.8250    0.0000 O   0  5  0  0  0  0  0  0  0  0  0  0
+  1  2  1  0  0  0  0
+M  CHG  1   2  -1
+M  END
+>  <LOT>
+00417
+
+$$$$
+"""
+LINES = SAMPLE.split(b"\n")[:-1]
+MOLFILE = SAMPLE[:244]
+FILL = 77                           # what tables hold before a reading
+
+
+def edit(line=None, text=None, column=None, drop=None):
+    """The sample with one line replaced, written over from a column, or dropped."""
+    lines = list(LINES)
+    if drop:
+        del lines[drop - 1]
+    elif column:
+        old = lines[line - 1].ljust(column - 1)
+        lines[line - 1] = old[:column - 1] + text + old[column - 1 + len(text):]
+    elif line:
+        lines[line - 1] = text
+    return b"".join(l + b"\n" for l in lines)
+
+
+def tables(atoms=255, bonds=255, fill=FILL):
+    return [fill] * (16 * atoms), [fill] * (6 * bonds)
+
+
+def read(data, kind=1):
+    atoms, bonds = tables()
+    return read_record(kind, data, atoms, bonds), atoms, bonds
