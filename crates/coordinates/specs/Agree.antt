@@ -129,7 +129,7 @@ pub coordinate-agrees : (cs : Bytes) → length cs ≡ 10 → (z : ℤ) → (coo
 coordinate-agrees cs n z = (coordinate-read cs z n, read-coordinate)
 
 -- ten columns are ten bytes
-columns-length : (l : Line) (i n : ℕ) → length (columnsFor l i n) ≡ n
+pub columns-length : (l : Line) (i n : ℕ) → length (columnsFor l i n) ≡ n
 unfolding columnsFor
 columns-length l i zero = refl
 columns-length l i (suc n) = ap suc (columns-length l (suc i) n)

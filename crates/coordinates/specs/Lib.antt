@@ -2,3 +2,6 @@ pub mod Coordinate
 pub mod Read
 pub mod Digits
 pub mod Agree
+pub mod Write
+pub mod Written
+pub mod Samples
