@@ -1,52 +1,24 @@
 -- Laws on the ten columns of a coordinate field: its spaces, its point, its sign, its digits.
-use Prim.Native.Nat.{ℕ, zero, suc, _+_, _-_, _*_, _≤_, _<_}
-use native.Mathlib.Nat.{not-suc-le-zero, le-of-suc-le-suc}
-use native.Mathlib.Numerals.{add-one}
+use Prim.Native.Nat.{ℕ, suc, _+_, _-_, _*_, _≤_, _<_}
 use native.Mathlib.Omega.{arith}
 use mathlib.Core.Path.{_≡_, refl, sym, ap, _∙_}
 use mathlib.Core.List.{[], _∷_}
 use mathlib.Core.Bool.{Bool, true, false, cond}
-use lib.ListN.{length, getD, take, drop, List·getD-eq-default}
+use lib.ListN.{take, drop}
 use lib.IntN.{ℤ, pos}
 use borrow.Author.Tests.{eq-eqb, ne-eqb}
 use Rattle.text.specs.Text.{Bytes, Line}
 use Rattle.text.specs.Columns.{column, columns, columnsFor}
+use Rattle.text.specs.Agree.{columns-length, columns-step, columns-over, columns-take, columns-drop, columns-get}
 use Rattle.numbers.specs.Number.{decimalAfter}
 use Rattle.numbers.specs.Read.{someDigits, afterSpaces, signed}
+use Rattle.numbers.specs.Agree.{some-digits}
 use Rattle.numbers.specs.Parts.{sizeIn}
 use Rattle.numbers.specs.declared.Size.{Size}
 use Rattle.coordinates.specs.declared.CoordinateRead.{CoordinateRead}
 use Rattle.coordinates.specs.declared.CoordinateRead.the-variants.{Is, Malformed}
+use Rattle.coordinates.specs.Agree.{nines, digits-range}
 use Rattle.coordinates.specs.Read.{pointRead, beforePoint, inked, coordinateIn}
-use Rattle.coordinates.specs.Digits.{some-digits, nines, digits-range}
-use Rattle.coordinates.specs.Agree.{columns-length}
-
--- a column
-getD-any : (l : Bytes) (i d e : ℕ) → i < length l → getD l i d ≡ getD l i e
-getD-any [] i d e h = absurd (not-suc-le-zero h)
-getD-any (x ∷ l) zero d e h = refl
-getD-any (x ∷ l) (suc i) d e h = getD-any l i d e (le-of-suc-le-suc h)
-
-pub column-in : (l : Line) (i : ℕ) → 1 ≤ i → i ≤ length l → getD l (i - 1) 0 ≡ column l i
-column-in l i h k = getD-any l (i - 1) 0 32 (omega arith)
-
-pub column-out : (l : Line) (i : ℕ) → length l < i → 32 ≡ column l i
-column-out l i h = sym (List·getD-eq-default l 32 (omega arith))
-
-pub ruleset column-laws = (column-in, column-out)
-
--- the columns from a up to e: the first and the others, or none
-columns-step : (l : Line) (a e : ℕ) → a < e → columnsFor l a (e - a) ≡ column l a ∷ columnsFor l (a + 1) (e - (a + 1))
-unfolding columnsFor
-columns-step l a e h =
-    let k : e - a ≡ suc (e - (a + 1)) = omega arith in
-    rw (k, add-one)
-
-columns-none : (l : Line) (a e : ℕ) → e ≤ a → columnsFor l a (e - a) ≡ []
-unfolding columnsFor
-columns-none l a e h =
-    let k : e - a ≡ 0 = omega arith in
-    rw k
 
 -- the ten columns from column i, and their parts
 module _ (l : Line) (i : ℕ) where
@@ -54,16 +26,10 @@ module _ (l : Line) (i : ℕ) where
   ten = let k : suc (i + 9) - i ≡ 10 = omega arith in rw k
 
   first-five : take 5 (columnsFor l i 10) ≡ columnsFor l i (i + 5 - i)
-  unfolding columnsFor
-  first-five = let k : i + 5 - i ≡ 5 = omega arith in rw k
-
-  column-6 : getD (columnsFor l i 10) 5 0 ≡ column l (i + 5)
-  unfolding columnsFor
-  column-6 = let k : suc (suc (suc (suc (suc i)))) ≡ i + 5 = omega arith in ap (column l) k
+  first-five = let k : i + 5 - i ≡ 5 = omega arith in rw k (columns-take l i 5 5)
 
   last-four : drop 6 (columnsFor l i 10) ≡ columnsFor l (i + 5 + 1) 4
-  unfolding columnsFor
-  last-four = let k : suc (suc (suc (suc (suc (suc i))))) ≡ i + 5 + 1 = omega arith in ap (λ (j : ℕ). columnsFor l j 4) k
+  last-four = let k : i + 6 ≡ i + 5 + 1 = omega arith in columns-drop l i 6 4 ∙ ap (λ (j : ℕ). columnsFor l j 4) k
 
 -- their leading spaces end at column b
 module _ (l : Line) (i b : ℕ) (spaces : afterSpaces (columnsFor l i (i + 10 - i)) ≡ columnsFor l b (i + 10 - b)) where
@@ -72,7 +38,7 @@ module _ (l : Line) (i b : ℕ) (spaces : afterSpaces (columnsFor l i (i + 10 - 
 
   pub blank-field : i + 10 ≤ b → Is (pos 0) ≡ coordinateIn (columns l i (i + 9))
   unfolding coordinateIn
-  blank-field h = sym (rw (ten l i, passed, columns-none l b (i + 10) h))
+  blank-field h = sym (rw (ten l i, passed, columns-over l b (i + 10) h))
 
   inked-field : b < i + 10 → coordinateIn (columns l i (i + 9)) ≡ inked (columnsFor l i 10)
   unfolding coordinateIn
@@ -82,17 +48,17 @@ module _ (l : Line) (i b : ℕ) (spaces : afterSpaces (columnsFor l i (i + 10 - 
   module _ (c : ℕ) (ink : b < i + 10) (six : c ≡ column l (i + 5)) where
     pub no-point : (c ≡ 46 → ⊥) → Malformed ≡ coordinateIn (columns l i (i + 9))
     unfolding inked
-    no-point n = sym (inked-field ink ∙ rw (column-6 l i, ne-eqb (column l (i + 5)) 46 (λ e. n (six ∙ e))))
+    no-point n = sym (inked-field ink ∙ rw (columns-get l i 5 10 0 (omega arith), ne-eqb (column l (i + 5)) 46 (λ e. n (six ∙ e))))
 
     -- the point is there, and the spaces before it end at column a
     module _ (a : ℕ) (point : c ≡ 46) (before : afterSpaces (columnsFor l i (i + 5 - i)) ≡ columnsFor l a (i + 5 - a)) where
       pointed-field : coordinateIn (columns l i (i + 9)) ≡ beforePoint (columnsFor l a (i + 5 - a)) (columnsFor l (i + 5 + 1) 4)
       unfolding inked
-      pointed-field = inked-field ink ∙ rw (column-6 l i, eq-eqb (column l (i + 5)) 46 (sym six ∙ point), first-five l i, before, last-four l i)
+      pointed-field = inked-field ink ∙ rw (columns-get l i 5 10 0 (omega arith), eq-eqb (column l (i + 5)) 46 (sym six ∙ point), first-five l i, before, last-four l i)
 
       pub no-digits : i + 5 ≤ a → Malformed ≡ coordinateIn (columns l i (i + 9))
       unfolding beforePoint
-      no-digits h = sym (pointed-field ∙ rw (columns-none l a (i + 5) h))
+      no-digits h = sym (pointed-field ∙ rw (columns-over l a (i + 5) h))
 
       pub minus-field : (d : ℕ) (r : CoordinateRead) → a < i + 5 → d ≡ column l a → d ≡ 45 →
           r ≡ pointRead true (columnsFor l (a + 1) (i + 5 - (a + 1))) (columnsFor l (i + 5 + 1) 4) → r ≡ coordinateIn (columns l i (i + 9))

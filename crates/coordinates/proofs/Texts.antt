@@ -1,23 +1,24 @@
 -- Laws on the bytes that a coordinate is written as: its parts laid one after the other, and its sign.
-use Prim.Native.Nat.{ℕ, suc, _+_, _/_, _≤_}
+use Prim.Native.Nat.{ℕ, suc, _+_, _-_, _/_}
 use native.Mathlib.Nat.{add-zero, add-suc, suc-add}
+use native.Mathlib.Numerals.{add-one}
 use native.Mathlib.Omega.{arith}
 use mathlib.Core.Path.{_≡_, sym, ap, _∙_, subst}
 use mathlib.Core.List.{[], _∷_, _++_}
 use mathlib.Core.Bool.{Bool, true, false}
-use lib.Dec.{T, ltb}
+use lib.Dec.{ltb}
 use lib.ListN.{length, set}
 use lib.Seq.{sets}
-use lib.IntN.{ℤ, pos, negsuc, natAbs, _-ℤ_, +ℤ-idl}
-use lib.Signed.{ltZ, nonNeg}
-use borrow.Author.Tests.{ltb-true}
+use lib.IntN.{ℤ, pos, negsuc, natAbs, _-ℤ_}
+use lib.Signed.{ltZ}
+use borrow.Author.Tests.{ltb-true, le-ltb}
 use mir.Syntax.{w32}
-use mir.Val.{Fits, SFits, toZ, ofZ}
-use mir.Facts.{toZ-ofZ}
+use mir.Val.{SFits, toZ, ofZ}
+use mir.Facts.{toZ-ofZ, toZ-pos}
 use Rattle.text.specs.Text.{Bytes}
-use Rattle.numbers.specs.Number.{Between}
 use Rattle.numbers.specs.Write.{sizedText}
 use Rattle.numbers.specs.Written.{text-length}
+use Rattle.numbers.proofs.Signs.{less-fits, less-sign, less-cast, less-plus, same-sign, same-cast}
 use Rattle.coordinates.specs.Write.{lastDigit, afterPoint, pointText, coordinateText}
 
 -- stores of one byte each, from the left
@@ -43,67 +44,31 @@ both-laid l m n at k minus p q =
     let e = text-length 5 true minus (k / 10000) in
     q ∙ rw p (sym (sets-append (sizedText 5 minus (k / 10000)) (afterPoint k) l at ∙ rw e))
 
--- a signed number as the machine holds it
+-- a signed number as the machine holds it, and its text by its sign
 abbrev pub held : ℤ → ℤ
 held z = toZ w32 (ofZ w32 z)
 
-abbrev pub Range : ℤ → Type 0
-Range z = Between 99999999 999999999 z
+from-minus-one : (k : ℕ) → negsuc 0 -ℤ negsuc k ≡ pos k
+from-minus-one k =
+    let e : suc k - 1 ≡ k = omega arith in
+    rw (le-ltb (suc k) 1 (omega arith), e)
 
-range-fits : (z : ℤ) → Range z → SFits w32 z
-range-fits (pos k) h = record { sfits = omega arith }
-range-fits (negsuc k) h = record { sfits = omega arith }
+pub minus-laid : (v : ℤ) (l n : Bytes) (at : ℕ) → SFits w32 v → ltZ (held v) (pos 0) ≡ true →
+    n ≡ sets l at (pointText true (natAbs (held (negsuc 0 -ℤ held v)) + 1)) → n ≡ sets l at (coordinateText v)
+minus-laid (pos k) l n at f t e =
+    let low : ltb k 0 ≡ true = subst (λ (z : ℤ). ltZ z (pos 0) ≡ true) (toZ-ofZ f) t in
+    absurd (omega (arith, ltb-true k 0 low))
+minus-laid (negsuc k) l n at f t e =
+    let less : held (negsuc 0 -ℤ held (negsuc k)) ≡ pos k =
+    ap (λ (z : ℤ). held (negsuc 0 -ℤ z)) (toZ-ofZ f) ∙ ap held (from-minus-one k) ∙ toZ-pos w32 {n = k} (f .sfits) in
+    e ∙ ap (λ (j : ℕ). sets l at (pointText true j)) (ap (λ (z : ℤ). natAbs z + 1) less ∙ add-one k)
 
-held-is : (z : ℤ) → Range z → held z ≡ z
-held-is z h = toZ-ofZ (range-fits z h)
-
--- a negative one, and `0 - v` of it
-module _ (k : ℕ) (range : Range (negsuc k)) where
-  size-range : Range (pos (suc k))
-  size-range = let h : suc k ≤ 99999999 = range in omega arith
-
-  negated : pos 0 -ℤ held (negsuc k) ≡ pos (suc k)
-  negated = ap (λ (z : ℤ). pos 0 -ℤ z) (held-is (negsuc k) range) ∙ +ℤ-idl (pos (suc k))
-
-  negated-held : held (pos 0 -ℤ held (negsuc k)) ≡ pos (suc k)
-  negated-held = ap held negated ∙ held-is (pos (suc k)) size-range
-
-pos-low : (k : ℕ) → Range (pos k) → ltZ (held (pos k)) (pos 0) ≡ true → ⊥
-pos-low k h t =
-    let e : ltb k 0 ≡ true = subst (λ (z : ℤ). ltZ z (pos 0) ≡ true) (held-is (pos k) h) t in
-    omega (arith, ltb-true k 0 e)
-
-neg-high : (k : ℕ) → Range (negsuc k) → ltZ (held (negsuc k)) (pos 0) ≡ false → ⊥
-neg-high k h t =
-    let e : true ≡ false = subst (λ (z : ℤ). ltZ z (pos 0) ≡ false) (held-is (negsuc k) h) t in
-    let z : _≡_ {A = ℕ} 0 1 = cc in
-    omega arith
-
--- what a cast to an unsigned number asks
-abbrev pub Castable : ℤ → Type 0
-Castable z = T (nonNeg z) × Fits w32 (natAbs z)
-
-castable : (k : ℕ) → Range (pos k) → Castable (pos k)
-castable k h = (tt, record { fits = omega arith })
-
-pub minus-fits : (v : ℤ) → Range v → ltZ (held v) (pos 0) ≡ true → SFits w32 (pos 0 -ℤ held v)
-minus-fits (pos k) h t = absurd (pos-low k h t)
-minus-fits (negsuc k) h t = subst (SFits w32) (sym (negated k h)) (range-fits (pos (suc k)) (size-range k h))
-
-pub minus-cast : (v : ℤ) → Range v → ltZ (held v) (pos 0) ≡ true → Castable (held (pos 0 -ℤ held v))
-minus-cast (pos k) h t = absurd (pos-low k h t)
-minus-cast (negsuc k) h t = subst Castable (sym (negated-held k h)) (castable (suc k) (size-range k h))
-
-pub minus-laid : (v : ℤ) (l n : Bytes) (at : ℕ) → Range v → ltZ (held v) (pos 0) ≡ true →
-    n ≡ sets l at (pointText true (natAbs (held (pos 0 -ℤ held v)))) → n ≡ sets l at (coordinateText v)
-minus-laid (pos k) l n at h t e = absurd (pos-low k h t)
-minus-laid (negsuc k) l n at h t e = e ∙ ap (λ (z : ℤ). sets l at (pointText true (natAbs z))) (negated-held k h)
-
-pub plain-cast : (v : ℤ) → Range v → ltZ (held v) (pos 0) ≡ false → Castable (held v)
-plain-cast (pos k) h t = subst Castable (sym (held-is (pos k) h)) (castable k h)
-plain-cast (negsuc k) h t = absurd (neg-high k h t)
-
-pub plain-laid : (v : ℤ) (l n : Bytes) (at : ℕ) → Range v → ltZ (held v) (pos 0) ≡ false →
+pub plain-laid : (v : ℤ) (l n : Bytes) (at : ℕ) → SFits w32 v → ltZ (held v) (pos 0) ≡ false →
     n ≡ sets l at (pointText false (natAbs (held v))) → n ≡ sets l at (coordinateText v)
-plain-laid (pos k) l n at h t e = e ∙ ap (λ (z : ℤ). sets l at (pointText false (natAbs z))) (held-is (pos k) h)
-plain-laid (negsuc k) l n at h t e = absurd (neg-high k h t)
+plain-laid (pos k) l n at f t e = e ∙ ap (λ (z : ℤ). sets l at (pointText false (natAbs z))) (toZ-ofZ f)
+plain-laid (negsuc k) l n at f t e =
+    let high : true ≡ false = subst (λ (z : ℤ). ltZ z (pos 0) ≡ false) (toZ-ofZ f) t in
+    let z : _≡_ {A = ℕ} 0 1 = cc in
+    absurd (omega arith)
+
+pub ruleset sign-laws = (less-fits, less-sign, less-cast, less-plus, same-sign, same-cast, minus-laid, plain-laid)

@@ -1,6 +1,5 @@
 pub mod Coordinate
 pub mod Read
-pub mod Digits
 pub mod Agree
 pub mod Write
 pub mod Written

@@ -5,7 +5,6 @@ ghost use Prim.Native.Nat.{_+_, _-_, _≤_};
 ghost use lib.ListN.{length};
 ghost use lib.Seq.{sets};
 ghost use Rattle.text.specs.Columns.{column, columns, columnsFor};
-ghost use Rattle.numbers.specs.Number.{Between};
 ghost use Rattle.coordinates.specs.Read.{pointRead, coordinateIn};
 ghost use Rattle.coordinates.specs.Write.{afterPoint, pointText, coordinateText};
 
@@ -83,11 +82,11 @@ fn put_point(out: &mut [u8], at: usize, minus: bool, k: u32)
 
 // The coordinate v in ten columns from position `at` on.
 pub fn put_coordinate(out: &mut [u8], at: usize, v: i32)
-    requires { ⌜ (at + 10 ≤ length (now out)) × (Between 99999999 999999999 v) ⌝ }
+    requires { ⌜ at + 10 ≤ length (now out) ⌝ }
     ensures { λ _. ⌜ now (out .exit) ≡ sets (now (out .entry)) at (coordinateText v) ⌝ }
 {
     if v < 0 {
-        put_point(out, at, true, (0 - v) as u32);
+        put_point(out, at, true, (-1 - v) as u32 + 1);
     } else {
         put_point(out, at, false, v as u32);
     }

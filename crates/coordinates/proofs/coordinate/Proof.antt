@@ -1,3 +1,4 @@
+-- `coordinates::coordinate` meets its contract.
 use Rattle.coordinates.proofs.Fields.{field-laws}
 use borrow.Author.Needs.{needs}
 use Rattle.coordinates.proofs.coordinate.Statement.{statement}

@@ -1,3 +1,4 @@
+-- `coordinates::digits_at` meets its contract.
 use Prim.Native.Nat.{_+_, _≤_}
 use native.Mathlib.Omega.{arith}
 use Rattle.coordinates.proofs.Fields.{digits-laws, size-range}

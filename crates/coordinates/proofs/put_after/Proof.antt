@@ -1,3 +1,4 @@
+-- `coordinates::put_after` meets its contract.
 use native.Mathlib.Omega.{arith}
 use lib.ListN.{length-set}
 use Rattle.coordinates.proofs.Texts.{after-stored}

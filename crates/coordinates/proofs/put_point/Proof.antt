@@ -1,3 +1,4 @@
+-- `coordinates::put_point` meets its contract.
 use Rattle.coordinates.proofs.Texts.{both-laid}
 use borrow.Author.Needs.{needs}
 use Rattle.coordinates.proofs.put_point.Statement.{statement}
