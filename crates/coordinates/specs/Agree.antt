@@ -134,6 +134,13 @@ coordinate-read cs z n h = go (afterSpaces cs) refl h where
 pub coordinate-agrees : (cs : Bytes) → length cs ≡ 10 → (z : ℤ) → (coordinateIn cs ≡ Is z) ↔ Coordinate cs z
 coordinate-agrees cs n z = (coordinate-read cs z n, read-coordinate)
 
+-- a field is malformed exactly where it stands for no number
+pub malformed-agrees : (cs : Bytes) → length cs ≡ 10 → (coordinateIn cs ≡ Malformed) ↔ ((z : ℤ) → Coordinate cs z → ⊥)
+malformed-agrees cs n = (λ h z k. let e = read-coordinate k in let o : _≡_ {A = ℕ} 0 1 = cc in omega arith, λ h. go (coordinateIn cs) refl h) where
+  go : (r : CoordinateRead) → coordinateIn cs ≡ r → ((z : ℤ) → Coordinate cs z → ⊥) → coordinateIn cs ≡ Malformed
+  go (Is z) e h = absurd (h z (coordinate-read cs z n e))
+  go Malformed e h = e
+
 -- ten columns are ten bytes
 pub ten-columns : (l : Line) (i : ℕ) → length (columns l i (i + 9)) ≡ 10
 ten-columns l i = columns-length l i (suc (i + 9) - i) ∙ omega arith
