@@ -12,14 +12,14 @@ use lib.IntN.{ℤ, pos, negℤ}
 use borrow.Author.Tests.{eqb-true}
 use Rattle.text.specs.Text.{Bytes, Line, Each}
 use Rattle.text.specs.Columns.{columns, spaces}
+use Rattle.text.specs.Agree.{columns-length}
 use Rattle.numbers.specs.Number.{Digit, Digits, decimalAfter, Between}
 use Rattle.numbers.specs.Read.{someDigits, afterSpaces, signed}
+use Rattle.numbers.specs.Agree.{and-true, digit-not, digits-some, some-digits, pass-spaces, led}
 use Rattle.coordinates.specs.declared.CoordinateRead.{CoordinateRead}
 use Rattle.coordinates.specs.declared.CoordinateRead.the-variants.{Is, Malformed}
 use Rattle.coordinates.specs.Coordinate.{Pointed, Coordinate}
 use Rattle.coordinates.specs.Read.{pointRead, beforePoint, inked, blankOr, coordinateIn}
-use Rattle.text.specs.Agree.{columns-length}
-use Rattle.numbers.specs.Agree.{and-true, digit-not, digits-some, some-digits, pass-spaces, led}
 
 -- from the rule to the reading
 point-stays : (bs fs : Bytes) (r : CoordinateRead) → blankOr (afterSpaces (bs ++ (46 ∷ fs))) r ≡ r

@@ -4,7 +4,7 @@ ghost use mathlib.Core.Path.{_≡_};
 ghost use Prim.Native.Nat.{_+_, _-_, _≤_};
 ghost use lib.ListN.{length};
 ghost use lib.Seq.{sets};
-ghost use Rattle.text.specs.Columns.{column, columns, columnsFor};
+ghost use Rattle.text.specs.Columns.{columns, columnsFor};
 ghost use Rattle.coordinates.specs.Read.{pointRead, coordinateIn};
 ghost use Rattle.coordinates.specs.Write.{afterPoint, pointText, coordinateText};
 
@@ -12,13 +12,6 @@ ghost use Rattle.coordinates.specs.Write.{afterPoint, pointText, coordin
 pub enum CoordinateRead {
     Is(i32),
     Malformed,
-}
-
-fn column_at(line: &[u8], i: usize) -> u8
-    requires { ⌜ 1 ≤ i ⌝ }
-    ensures { λ r. ⌜ r ≡ column (now (line .entry)) i ⌝ }
-{
-    if i <= line.len() { line[i - 1] } else { 32 }
 }
 
 // The digits from column a up to the point in column p, the four after it, and the sign read before them.
@@ -46,14 +39,14 @@ pub fn coordinate(line: &[u8], i: usize) -> CoordinateRead
         return CoordinateRead::Is(0);
     }
     let p = i + 5;
-    if column_at(line, p) != 46 {
+    if text::column(line, p) != 46 {
         return CoordinateRead::Malformed;
     }
     let a = numbers::spaces_end(line, i, p);
     if p <= a {
         return CoordinateRead::Malformed;
     }
-    if column_at(line, a) == 45 {
+    if text::column(line, a) == 45 {
         return digits_at(line, a + 1, p, true);
     }
     digits_at(line, a, p, false)

@@ -16,8 +16,8 @@ returns c = search (needs, field-laws)
 add-p : tie.Need-add-p
 add-p c = search needs
 
-column-at-requires : tie.Need-column-at-requires
-column-at-requires c κs = search needs
+column-requires : tie.Need-column-requires
+column-requires c κs = search needs
 
 returns-2 : tie.Need-returns-2
 returns-2 c = search (needs, field-laws)
@@ -28,8 +28,8 @@ spaces-end-requires-2 c κs = search needs
 returns-3 : tie.Need-returns-3
 returns-3 c = search (needs, field-laws)
 
-column-at-requires-2 : tie.Need-column-at-requires-2
-column-at-requires-2 c κs = search needs
+column-requires-2 : tie.Need-column-requires-2
+column-requires-2 c κs = search needs
 
 add-digits-at : tie.Need-add-digits-at
 add-digits-at c = search needs
@@ -54,11 +54,11 @@ coordinate-spec =
     spaces-end-requires
     returns
     add-p
-    column-at-requires
+    column-requires
     returns-2
     spaces-end-requires-2
     returns-3
-    column-at-requires-2
+    column-requires-2
     add-digits-at
     digits-at-requires
     returns-4
