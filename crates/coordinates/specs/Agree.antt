@@ -11,14 +11,15 @@ use lib.Seq.{take-at, drop-at, drop-drop, getD-at, split-at, length-take-le}
 use lib.IntN.{ℤ, pos, negℤ}
 use borrow.Author.Tests.{eqb-true}
 use Rattle.text.specs.Text.{Bytes, Line, Each}
-use Rattle.text.specs.Columns.{columns, columnsFor, spaces}
-use Rattle.numbers.specs.Number.{Digits, decimalAfter, Between}
+use Rattle.text.specs.Columns.{columns, spaces}
+use Rattle.text.specs.Agree.{columns-length}
+use Rattle.numbers.specs.Number.{Digit, Digits, decimalAfter, Between}
 use Rattle.numbers.specs.Read.{someDigits, afterSpaces, signed}
+use Rattle.numbers.specs.Agree.{and-true, digit-not, digits-some, some-digits, pass-spaces, led}
 use Rattle.coordinates.specs.declared.CoordinateRead.{CoordinateRead}
 use Rattle.coordinates.specs.declared.CoordinateRead.the-variants.{Is, Malformed}
 use Rattle.coordinates.specs.Coordinate.{Pointed, Coordinate}
 use Rattle.coordinates.specs.Read.{pointRead, beforePoint, inked, blankOr, coordinateIn}
-use Rattle.coordinates.specs.Digits.{and-true, digit-not, digits-some, some-digits, digits-stay, pass-spaces, leading, digits-range}
 
 -- from the rule to the reading
 point-stays : (bs fs : Bytes) (r : CoordinateRead) → blankOr (afterSpaces (bs ++ (46 ∷ fs))) r ≡ r
@@ -45,6 +46,11 @@ digits-read : (minus : Bool) {ds fs : Bytes} {whole part : ℕ} → Digits ds wh
 unfolding pointRead
 digits-read minus {ds} {fs} {whole} {part} a b = rw (digits-some ds whole a, digits-some fs part b, a .number, b .number)
 
+digits-stay : (ds : Bytes) (k : ℕ) → Digits ds k → afterSpaces ds ≡ ds
+unfolding afterSpaces Each
+digits-stay [] k h = refl
+digits-stay (d ∷ ds) k h = rw (digit-not d 32 (omega arith) (h .each .0))
+
 plain-read : (ds fs : Bytes) {whole part : ℕ} → Digits ds whole → Digits fs part →
     beforePoint ds fs ≡ Is (pos (whole * 10000 + part))
 unfolding beforePoint Each
@@ -65,10 +71,10 @@ took : (t : Bool) (r : CoordinateRead) (z : ℤ) → cond t r Malformed ≡ Is z
 took true r z h = (refl, h)
 took false r z h = absurd (let k : _≡_ {A = ℕ} 0 1 = cc in omega arith)
 
-pub record PointRead (minus : Bool) (ds fs : Bytes) (z : ℤ) : Type 0 where
-  pub whole : Digits ds (decimalAfter 0 ds)
-  pub part : Digits fs (decimalAfter 0 fs)
-  pub value : signed minus (decimalAfter 0 ds * 10000 + decimalAfter 0 fs) ≡ z
+record PointRead (minus : Bool) (ds fs : Bytes) (z : ℤ) : Type 0 where
+  whole : Digits ds (decimalAfter 0 ds)
+  part : Digits fs (decimalAfter 0 fs)
+  value : signed minus (decimalAfter 0 ds * 10000 + decimalAfter 0 fs) ≡ z
 
 point-read : (minus : Bool) (ds fs : Bytes) (z : ℤ) → pointRead minus ds fs ≡ Is z → PointRead minus ds fs z
 unfolding pointRead
@@ -102,10 +108,10 @@ inked-read : (cs : Bytes) (z : ℤ) → length cs ≡ 10 → inked cs ≡ Is z �
 unfolding inked
 inked-read cs z n h =
     let t = took (eqb (getD cs 5 0) 46) (beforePoint (afterSpaces (take 5 cs)) (drop 6 cs)) z h in
-    let l = leading (take 5 cs) in
+    let l = led (take 5 cs) in
     let p = ten-pointed cs n (eqb-true (getD cs 5 0) 46 (t .0)) in
-    before-read cs (afterSpaces (take 5 cs)) (drop 6 cs) z (l .0)
-    (subst (λ (bs : Bytes). Pointed cs bs (drop 6 cs)) (l .1) p)
+    before-read cs (afterSpaces (take 5 cs)) (drop 6 cs) z (l .count)
+    (subst (λ (bs : Bytes). Pointed cs bs (drop 6 cs)) (l .parts) p)
     (t .1)
 
 spaces-all : (cs : Bytes) (n : ℕ) → length cs ≡ n → afterSpaces cs ≡ [] → cs ≡ spaces n
@@ -128,14 +134,40 @@ coordinate-read cs z n h = go (afterSpaces cs) refl h where
 pub coordinate-agrees : (cs : Bytes) → length cs ≡ 10 → (z : ℤ) → (coordinateIn cs ≡ Is z) ↔ Coordinate cs z
 coordinate-agrees cs n z = (coordinate-read cs z n, read-coordinate)
 
--- ten columns are ten bytes
-columns-length : (l : Line) (i n : ℕ) → length (columnsFor l i n) ≡ n
-unfolding columnsFor
-columns-length l i zero = refl
-columns-length l i (suc n) = ap suc (columns-length l (suc i) n)
+-- a field is malformed exactly where it stands for no number
+pub malformed-agrees : (cs : Bytes) → length cs ≡ 10 → (coordinateIn cs ≡ Malformed) ↔ ((z : ℤ) → Coordinate cs z → ⊥)
+malformed-agrees cs n = (λ h z k. let e = read-coordinate k in let o : _≡_ {A = ℕ} 0 1 = cc in omega arith, λ h. go (coordinateIn cs) refl h) where
+  go : (r : CoordinateRead) → coordinateIn cs ≡ r → ((z : ℤ) → Coordinate cs z → ⊥) → coordinateIn cs ≡ Malformed
+  go (Is z) e h = absurd (h z (coordinate-read cs z n e))
+  go Malformed e h = e
 
+-- ten columns are ten bytes
 pub ten-columns : (l : Line) (i : ℕ) → length (columns l i (i + 9)) ≡ 10
 ten-columns l i = columns-length l i (suc (i + 9) - i) ∙ omega arith
+
+-- the number of n nines after the digits of k
+abbrev pub nines : ℕ → ℕ → ℕ
+nines k zero = k
+nines k (suc n) = nines (k * 10 + 9) n
+
+nines-more : (k m n : ℕ) → k ≤ m → k ≤ nines m n
+nines-more k m zero h = h
+nines-more k m (suc n) h = nines-more k (m * 10 + 9) n (omega arith)
+
+nines-after : (ds : Bytes) (n k m : ℕ) → Each Digit ds → length ds ≤ n → k ≤ m → decimalAfter k ds ≤ nines m n
+unfolding decimalAfter Each
+nines-after [] n k m h s l = nines-more k m n l
+nines-after (d ∷ ds) zero k m h s l = absurd (omega arith)
+nines-after (d ∷ ds) (suc n) k m h s l =
+    let t : d ≤ 57 = h .0 .1 in
+    nines-after ds n (k * 10 + (d - 48)) (m * 10 + 9) (h .1) (omega arith) (omega arith)
+
+-- n digits at most stand for n nines at most
+pub digits-range : (n : ℕ) {ds : Bytes} {k : ℕ} → Digits ds k → length ds ≤ n → k ≤ nines 0 n
+digits-range n {ds} {k} h s =
+    let t = nines-after ds n 0 0 (h .each) s (omega arith) in
+    let e = h .number in
+    omega arith
 
 -- a coordinate is from -9,999.9999 to 99,999.9999
 neg-between : (below above k : ℕ) → k ≤ below → Between below above (negℤ (pos k))

@@ -1,4 +1,6 @@
 pub mod Coordinate
 pub mod Read
-pub mod Digits
 pub mod Agree
+pub mod Write
+pub mod Written
+pub mod Samples

@@ -1,9 +1,9 @@
 -- How a coordinate field is read from left to right. `Coordinate` has the rule; `Agree` proves that they say the same.
-use Prim.Native.Nat.{ℕ, _+_, _*_}
-use mathlib.Core.List.{List, [], _∷_}
+use Prim.Native.Nat.{_+_, _*_}
+use mathlib.Core.List.{[], _∷_}
 use mathlib.Core.Bool.{Bool, true, false, cond, _&&_}
 use lib.Dec.{eqb}
-use lib.ListN.{getD, take, drop, length}
+use lib.ListN.{getD, take, drop}
 use lib.IntN.{pos}
 use Rattle.text.specs.Text.{Bytes, byte}
 use Rattle.numbers.specs.Number.{decimalAfter}

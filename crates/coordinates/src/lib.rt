@@ -1,7 +1,86 @@
 // Coordinate fields of a line, as signed counts of ten-thousandths.
+use numbers::Size;
+ghost use mathlib.Core.Path.{_≡_};
+ghost use Prim.Native.Nat.{_+_, _-_, _≤_};
+ghost use lib.ListN.{length};
+ghost use lib.Seq.{sets};
+ghost use Rattle.text.specs.Columns.{columns, columnsFor};
+ghost use Rattle.coordinates.specs.Read.{pointRead, coordinateIn};
+ghost use Rattle.coordinates.specs.Write.{afterPoint, pointText, coordinateText};
 
 // What ten columns stand for.
 pub enum CoordinateRead {
     Is(i32),
     Malformed,
+}
+
+// The digits from column a up to the point in column p, the four after it, and the sign read before them.
+fn digits_at(line: &[u8], a: usize, p: usize, minus: bool) -> CoordinateRead
+    requires { ⌜ (1 ≤ a) × (a ≤ p) × (p ≤ a + 5) × (p ≤ 2000) ⌝ }
+    ensures { λ r. ⌜ r ≡ pointRead minus (columnsFor (now (line .entry)) a (p - a)) (columnsFor (now (line .entry)) (p + 1) 4) ⌝ }
+{
+    let Size::Is(whole) = numbers::digits(line, a, p) else {
+        return CoordinateRead::Malformed;
+    };
+    let Size::Is(part) = numbers::digits(line, p + 1, p + 5) else {
+        return CoordinateRead::Malformed;
+    };
+    CoordinateRead::Is(numbers::with_sign(minus, whole * 10000 + part))
+}
+
+// The coordinate in the ten columns from column i.
+pub fn coordinate(line: &[u8], i: usize) -> CoordinateRead
+    requires { ⌜ (1 ≤ i) × (i ≤ 1000) ⌝ }
+    ensures { λ r. ⌜ r ≡ coordinateIn (columns (now (line .entry)) i (i + 9)) ⌝ }
+{
+    let e = i + 10;
+    let b = numbers::spaces_end(line, i, e);
+    if e <= b {
+        return CoordinateRead::Is(0);
+    }
+    let p = i + 5;
+    if text::column(line, p) != 46 {
+        return CoordinateRead::Malformed;
+    }
+    let a = numbers::spaces_end(line, i, p);
+    if p <= a {
+        return CoordinateRead::Malformed;
+    }
+    if text::column(line, a) == 45 {
+        return digits_at(line, a + 1, p, true);
+    }
+    digits_at(line, a, p, false)
+}
+
+// The point and the last four digits of k.
+fn put_after(out: &mut [u8], at: usize, k: u32)
+    requires { ⌜ at + 5 ≤ length (now out) ⌝ }
+    ensures { λ _. ⌜ now (out .exit) ≡ sets (now (out .entry)) at (afterPoint k) ⌝ }
+{
+    out[at] = 46;
+    out[at + 1] = 48 + (k / 1000 % 10) as u8;
+    out[at + 2] = 48 + (k / 100 % 10) as u8;
+    out[at + 3] = 48 + (k / 10 % 10) as u8;
+    out[at + 4] = 48 + (k % 10) as u8;
+}
+
+// k ten-thousandths in ten columns from position `at` on, with a `-` or without.
+fn put_point(out: &mut [u8], at: usize, minus: bool, k: u32)
+    requires { ⌜ at + 10 ≤ length (now out) ⌝ }
+    ensures { λ _. ⌜ now (out .exit) ≡ sets (now (out .entry)) at (pointText minus k) ⌝ }
+{
+    numbers::put_sized(out, at, 5, minus, k / 10000);
+    put_after(out, at + 5, k);
+}
+
+// The coordinate v in ten columns from position `at` on.
+pub fn put_coordinate(out: &mut [u8], at: usize, v: i32)
+    requires { ⌜ at + 10 ≤ length (now out) ⌝ }
+    ensures { λ _. ⌜ now (out .exit) ≡ sets (now (out .entry)) at (coordinateText v) ⌝ }
+{
+    if v < 0 {
+        put_point(out, at, true, (-1 - v) as u32 + 1);
+    } else {
+        put_point(out, at, false, v as u32);
+    }
 }
