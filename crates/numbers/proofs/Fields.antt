@@ -12,12 +12,12 @@ use lib.IntN.{ℤ, pos, negℤ}
 use borrow.Author.Tests.{leb-true, eq-eqb, ne-eqb, le-leb, lt-leb}
 use mir.Syntax.{w32}
 use mir.Val.{Fits}
-use Rattle.text.specs.Text.{Bytes, Line}
+use Rattle.text.specs.Text.{Bytes, Line, Each}
 use Rattle.text.specs.Columns.{column, columns, columnsFor}
-use Rattle.numbers.specs.Number.{decimalAfter}
+use Rattle.numbers.specs.Number.{Digits, Integer, decimalAfter}
 use Rattle.numbers.specs.Read.{is, isDigit, allDigits, someDigits, afterSpaces, signed, digitsRead, afterBlank, integerIn, ranged, numberIn, signedRanged, signedIn}
-use Rattle.numbers.specs.Agree.{and-true}
-use Rattle.numbers.specs.Parts.{sizeAfter, sizeIn, withSign, sizedFrom, sizedIn, integerOf}
+use Rattle.numbers.specs.Agree.{and-true, integer-read}
+use Rattle.numbers.specs.Parts.{sizeAfter, sizeIn, withSign, sizedFrom, sizedIn, integerOf, LoneDigit}
 use Rattle.numbers.specs.declared.NumberRead.{NumberRead}
 use Rattle.numbers.specs.declared.SignedRead.{SignedRead}
 use Rattle.numbers.specs.declared.Size.{Size}
@@ -317,6 +317,45 @@ module _ (below above k : ℕ) where
   pub between-plain : (m : Bool) (z : ℤ) → m ≡ false → k ≤ above → z ≡ signed false k → SignedRead.Is z ≡ signedRanged below above (is (signed m k))
   unfolding signedRanged
   between-plain m z t h e = rw (t, e) (sym (rw (le-leb k above h)))
+
+-- ---- the usual field: two spaces and a digit
+columns-three : (l : Line) (i : ℕ) → columns l i (i + 2) ≡ column l i ∷ column l (suc i) ∷ column l (suc (suc i)) ∷ []
+unfolding columnsFor
+columns-three l i =
+    let e : suc (i + 2) - i ≡ 3 = omega arith in
+    rw e
+
+pub lone-none : (l : Line) (i : ℕ) → LoneDigit l i 10
+unfolding LoneDigit
+lone-none l i h = absurd (omega arith)
+
+pub lone-found : (l : Line) (i : ℕ) → 1 ≤ i → i + 2 ≤ length l → getD l (i - 1) 0 ≡ 32 → getD l i 0 ≡ 32 → 48 ≤ getD l (i + 1) 0 → getD l (i + 1) 0 ≤ 57
+    → LoneDigit l i (getD l (i + 1) 0 - 48)
+unfolding LoneDigit
+lone-found l i h n a b low high k =
+    let p : suc i - 1 ≡ i = omega arith in
+    let q : suc (suc i) - 1 ≡ i + 1 = omega arith in
+    let r : 48 + (getD l (i + 1) 0 - 48) ≡ getD l (i + 1) 0 = omega arith in
+    columns-three l i ∙ rw (p, q, r, getD-any l (i - 1) 32 0 (omega arith), a, getD-any l i 32 0 (omega arith), b, getD-any l (i + 1) 32 0 (omega arith))
+
+lone-digits : (k : ℕ) → k ≤ 9 → Digits ((48 + k) ∷ []) k
+unfolding decimalAfter Each
+lone-digits k h = record { some = omega arith; each = (omega arith, tt); number = omega arith }
+
+lone-read : (negatives : Bool) (k : ℕ) → k ≤ 9 → integerIn negatives (32 ∷ 32 ∷ (48 + k) ∷ []) ≡ is (pos k)
+lone-read negatives k h = integer-read negatives (Integer.plain 2 ((48 + k) ∷ []) k refl (lone-digits k h))
+
+pub lone-number : (least most : ℕ) (l : Line) (i j k : ℕ) (r : NumberRead) → LoneDigit l i k → k ≤ 9 → j ≡ i + 2 → r ≡ ranged least most (is (pos k)) → r ≡ numberIn least most (columns l i j)
+unfolding LoneDigit numberIn
+lone-number least most l i j k r d h e w = w ∙ sym (rw (e, d h, lone-read false k h))
+
+pub lone-signed : (below above : ℕ) (l : Line) (i j k : ℕ) (r : SignedRead) → LoneDigit l i k → k ≤ 9 → j ≡ i + 2 → r ≡ signedRanged below above (is (signed false k)) → r ≡ signedIn below above (columns l i j)
+unfolding LoneDigit signedIn
+lone-signed below above l i j k r d h e w = w ∙ sym (rw (e, d h, lone-read true k h))
+
+pub ruleset lone-laws = (lone-none, lone-found)
+
+pub ruleset usual-laws = (lone-number, lone-signed)
 
 pub ruleset within-laws = (within-low, within-high, within-both)
 

@@ -1,9 +1,11 @@
 -- The reading of an integer field as the code makes it: sign and size first, the range after. `integer-of` ties it to `Read`.
-use Prim.Native.Nat.{ℕ}
+use Prim.Native.Nat.{ℕ, _+_, _≤_}
+use mathlib.Core.Path.{_≡_}
 use mathlib.Core.List.{[], _∷_}
 use mathlib.Core.Bool.{Bool, true, false, cond, _&&_}
 use lib.Dec.{eqb}
-use Rattle.text.specs.Text.{Bytes, byte}
+use Rattle.text.specs.Text.{Bytes, Line, byte}
+use Rattle.text.specs.Columns.{columns}
 use Rattle.numbers.specs.Number.{decimalAfter}
 use Rattle.numbers.specs.Read.{IntegerRead, is, malformed, allDigits, someDigits, afterSpaces, signed}
 use Rattle.numbers.specs.declared.Size.{Size}
@@ -32,3 +34,7 @@ sizedIn negatives cs = sizedFrom negatives (afterSpaces cs)
 unfoldable pub integerOf : SizedRead → IntegerRead
 integerOf (SizedRead.Is minus k) = is (signed minus k)
 integerOf SizedRead.Malformed = malformed
+
+-- a digit k found in columns i to i + 2 is all that they hold, after two spaces; 10 says nothing
+unfoldable pub LoneDigit : Line → ℕ → ℕ → Type 0
+LoneDigit l i k = k ≤ 9 → columns l i (i + 2) ≡ byte " " ∷ byte " " ∷ (byte "0" + k) ∷ []

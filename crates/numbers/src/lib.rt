@@ -8,7 +8,7 @@ ghost use lib.ListN.{length};
 ghost use lib.Seq.{sets};
 ghost use Rattle.text.specs.Columns.{column, columns, columnsFor};
 ghost use Rattle.numbers.specs.Read.{afterSpaces, is, signed, ranged, numberIn, signedRanged, signedIn};
-ghost use Rattle.numbers.specs.Parts.{sizeIn, withSign, sizedIn};
+ghost use Rattle.numbers.specs.Parts.{sizeIn, withSign, sizedIn, LoneDigit};
 ghost use Rattle.numbers.specs.Write.{sizedText, numberText, signedText};
 
 // A number of a range without negatives, as columns hold it.
@@ -138,8 +138,45 @@ fn within(k: u32, least: u32, most: u32) -> NumberRead
     NumberRead::Is(k)
 }
 
+// The digit of the usual field, two spaces and a digit in columns i to i + 2; 10 for any other.
+fn lone_digit(line: &[u8], i: usize) -> u32
+    requires { ⌜ (1 ≤ i) × (i ≤ 1000) ⌝ }
+    ensures { λ r. ⌜ LoneDigit (now (line .entry)) i r ⌝ }
+{
+    if line.len() < i + 2 {
+        return 10;
+    }
+    if line[i - 1] != 32 {
+        return 10;
+    }
+    if line[i] != 32 {
+        return 10;
+    }
+    let b = line[i + 1];
+    if b < 48 {
+        return 10;
+    }
+    if 57 < b {
+        return 10;
+    }
+    (b - 48) as u32
+}
+
 // The number in columns i to j, of a range without negatives.
 pub fn number(line: &[u8], i: usize, j: usize, least: u32, most: u32) -> NumberRead
+    requires { ⌜ (1 ≤ i) × (i ≤ j + 1) × (j ≤ 1000) × (j + 1 ≤ i + 9) ⌝ }
+    ensures { λ r. ⌜ r ≡ numberIn least most (columns (now (line .entry)) i j) ⌝ }
+{
+    if j == i + 2 {
+        let k = lone_digit(line, i);
+        if k <= 9 {
+            return within(k, least, most);
+        }
+    }
+    any_number(line, i, j, least, most)
+}
+
+fn any_number(line: &[u8], i: usize, j: usize, least: u32, most: u32) -> NumberRead
     requires { ⌜ (1 ≤ i) × (i ≤ j + 1) × (j ≤ 1000) × (j + 1 ≤ i + 9) ⌝ }
     ensures { λ r. ⌜ r ≡ numberIn least most (columns (now (line .entry)) i j) ⌝ }
 {
@@ -175,6 +212,19 @@ fn between(minus: bool, k: u32, below: u32, above: u32) -> SignedRead
 
 // The number in columns i to j, of a range with negatives.
 pub fn signed_number(line: &[u8], i: usize, j: usize, below: u32, above: u32) -> SignedRead
+    requires { ⌜ (1 ≤ i) × (i ≤ j + 1) × (j ≤ 1000) × (j + 1 ≤ i + 9) ⌝ }
+    ensures { λ r. ⌜ r ≡ signedIn below above (columns (now (line .entry)) i j) ⌝ }
+{
+    if j == i + 2 {
+        let k = lone_digit(line, i);
+        if k <= 9 {
+            return between(false, k, below, above);
+        }
+    }
+    any_signed(line, i, j, below, above)
+}
+
+fn any_signed(line: &[u8], i: usize, j: usize, below: u32, above: u32) -> SignedRead
     requires { ⌜ (1 ≤ i) × (i ≤ j + 1) × (j ≤ 1000) × (j + 1 ≤ i + 9) ⌝ }
     ensures { λ r. ⌜ r ≡ signedIn below above (columns (now (line .entry)) i j) ⌝ }
 {
