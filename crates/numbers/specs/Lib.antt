@@ -4,3 +4,4 @@ pub mod Agree
 pub mod Write
 pub mod Written
 pub mod Parts
+pub mod Samples
