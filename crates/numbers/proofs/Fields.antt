@@ -3,17 +3,18 @@ use Prim.Native.Nat.{ℕ, zero, suc, _+_, _-_, _*_, _^_, _≤_, _<_, zero-le}
 use native.Mathlib.Nat.{not-suc-le-zero, le-of-suc-le-suc, lt-of-lt-of-le, mul-le-mul-right, mul-assoc, pow-suc, pow-succ', pow-le-pow-right}
 use native.Mathlib.Numerals.{add-one}
 use native.Mathlib.Omega.{arith}
-use mathlib.Core.Path.{_≡_, refl, sym, ap, _∙_}
+use mathlib.Core.Path.{_≡_, refl, sym, _∙_}
 use mathlib.Core.List.{[], _∷_}
 use mathlib.Core.Bool.{Bool, true, false, cond, _&&_}
 use lib.Dec.{eqb, leb}
-use lib.ListN.{length, getD, List·getD-eq-default}
+use lib.ListN.{length, getD}
 use lib.IntN.{ℤ, pos, negℤ}
 use borrow.Author.Tests.{leb-true, eq-eqb, ne-eqb, le-leb, lt-leb}
 use mir.Syntax.{w32}
 use mir.Val.{Fits}
 use Rattle.text.specs.Text.{Bytes, Line, Each}
 use Rattle.text.specs.Columns.{column, columns, columnsFor}
+use Rattle.text.specs.Agree.{columns-length, columns-step, columns-over}
 use Rattle.numbers.specs.Number.{Digits, Integer, decimalAfter}
 use Rattle.numbers.specs.Read.{is, isDigit, allDigits, someDigits, afterSpaces, signed, digitsRead, afterBlank, integerIn, ranged, numberIn, signedRanged, signedIn}
 use Rattle.numbers.specs.Agree.{and-true, integer-read}
@@ -23,35 +24,11 @@ use Rattle.numbers.specs.declared.SignedRead.{SignedRead}
 use Rattle.numbers.specs.declared.Size.{Size}
 use Rattle.numbers.specs.declared.SizedRead.{SizedRead}
 
--- ---- a column
+-- within a list it does not matter what is read past its end
 getD-any : (l : Bytes) (i d e : ℕ) → i < length l → getD l i d ≡ getD l i e
 getD-any [] i d e h = absurd (not-suc-le-zero h)
 getD-any (x ∷ l) zero d e h = refl
 getD-any (x ∷ l) (suc i) d e h = getD-any l i d e (le-of-suc-le-suc h)
-
-pub column-in : (l : Line) (i : ℕ) → 1 ≤ i → i ≤ length l → getD l (i - 1) 0 ≡ column l i
-column-in l i h k = getD-any l (i - 1) 0 32 (omega arith)
-
-pub column-out : (l : Line) (i : ℕ) → length l < i → 32 ≡ column l i
-column-out l i h = sym (List·getD-eq-default l 32 (omega arith))
-
--- ---- columns
-pub columns-step : (l : Line) (a e : ℕ) → a < e → columnsFor l a (e - a) ≡ column l a ∷ columnsFor l (a + 1) (e - (a + 1))
-unfolding columnsFor
-columns-step l a e h =
-    let k : e - a ≡ suc (e - (a + 1)) = omega arith in
-    rw (k, add-one)
-
-pub columns-none : (l : Line) (a e : ℕ) → e ≤ a → columnsFor l a (e - a) ≡ []
-unfolding columnsFor
-columns-none l a e h =
-    let k : e - a ≡ 0 = omega arith in
-    rw k
-
-pub columns-length : (l : Line) (i w : ℕ) → length (columnsFor l i w) ≡ w
-unfolding columnsFor
-columns-length l i zero = refl
-columns-length l i (suc w) = ap suc (columns-length l (suc i) w)
 
 -- ---- the walk over leading spaces: what follows them from column i is what follows them from column a
 pub record Passing (l : Line) (i e a : ℕ) : Type 0 where
@@ -76,7 +53,7 @@ passing-stop l i e a b p h c s = p .same ∙ rw (columns-step l a e h, ne-eqb (c
 
 pub passing-end : (l : Line) (i e a : ℕ) → Passing l i e a → e ≤ a → afterSpaces (columnsFor l i (e - i)) ≡ columnsFor l e (e - e)
 unfolding afterSpaces
-passing-end l i e a p h = p .same ∙ rw (columns-none l a e h, columns-none l e e (omega arith))
+passing-end l i e a p h = p .same ∙ rw (columns-over l a e h, columns-over l e e (omega arith))
 
 -- ---- the walk over digits: those from column i on are those from column a on, after digits that stand for k
 pub record Counting (l : Line) (i e k a : ℕ) : Type 0 where
@@ -95,7 +72,7 @@ power-more i a h =
 
 pub digits-none : (l : Line) (i e : ℕ) → e ≤ i → Size.Malformed ≡ sizeIn (columnsFor l i (e - i))
 unfolding sizeIn
-digits-none l i e h = rw (columns-none l i e h)
+digits-none l i e h = rw (columns-over l i e h)
 
 pub counting-start : (l : Line) (i e : ℕ) → i < e → Counting l i e 0 i
 unfolding sizeIn sizeAfter
@@ -123,7 +100,7 @@ module _ (l : Line) (i e k a b : ℕ) (c : Counting l i e k a) (h : a < e) (s : 
 
 pub counting-end : (l : Line) (i e k a : ℕ) → Counting l i e k a → e ≤ a → Size.Is k ≡ sizeIn (columnsFor l i (e - i))
 unfolding sizeAfter allDigits decimalAfter
-counting-end l i e k a c h = sym (c .same ∙ rw (columns-none l a e h))
+counting-end l i e k a c h = sym (c .same ∙ rw (columns-over l a e h))
 
 -- in a turn k has at most eight digits
 counting-small : (l : Line) (i e k a : ℕ) → Counting l i e k a → a < e → e ≤ i + 9 → k < 100000000
@@ -138,7 +115,7 @@ counting-plus l i e k a b c h w high = record { fits = omega (arith, counting-sm
 -- ---- the field
 pub sized-blank : (negatives : Bool) (l : Line) (i j a : ℕ) → afterSpaces (columnsFor l i (j + 1 - i)) ≡ columnsFor l a (j + 1 - a) → j + 1 ≤ a → SizedRead.Is false 0 ≡ sizedIn negatives (columns l i j)
 unfolding sizedIn sizedFrom
-sized-blank negatives l i j a p h = sym (rw (← add-one j, p, columns-none l a (j + 1) h))
+sized-blank negatives l i j a p h = sym (rw (← add-one j, p, columns-over l a (j + 1) h))
 
 pub sized-minus : (negatives t : Bool) (l : Line) (i j a : ℕ) (r : SizedRead) → afterSpaces (columnsFor l i (j + 1 - i)) ≡ columnsFor l a (j + 1 - a) → a < j + 1
     → t ≡ (negatives && eqb (column l a) 45) → t ≡ true → r ≡ withSign true (sizeIn (columnsFor l (a + 1) (j + 1 - (a + 1)))) → r ≡ sizedIn negatives (columns l i j)
@@ -254,8 +231,6 @@ pub sized-small : (negatives m : Bool) (l : Line) (i j k : ℕ) (s : SizedRead) 
 sized-small negatives m l i j k s e h w =
     let b : k < 10 ^ length (columns l i j) = sized-below negatives m (columns l i j) k (sym e ∙ h) in
     omega (arith, rw columns-length at b, ten-mono {m = suc j - i} {n = 9} (omega arith))
-
-pub ruleset column-laws = (column-in, column-out)
 
 pub ruleset passing-laws = (passing-start, passing-next, passing-stop, passing-end)
 

@@ -37,13 +37,6 @@ pub enum SizedRead {
     Malformed,
 }
 
-fn column_at(line: &[u8], i: usize) -> u8
-    requires { ⌜ 1 ≤ i ⌝ }
-    ensures { λ r. ⌜ r ≡ column (now (line .entry)) i ⌝ }
-{
-    if i <= line.len() { line[i - 1] } else { 32 }
-}
-
 // The column at which the spaces that start in column i end, up to column e.
 pub fn spaces_end(line: &[u8], i: usize, e: usize) -> usize
     requires { ⌜ (1 ≤ i) × (i ≤ e) ⌝ }
@@ -52,7 +45,7 @@ pub fn spaces_end(line: &[u8], i: usize, e: usize) -> usize
 {
     let mut a = i;
     while a < e {
-        if column_at(line, a) != 32 {
+        if text::column(line, a) != 32 {
             return a;
         }
         a += 1;
@@ -71,7 +64,7 @@ pub fn digits(line: &[u8], i: usize, e: usize) -> Size
     let mut k: u32 = 0;
     let mut a = i;
     while a < e {
-        let b = column_at(line, a);
+        let b = text::column(line, a);
         if b < 48 {
             return Size::Malformed;
         }
@@ -90,7 +83,7 @@ fn minus_at(line: &[u8], i: usize, negatives: bool) -> bool
     ensures { λ r. ⌜ r ≡ (negatives && eqb (column (now (line .entry)) i) 45) ⌝ }
 {
     if negatives {
-        column_at(line, i) == 45
+        text::column(line, i) == 45
     } else {
         false
     }

@@ -17,8 +17,8 @@ returns c = search (needs, counting-laws)
 loop-holds : tie.Need-loop-holds Inv-loop μ-loop
 loop-holds c = search (needs, counting-laws)
 
-column-at-requires : tie.Need-column-at-requires Inv-loop μ-loop
-column-at-requires c κs = search (needs, counting-laws)
+column-requires : tie.Need-column-requires Inv-loop μ-loop
+column-requires c κs = search (needs, counting-laws)
 
 returns-2 : tie.Need-returns-2 Inv-loop μ-loop
 returns-2 c = search (needs, counting-laws)
@@ -55,7 +55,7 @@ digits-spec =
     μ-loop
     returns
     loop-holds
-    column-at-requires
+    column-requires
     returns-2
     returns-3
     mul-k

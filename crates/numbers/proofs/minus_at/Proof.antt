@@ -4,8 +4,8 @@ use borrow.Author.Needs.{needs}
 use Rattle.numbers.proofs.minus_at.Statement.{statement}
 use Rattle.numbers.proofs.minus_at.Tie as tie
 
-column-at-requires : tie.Need-column-at-requires
-column-at-requires c κs = search needs
+column-requires : tie.Need-column-requires
+column-requires c κs = search needs
 
 returns : tie.Need-returns
 returns c = search (needs, minus-laws)
@@ -14,4 +14,4 @@ returns-2 : tie.Need-returns-2
 returns-2 c = search needs
 
 pub minus-at-spec : {M : Type 1} → statement M
-minus-at-spec = tie.close (tie.spec column-at-requires returns returns-2)
+minus-at-spec = tie.close (tie.spec column-requires returns returns-2)

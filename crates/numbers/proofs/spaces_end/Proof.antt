@@ -14,8 +14,8 @@ abbrev μ-loop : tie.MeasureT-loop
 loop-holds : tie.Need-loop-holds Inv-loop μ-loop
 loop-holds c = search (needs, passing-laws)
 
-column-at-requires : tie.Need-column-at-requires Inv-loop μ-loop
-column-at-requires c κs = search (needs, passing-laws)
+column-requires : tie.Need-column-requires Inv-loop μ-loop
+column-requires c κs = search (needs, passing-laws)
 
 returns : tie.Need-returns Inv-loop μ-loop
 returns c = search (needs, passing-laws)
@@ -39,7 +39,7 @@ spaces-end-spec =
     Inv-loop
     μ-loop
     loop-holds
-    column-at-requires
+    column-requires
     returns
     add-a
     loop-less
