@@ -37,7 +37,7 @@ pub enum SizedRead {
     Malformed,
 }
 
-// The column at which the spaces that start in column i end, up to column e.
+// The first column from i on that is no space, or e: columns i to e - 1 are looked at.
 pub fn spaces_end(line: &[u8], i: usize, e: usize) -> usize
     requires { ⌜ (1 ≤ i) × (i ≤ e) ⌝ }
     ensures { λ r. ⌜ afterSpaces (columnsFor (now (line .entry)) i (e - i)) ≡ columnsFor (now (line .entry)) r (e - r) ⌝ }
@@ -53,7 +53,7 @@ pub fn spaces_end(line: &[u8], i: usize, e: usize) -> usize
     e
 }
 
-// The digits from column i up to column e.
+// The digits in columns i to e - 1.
 pub fn digits(line: &[u8], i: usize, e: usize) -> Size
     requires { ⌜ (1 ≤ i) × (i ≤ e) × (e ≤ i + 9) ⌝ }
     ensures { λ r. ⌜ r ≡ sizeIn (columnsFor (now (line .entry)) i (e - i)) ⌝ }
@@ -89,7 +89,7 @@ fn minus_at(line: &[u8], i: usize, negatives: bool) -> bool
     }
 }
 
-// The digits from column i up to column e, with the sign that stands before them.
+// The digits in columns i to e - 1, with the sign that stands before them.
 fn sized_digits(line: &[u8], i: usize, e: usize, minus: bool) -> SizedRead
     requires { ⌜ (1 ≤ i) × (i ≤ e) × (e ≤ i + 9) ⌝ }
     ensures { λ r. ⌜ r ≡ withSign minus (sizeIn (columnsFor (now (line .entry)) i (e - i))) ⌝ }
@@ -253,6 +253,7 @@ pub fn put_sized(out: &mut [u8], at: usize, width: usize, minus: bool, k: u32)
     }
 }
 
+// A number without negatives, right-aligned in `width` columns from position `at` on.
 pub fn put_number(out: &mut [u8], at: usize, width: usize, k: u32)
     requires { ⌜ at + width ≤ length (now out) ⌝ }
     ensures { λ _. ⌜ now (out .exit) ≡ sets (now (out .entry)) at (numberText width k) ⌝ }
@@ -260,6 +261,7 @@ pub fn put_number(out: &mut [u8], at: usize, width: usize, k: u32)
     put_sized(out, at, width, false, k);
 }
 
+// A number with its sign. `-1 - v` is one less than the size of a negative v, so the lowest number is written too.
 pub fn put_signed(out: &mut [u8], at: usize, width: usize, v: i32)
     requires { ⌜ at + width ≤ length (now out) ⌝ }
     ensures { λ _. ⌜ now (out .exit) ≡ sets (now (out .entry)) at (signedText width v) ⌝ }
