@@ -12,7 +12,7 @@ use borrow.Author.Tests.{eqb-true, eq-eqb, leb-true, le-leb}
 use Rattle.text.specs.Text.{Line, bytes, byte}
 use Rattle.text.specs.Columns.{column, columns, Space, SpacesFrom, Has, Within}
 use Rattle.text.specs.Find.{badColumn, inkColumn}
-use Rattle.text.specs.Agree.{bad-none, ink-none}
+use Rattle.text.specs.Agree.{bad-none, ink-none, same-bytes}
 use Rattle.text.specs.declared.Found.{Found}
 use Rattle.numbers.specs.Number.{Number, Signed, OneOf, Listed, SignedListed}
 use Rattle.numbers.specs.Read.{numberIn, signedIn, isBetween}
@@ -25,7 +25,7 @@ use Rattle.coordinates.specs.Agree.{coordinate-agrees}
 use Rattle.coordinates.specs.declared.CoordinateRead.{CoordinateRead}
 use Rattle.symbols.specs.Symbol.{Symbol}
 use Rattle.symbols.specs.Read.{symbolIn}
-use Rattle.symbols.specs.Agree.{symbol-agrees, same-bytes}
+use Rattle.symbols.specs.Agree.{symbol-agrees}
 use Rattle.symbols.specs.declared.SymbolRead.{SymbolRead}
 use Rattle.lines.specs.Got.{Got, got, then, need}
 use Rattle.lines.specs.GotLaws.{got-inj, bad-got, then-got, then-is, need-got, need-is, cond-by}

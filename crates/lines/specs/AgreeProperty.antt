@@ -9,7 +9,7 @@ use borrow.Author.Tests.{not-true}
 use Rattle.text.specs.Text.{Line}
 use Rattle.text.specs.Columns.{SpacesFrom, Has, Within}
 use Rattle.numbers.specs.Number.{Number}
-use Rattle.symbols.specs.Read.{sameBytes}
+use Rattle.text.specs.Find.{sameBytes}
 use Rattle.rules.specs.Forms.{Kind, CHG, RAD, ISO, tag, Entry, EntryNumber, EntriesFrom, Property, PropertyLine, EndLine}
 use Rattle.lines.specs.Got.{got}
 use Rattle.lines.specs.GotLaws.{got-inj, bad-got, then-is, need-is, cond-by}

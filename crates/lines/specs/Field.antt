@@ -8,14 +8,14 @@ use lib.ListN.{length}
 use lib.IntN.{ℤ, pos, negsuc}
 use Rattle.text.specs.Text.{Bytes, Line, bytes, byte}
 use Rattle.text.specs.Columns.{column, columns}
-use Rattle.text.specs.Find.{badColumn, inkColumn}
+use Rattle.text.specs.Find.{badColumn, inkColumn, sameBytes}
 use Rattle.text.specs.declared.Found.{Found}
 use Rattle.numbers.specs.Read.{numberIn, signedIn}
 use Rattle.numbers.specs.declared.NumberRead.{NumberRead}
 use Rattle.numbers.specs.declared.SignedRead.{SignedRead}
 use Rattle.coordinates.specs.Read.{coordinateIn}
 use Rattle.coordinates.specs.declared.CoordinateRead.{CoordinateRead}
-use Rattle.symbols.specs.Read.{symbolIn, sameBytes}
+use Rattle.symbols.specs.Read.{symbolIn}
 use Rattle.symbols.specs.declared.SymbolRead.{SymbolRead}
 use Rattle.lines.specs.Got.{Got, got, bad, then, need}
 

@@ -11,7 +11,6 @@ use Rattle.text.specs.Columns.{columns}
 use Rattle.text.specs.Find.{inkColumn}
 use Rattle.text.specs.declared.Found.{Found}
 use Rattle.numbers.specs.Read.{afterSpaces}
-use Rattle.symbols.specs.Read.{sameBytes}
 use Rattle.rules.specs.Forms.{Counts, Atom, Bond, stereos, centres, Kind, CHG, RAD, ISO, tag, Entry, Property}
 use Rattle.lines.specs.Got.{Got, got, bad, then, need}
 use Rattle.lines.specs.Field.{numberAt, signedAt, elem, listedAt, signedListedAt, coordinateAt, symbolAt, spaceAt, spacesFrom, has}

@@ -8,3 +8,6 @@ pub mod AgreeProperty
 pub mod AgreeText
 pub mod AgreeItem
 pub mod Agree
+pub mod Answer
+pub mod Steps
+pub mod Lists

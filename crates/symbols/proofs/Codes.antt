@@ -13,10 +13,11 @@ use borrow.Author.Tests.{eq-eqb, ne-eqb, ltb-true}
 use Rattle.text.specs.Text.{Bytes, Line, bytes}
 use Rattle.text.specs.Columns.{column, columns, columnsFor}
 use Rattle.symbols.specs.Symbol.{names}
-use Rattle.symbols.specs.Read.{sameBytes, among, symbolIn}
+use Rattle.text.specs.Find.{sameBytes}
+use Rattle.text.specs.Agree.{same-bytes}
+use Rattle.symbols.specs.Read.{among, symbolIn}
 use Rattle.symbols.specs.Write.{symbolText}
 use Rattle.symbols.specs.Codes.{codeOf, codes, numberOf}
-use Rattle.symbols.specs.Agree.{same-eq, same-bytes}
 use Rattle.symbols.specs.Table.{and-true, passes, passes-at}
 use Rattle.symbols.specs.declared.SymbolRead.the-variants.{Is, Unknown}
 
@@ -56,7 +57,7 @@ module _ (a b c : ℕ) (a< : a < 256) (b< : b < 256) (c< : c < 256) where
   same-code x y z x< y< z< = go (sameBytes (a ∷ b ∷ c ∷ []) (x ∷ y ∷ z ∷ [])) refl
     where
       go : (t : Bool) → sameBytes (a ∷ b ∷ c ∷ []) (x ∷ y ∷ z ∷ []) ≡ t → sameBytes (a ∷ b ∷ c ∷ []) (x ∷ y ∷ z ∷ []) ≡ eqb (codeOf (x ∷ y ∷ z ∷ [])) (codeOf (a ∷ b ∷ c ∷ []))
-      go true e = e ∙ sym (eq-eqb (codeOf (x ∷ y ∷ z ∷ [])) (codeOf (a ∷ b ∷ c ∷ [])) (ap codeOf (sym (same-eq (a ∷ b ∷ c ∷ []) (x ∷ y ∷ z ∷ []) e))))
+      go true e = e ∙ sym (eq-eqb (codeOf (x ∷ y ∷ z ∷ [])) (codeOf (a ∷ b ∷ c ∷ [])) (ap codeOf (sym (same-bytes (a ∷ b ∷ c ∷ []) (x ∷ y ∷ z ∷ []) .0 e))))
       go false e =
           e ∙ sym (ne-eqb (codeOf (x ∷ y ∷ z ∷ [])) (codeOf (a ∷ b ∷ c ∷ []))
           (λ q.

@@ -2,39 +2,22 @@
 use Prim.Native.Nat.{ℕ, suc, _+_, _-_, _≤_, _<_}
 use Prim.Native.String.{String}
 use native.Mathlib.Omega.{arith}
-use mathlib.Core.Path.{_≡_, refl, ap, ap₂, _∙_, subst}
+use mathlib.Core.Path.{_≡_, refl, ap, _∙_, subst}
 use mathlib.Core.Logic.{_↔_}
 use mathlib.Core.List.{List, [], _∷_}
 use mathlib.Core.Bool.{Bool, true, false, cond}
 use lib.Dec.{eqb}
 use lib.ListN.{getD, length}
-use borrow.Author.Tests.{eqb-true, eq-eqb}
+use borrow.Author.Tests.{eqb-true}
 use Rattle.text.specs.Text.{Bytes, bytes}
 use Rattle.text.specs.Columns.{columns, columnsFor}
 use Rattle.symbols.specs.Symbol.{names, name, Symbol}
-use Rattle.symbols.specs.Read.{sameBytes, among, symbolIn}
-use Rattle.symbols.specs.Table.{and-true, passes, passes-at}
+use Rattle.text.specs.Find.{sameBytes}
+use Rattle.text.specs.Agree.{same-bytes}
+use Rattle.symbols.specs.Read.{among, symbolIn}
+use Rattle.symbols.specs.Table.{passes, passes-at}
 use Rattle.symbols.specs.declared.SymbolRead.{SymbolRead}
 use Rattle.symbols.specs.declared.SymbolRead.the-variants.{Is, Unknown}
-
--- ---- The test for equal bytes
-
-pub same-eq : (a b : Bytes) → sameBytes a b ≡ true → a ≡ b
-unfolding sameBytes
-same-eq [] [] h = refl
-same-eq [] (c ∷ cs) h = absurd (let z : _≡_ {A = ℕ} 0 1 = cc in omega arith)
-same-eq (b ∷ bs) [] h = absurd (let z : _≡_ {A = ℕ} 0 1 = cc in omega arith)
-same-eq (b ∷ bs) (c ∷ cs) h =
-    let t = and-true (eqb b c) (sameBytes bs cs) h in
-    ap₂ _∷_ (eqb-true b c (t .0)) (same-eq bs cs (t .1))
-
-pub same-refl : (a : Bytes) → sameBytes a a ≡ true
-unfolding sameBytes
-same-refl [] = refl
-same-refl (b ∷ bs) = rw (eq-eqb b b refl) (same-refl bs)
-
-pub same-bytes : (a b : Bytes) → (sameBytes a b ≡ true) ↔ (a ≡ b)
-same-bytes a b = (same-eq a b, (λ e. subst (λ (x : Bytes). sameBytes a x ≡ true) e (same-refl a)))
 
 -- ---- What is found is a symbol
 
@@ -56,7 +39,7 @@ among-sound cs k j (s ∷ ss) h = go (sameBytes cs (columns (bytes s) 1 3)) refl
         record {
           low = omega arith;
           high = omega arith;
-          text = rw z (same-eq cs (columns (bytes s) 1 3) e);
+          text = rw z (same-bytes cs (columns (bytes s) 1 3) .0 e);
         }
     go false e ih g =
         let r = ih g in

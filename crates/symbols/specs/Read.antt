@@ -6,15 +6,10 @@ use mathlib.Core.Bool.{Bool, true, false, cond, _&&_}
 use lib.Dec.{eqb}
 use Rattle.text.specs.Text.{Bytes, bytes}
 use Rattle.text.specs.Columns.{columns}
+use Rattle.text.specs.Find.{sameBytes}
 use Rattle.symbols.specs.Symbol.{names}
 use Rattle.symbols.specs.declared.SymbolRead.{SymbolRead}
 use Rattle.symbols.specs.declared.SymbolRead.the-variants.{Is, Unknown}
-
-unfoldable pub sameBytes : Bytes → Bytes → Bool
-sameBytes [] [] = true
-sameBytes [] (c ∷ cs) = false
-sameBytes (b ∷ bs) [] = false
-sameBytes (b ∷ bs) (c ∷ cs) = eqb b c && sameBytes bs cs
 
 -- among these names, of which the first has number k
 unfoldable pub among : Bytes → ℕ → List String → SymbolRead
