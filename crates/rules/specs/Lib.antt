@@ -2,5 +2,15 @@ pub mod Forms
 pub mod Record
 pub mod Meaning
 pub mod Viable
+pub mod Write
+pub mod Canon
 pub mod OneForm
 pub mod Unique
+pub mod After
+pub mod Texts
+pub mod Fields
+pub mod Written
+pub mod Entries
+pub mod CanonBack
+pub mod CanonGood
+pub mod Read
