@@ -14,3 +14,5 @@ pub mod Entries
 pub mod CanonBack
 pub mod CanonGood
 pub mod Read
+pub mod Samples
+pub mod SamplesHold
