@@ -20,6 +20,7 @@ use Rattle.rules.specs.Written.{GoodAtom, GoodAtoms, GoodBond, GoodBonds
 use Rattle.rules.specs.Entries.{properties-list, rising-once}
 use Rattle.rules.specs.CanonBack.{canon-back}
 use Rattle.rules.specs.Texts.{sdfile-text}
+use Rattle.rules.specs.Unique.{one-sdfile}
 
 sized : (least most : ℕ) (z : ℤ) → FromTo least most z → (least ≤ natAbs z) × (natAbs z ≤ most)
 sized least most (pos k) h = h
@@ -221,3 +222,9 @@ pub canon-text : (xs : List Reading) → AllGood limit xs → (rs : List Raw) ×
 canon-text xs g =
     let f = canon-file limit xs (omega arith) g in
     (f .0, (canonFile xs, sdfile-text (f .1), f .1), f .2)
+
+-- and of no others
+pub canon-only : (xs : List Reading) (rs : List Raw) → AllGood limit xs → GoodSDfile (text (canonFile xs)) rs → map meaning rs ≡ xs
+canon-only xs rs g h =
+    let f = canon-text xs g in
+    ap (map meaning) (one-sdfile (text (canonFile xs)) rs (f .0) h (f .1)) ∙ f .2

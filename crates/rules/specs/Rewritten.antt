@@ -1,5 +1,5 @@
 -- What stands in a file can be written: the reading of a record is writable, and its header lines and items are good.
-use Prim.Native.Nat.{ℕ, suc, _+_, _<_}
+use Prim.Native.Nat.{ℕ, suc, _+_, _<_, _≤_}
 use native.Mathlib.Omega.{arith}
 use mathlib.Core.Path.{_≡_, refl, sym, ap, subst}
 use mathlib.Core.Logic.{_≢_}
@@ -15,10 +15,10 @@ use Rattle.coordinates.specs.Agree.{coordinate-range}
 use Rattle.rules.specs.Forms.{Atom, AtomLine, Bond, BondLine, Kind, CHG, RAD, ISO, sameKind, Entry, EntryNumber, EntriesFrom, Property, DataHeader}
 use Rattle.rules.specs.Record.{Molecule, Item, Raw, Atoms, Bonds, Properties, Values, Items, Parts1to5, Record, SDfile, listed, NoPairTwice}
 use Rattle.rules.specs.Meaning.{chargesOfCodes, chargeOfCode, radicalOfCode, has, numberIn, given, atomNumbers, atomsFrom, bondNumbers, meaning}
-use Rattle.rules.specs.Canon.{atomRow, bondRow, bondOf, entriesFrom, canon, FromTo, WritableAtom, WritableBond, Rows, GoodValues, GoodName, GoodItems}
+use Rattle.rules.specs.Canon.{atomRow, bondRow, bondOf, entriesFrom, canon, canonFile, FromTo, WritableAtom, WritableBond, Rows, GoodValues, GoodName, GoodItems}
 use Rattle.rules.specs.Fields.{Every, every-at}
 use Rattle.rules.specs.Entries.{not-among}
-use Rattle.rules.specs.CanonGood.{one-map, Good, AllGood}
+use Rattle.rules.specs.CanonGood.{one-map, Good, AllGood, canon-file}
 
 -- ---- The numbers that property lines give
 
@@ -236,3 +236,8 @@ pub sdfile-good : {limit : ℕ} {t : List Line} {xs : List Raw} → SDfile limit
 unfolding AllGood
 sdfile-good SDfile.none = tt
 sdfile-good (SDfile.more p ps) = (record-good p, sdfile-good ps)
+
+-- so a file has a canonical form, which stands for the same readings
+pub rewritten : (limit : ℕ) (t : List Line) (xs : List Raw) → limit ≤ 999 → SDfile limit t xs →
+    (rs : List Raw) × SDfile limit (canonFile (map meaning xs)) rs × (map meaning rs ≡ map meaning xs)
+rewritten limit t xs small f = canon-file limit (map meaning xs) small (sdfile-good f)
