@@ -17,7 +17,7 @@ properties-after : {n : ℕ} {t r : List Line} {ps : List Property} → Properti
 properties-after (Properties.end h) s = Properties.end h
 properties-after (Properties.more h p) s = Properties.more h (properties-after p s)
 
-values-after : {t vs r : List Line} → Values t vs r → (s : List Line) → Values (t ++ s) vs (r ++ s)
+pub values-after : {t vs r : List Line} → Values t vs r → (s : List Line) → Values (t ++ s) vs (r ++ s)
 values-after (Values.end h) s = Values.end h
 values-after (Values.more h p) s = Values.more h (values-after p s)
 

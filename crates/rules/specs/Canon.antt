@@ -11,8 +11,8 @@ use Rattle.text.specs.Text.{Bytes, Line, byte, Each, Without}
 use Rattle.text.specs.Columns.{Allowed}
 use Rattle.numbers.specs.Number.{Between, OneOf}
 use Rattle.symbols.specs.Symbol.{names}
-use Rattle.rules.specs.Forms.{FirstHeaderLine, HeaderLine, Atom, Bond, stereos, centres, Kind, CHG, RAD, ISO, Entry, Property, ValueLine}
-use Rattle.rules.specs.Record.{Headers, Item, Raw, NoPairTwice}
+use Rattle.rules.specs.Forms.{FirstHeaderLine, HeaderLine, DataHeader, Atom, Bond, stereos, centres, Kind, CHG, RAD, ISO, Entry, Property, ValueLine}
+use Rattle.rules.specs.Record.{Headers, Item, Raw, NoPairTwice, Values}
 use Rattle.rules.specs.Meaning.{Reading}
 use Rattle.rules.specs.Write.{recordLines, fileLines}
 
@@ -247,3 +247,26 @@ pub record GoodItem (i : Item) : Type 0 where
 unfoldable pub GoodItems : List Item → Type 0
 GoodItems [] = Unit {0}
 GoodItems (i ∷ is) = GoodItem i × GoodItems is
+
+-- what can be written: tables, header lines and items
+pub record Good (limit : ℕ) (x : Reading) : Type 0 where
+  pub writable : Writable limit x
+  pub headers : GoodHeaders (x .headers)
+  pub items : GoodItems (x .items)
+
+unfoldable pub AllGood : ℕ → List Reading → Type 0
+AllGood limit [] = Unit {0}
+AllGood limit (x ∷ xs) = Good limit x × AllGood limit xs
+
+-- ---- What a writer is handed beside the tables: two texts of their own
+
+-- three lines and no more
+pub data HeaderPart : List Line → Headers → Type 0 where
+  three : {h₁ h₂ h₃ : Line} → FirstHeaderLine h₁ → HeaderLine h₂ → HeaderLine h₃ →
+      HeaderPart (h₁ ∷ h₂ ∷ h₃ ∷ []) (record { first = h₁; second = h₂; third = h₃ })
+
+-- any number of whole items
+pub data ItemPart : List Line → List Item → Type 0 where
+  none : ItemPart [] []
+  more : {l : Line} {name : Bytes} {t u vs : List Line} {is : List Item} →
+      DataHeader l name → Values t vs u → ItemPart u is → ItemPart (l ∷ t) (record { name = name; values = vs } ∷ is)

@@ -15,7 +15,7 @@ use Rattle.rules.specs.Record.{Raw, Molfile, Record, SDfile, GoodSDfile,
 use Rattle.rules.specs.Meaning.{Reading, meaning}
 use Rattle.rules.specs.Write.{moleculeLines}
 use Rattle.rules.specs.Canon.{AtomRow, atomRow, BondRow, bondRow, codeOfCharge, isZero, isTwo, chargeCode, atomOf, bondOf, numberOf, entriesFrom, eights, linesOf, propertiesOf, canon, canonLines, canonFile}
-use Rattle.rules.specs.Canon.{FromTo, WritableAtom, WritableBond, Rows, Writable, GoodHeaders, GoodItems}
+use Rattle.rules.specs.Canon.{FromTo, WritableAtom, WritableBond, Rows, Good, AllGood}
 use Rattle.rules.specs.Written.{GoodAtom, GoodAtoms, GoodBond, GoodBonds, Ranges, GoodEntries, GoodProperties, molecule-written, GoodRecord, record-written, GoodRecords, file-written}
 use Rattle.rules.specs.Entries.{properties-list, rising-once}
 use Rattle.rules.specs.CanonBack.{canon-back}
@@ -167,12 +167,6 @@ once ts k = subst NoAtomTwice (sym (properties-list k ts)) (rising-once k 1 ts)
 
 -- ---- A record and a file
 
--- what can be written: tables, header lines and items
-pub record Good (limit : ℕ) (x : Reading) : Type 0 where
-  pub writable : Writable limit x
-  pub headers : GoodHeaders (x .headers)
-  pub items : GoodItems (x .items)
-
 pub canon-is-good : (limit : ℕ) (x : Reading) → Good limit x → GoodRecord limit (canon x)
 unfolding canon
 canon-is-good limit x g =
@@ -199,10 +193,6 @@ canon-good limit x small g = (canon x, record-written limit (canon x) small (can
 -- without its items, as a molfile
 pub canon-molfile : (limit : ℕ) (x : Reading) → limit ≤ 999 → Good limit x → Molfile limit (moleculeLines (canon x .molecule)) (record { molecule = canon x .molecule; items = [] })
 canon-molfile limit x small g = Molfile.molfile (molecule-written limit (canon x .molecule) small (canon-is-good limit x g .molecule))
-
-unfoldable pub AllGood : ℕ → List Reading → Type 0
-AllGood limit [] = Unit {0}
-AllGood limit (x ∷ xs) = Good limit x × AllGood limit xs
 
 all-good : (limit : ℕ) (xs : List Reading) → AllGood limit xs → GoodRecords limit (map canon xs)
 unfolding AllGood GoodRecords

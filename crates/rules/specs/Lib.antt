@@ -18,5 +18,6 @@ pub mod Entries
 pub mod CanonBack
 pub mod CanonGood
 pub mod Rewritten
+pub mod Handed
 -- the samples hold
 pub mod SamplesHold

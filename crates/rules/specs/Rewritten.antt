@@ -7,7 +7,7 @@ use mathlib.Core.List.{List, [], _∷_, _++_, map}
 use mathlib.Core.Bool.{Bool, true, false, cond}
 use lib.Dec.{eqb}
 use lib.ListN.{length}
-use lib.IntN.{ℤ, pos, negsuc}
+use lib.IntN.{ℤ, pos}
 use Rattle.text.specs.Text.{Bytes, Line, bytes, Each}
 use Rattle.text.specs.Columns.{spaces, Allowed}
 use Rattle.numbers.specs.Number.{Between}
@@ -15,10 +15,10 @@ use Rattle.coordinates.specs.Agree.{coordinate-range}
 use Rattle.rules.specs.Forms.{Atom, AtomLine, Bond, BondLine, Kind, CHG, RAD, ISO, sameKind, Entry, EntryNumber, EntriesFrom, Property, DataHeader}
 use Rattle.rules.specs.Record.{Molecule, Item, Raw, Atoms, Bonds, Properties, Values, Items, Parts1to5, Record, SDfile, listed, NoPairTwice}
 use Rattle.rules.specs.Meaning.{chargesOfCodes, chargeOfCode, radicalOfCode, has, numberIn, given, atomNumbers, atomsFrom, bondNumbers, meaning}
-use Rattle.rules.specs.Canon.{atomRow, bondRow, bondOf, entriesFrom, canon, canonFile, FromTo, WritableAtom, WritableBond, Rows, GoodValues, GoodName, GoodItems}
+use Rattle.rules.specs.Canon.{atomRow, bondRow, bondOf, entriesFrom, canon, canonFile, FromTo, WritableAtom, WritableBond, Rows, GoodValues, GoodName, GoodItems, Good, AllGood}
 use Rattle.rules.specs.Fields.{Every, every-at}
 use Rattle.rules.specs.Entries.{not-among}
-use Rattle.rules.specs.CanonGood.{one-map, Good, AllGood, canon-file}
+use Rattle.rules.specs.CanonGood.{one-map, canon-file}
 
 -- ---- The numbers that property lines give
 
@@ -187,7 +187,7 @@ unfolding Each
 each-left P [] b h = tt
 each-left P (x ∷ a) b h = (h .0, each-left P a b (h .1))
 
-good-name : {l : Line} {name : Bytes} → DataHeader l name → GoodName name
+pub good-name : {l : Line} {name : Bytes} → DataHeader l name → GoodName name
 good-name {l} {name} h =
     let tail = bytes ">" ++ spaces (h .after) in
     let a = subst (Each Allowed) (h .parts) (h .line .allowed) in
@@ -196,7 +196,7 @@ good-name {l} {name} h =
     let d = each-right Allowed (bytes "<") (name ++ tail) c in
     record { allowed = each-left Allowed name tail d; low = h .name-low; high = h .name-high; no-open = h .no-open; no-close = h .no-close }
 
-good-values : {t vs r : List Line} → Values t vs r → GoodValues vs
+pub good-values : {t vs r : List Line} → Values t vs r → GoodValues vs
 unfolding GoodValues
 good-values (Values.end h) = tt
 good-values (Values.more h p) = (h, good-values p)

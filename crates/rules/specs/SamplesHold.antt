@@ -22,13 +22,13 @@ use Rattle.rules.specs.Forms.{FirstHeaderLine, Counts, CountsLine, Atom,
 use Rattle.rules.specs.Record.{Molecule, Item, SamePair, NewPair, NoPairTwice, listed, NotListed, NoAtomTwice, Atoms, Bonds, Values, Items, Parts1to5, Molfile, Record, SDfile, limit, Raw}
 use Rattle.rules.specs.Meaning.{Reading, meaning, atomsFrom, among, numberIn}
 use Rattle.rules.specs.Write.{joined, countsText, atomText, bondText, entryFields, propertyText, headerText, moleculeLines, itemsLines, recordLines, fileLines}
-use Rattle.rules.specs.Canon.{atomRow, bondRow, chargeCode, atomOf, bondOf, entriesFrom, eights, propertiesOf, canon, canonFile, WritableAtom, WritableBond, Rows, GoodHeaders, GoodValues, GoodItems}
+use Rattle.rules.specs.Canon.{atomRow, bondRow, chargeCode, atomOf, bondOf, entriesFrom, eights, propertiesOf, canon, canonFile, WritableAtom, WritableBond, Rows, GoodHeaders, GoodValues, GoodItems, Good, AllGood}
 use Rattle.rules.specs.OneForm.{one-counts}
 use Rattle.rules.specs.Unique.{parts-one}
 use Rattle.rules.specs.After.{parts-after}
 use Rattle.rules.specs.Fields.{Every, number-in}
 use Rattle.rules.specs.Written.{counts-written, GoodAtom, GoodAtoms, GoodBonds, GoodProperties, GoodEntries, GoodMolecule, molecule-written}
-use Rattle.rules.specs.CanonGood.{Good, canon-is-good, AllGood, canon-molfile, canon-file}
+use Rattle.rules.specs.CanonGood.{canon-is-good, canon-molfile, canon-file}
 use Rattle.rules.specs.CanonBack.{canon-back}
 use Rattle.rules.specs.Samples.{Sample, molfile, no-molfile, dead-molfile, sdfile, dead-sdfile, written, sized, Holds, samples, atom, bond, drum, far, ring, pure}
 use Rattle.rules.specs.Samples.{nineDigits, threeDigits, atomZero, tooManyBonds, allPairs, pairTwice, codesAlone, chargesListed, othersListed, valueLikeHeader, headerAsValue, noLinesMol, theSample, theSampleWritten, theSampleSized, noBlankLine, mixedWritten}

@@ -23,7 +23,7 @@ properties-one (Properties.end h) (Properties.more k q) = property-or-end k h
 properties-one (Properties.more h p) (Properties.end k) = property-or-end h k
 properties-one (Properties.more h p) (Properties.more k q) = let e = properties-one p q in (ap₂ _∷_ (one-property h k) (e .0), e .1)
 
-values-one : {t xs ys r q : List Line} → Values t xs r → Values t ys q → (xs ≡ ys) × (r ≡ q)
+pub values-one : {t xs ys r q : List Line} → Values t xs r → Values t ys q → (xs ≡ ys) × (r ≡ q)
 values-one (Values.end h) (Values.end k) = (refl, refl)
 values-one (Values.end h) (Values.more k q) = value-or-blank k h
 values-one (Values.more h p) (Values.end k) = value-or-blank h k
