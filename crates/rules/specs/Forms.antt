@@ -1,5 +1,5 @@
 -- The forms of lines: for each kind of line, what its columns hold and which value it then stands for. Columns that no field names may hold any allowed byte.
-use Prim.Native.Nat.{ℕ, zero, suc, _+_, _*_, _-_, _≤_}
+use Prim.Native.Nat.{ℕ, _+_, _*_, _-_, _≤_}
 use Prim.Native.String.{String}
 use mathlib.Core.Path.{_≡_}
 use mathlib.Core.Logic.{_≢_}
@@ -8,7 +8,7 @@ use mathlib.Core.Bool.{Bool, cond}
 use lib.Dec.{eqb}
 use lib.ListN.{length}
 use lib.IntN.{ℤ, pos, negsuc}
-use Rattle.text.specs.Text.{Bytes, Line, bytes, byte, Each, Without}
+use Rattle.text.specs.Text.{Bytes, Line, bytes, byte, Without}
 use Rattle.text.specs.Columns.{column, columns, spaces, Space, SpacesFrom, Has, Within, Blank}
 use Rattle.numbers.specs.Number.{Number, Signed, Listed, SignedListed}
 use Rattle.coordinates.specs.Coordinate.{Coordinate}

@@ -10,7 +10,7 @@ use Rattle.text.specs.Columns.{columnsFor, spaces, Has}
 use Rattle.numbers.specs.Agree.{one-number, one-listed, one-signed, one-signed-listed}
 use Rattle.coordinates.specs.Agree.{one-coordinate}
 use Rattle.symbols.specs.Agree.{one-symbol}
-use Rattle.rules.specs.Forms.{Counts, CountsLine, Atom, AtomLine, Bond, BondLine, Kind, CHG, RAD, ISO, tag, Entry, EntryNumber, EntryAt, EntriesFrom}
+use Rattle.rules.specs.Forms.{Counts, CountsLine, Atom, AtomLine, Bond, BondLine, Kind, CHG, RAD, ISO, tag, Entry, EntryNumber, EntriesFrom}
 use Rattle.rules.specs.Forms.{Property, PropertyLine, EndLine, DataHeader, BlankLine, ValueLine, RecordEnd}
 
 pub one-counts : {limit : ℕ} {l : Line} {c d : Counts} → CountsLine limit l c → CountsLine limit l d → c ≡ d

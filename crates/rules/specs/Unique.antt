@@ -23,7 +23,7 @@ properties-one (Properties.end h) (Properties.more k q) = property-or-end k h
 properties-one (Properties.more h p) (Properties.end k) = property-or-end h k
 properties-one (Properties.more h p) (Properties.more k q) = let e = properties-one p q in (ap₂ _∷_ (one-property h k) (e .0), e .1)
 
-values-one : {t xs ys r q : List Line} → Values t xs r → Values t ys q → (xs ≡ ys) × (r ≡ q)
+pub values-one : {t xs ys r q : List Line} → Values t xs r → Values t ys q → (xs ≡ ys) × (r ≡ q)
 values-one (Values.end h) (Values.end k) = (refl, refl)
 values-one (Values.end h) (Values.more k q) = value-or-blank k h
 values-one (Values.more h p) (Values.end k) = value-or-blank h k
@@ -38,7 +38,7 @@ items-one (Items.more h v p) (Items.more {r = r} {is = is} k w q) =
     let e = items-one p (subst (λ (x : List Line). Items x is r) (sym (f .1)) q) in
     (ap₂ _∷_ (λ i. record { name = one-header h k i; values = f .0 i }) (e .0), e .1)
 
-parts-one : {limit : ℕ} {t r q : List Line} {x y : Molecule} → Parts1to5 limit t x r → Parts1to5 limit t y q → (x ≡ y) × (r ≡ q)
+pub parts-one : {limit : ℕ} {t r q : List Line} {x y : Molecule} → Parts1to5 limit t x r → Parts1to5 limit t y q → (x ≡ y) × (r ≡ q)
 parts-one (Parts1to5.parts {h₁ = h₁} {h₂ = h₂} {h₃ = h₃} {c = c} f₁ g₁ k₁ c₁ a₁ b₁ n₁ p₁ o₁) (Parts1to5.parts {c = d} {t = t} {u = u} {v = v} {r = r} {xs = xs} {bs = bs} {ps = ps} f₂ g₂ k₂ c₂ a₂ b₂ n₂ p₂ o₂) =
     let e = one-counts c₁ c₂ in
     let a = atoms-one a₁ (subst (λ (z : Counts). Atoms (z .atoms) (z .atoms) t xs u) (sym e) a₂) in
