@@ -1,1 +1,10 @@
 pub mod Place
+pub mod Verdict
+pub mod From
+pub mod Twice
+pub mod Takes
+pub mod Sound
+pub mod Owed
+pub mod Onward
+pub mod Backward
+pub mod Runs
