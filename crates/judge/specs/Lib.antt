@@ -8,3 +8,10 @@ pub mod Owed
 pub mod Onward
 pub mod Backward
 pub mod Runs
+pub mod Agree
+pub mod Marked
+pub mod Witness
+pub mod Ahead
+pub mod Refuse
+pub mod Ending
+pub mod Promise

@@ -7,7 +7,7 @@ use native.Mathlib.Nat.{zero-add}
 use native.Mathlib.Omega.{arith}
 use Rattle.text.specs.Text.{Line}
 use Rattle.rules.specs.Forms.{Counts, Atom, Bond, Kind, Property}
-use Rattle.rules.specs.Record.{Headers, Molecule, listed, NoPairTwice, NoAtomTwice}
+use Rattle.rules.specs.Record.{Headers, Molecule, NewPair, listed, NoPairTwice, NoAtomTwice}
 use Rattle.judge.specs.Place.{FileKind, molfile, sdfile, toAtoms, toBonds, afterEnd}
 use Rattle.judge.specs.Place.{Place, first, second, third, counts, atoms, bonds, properties, over, items, values, Turn, next, done}
 use Rattle.judge.specs.Takes.{Takes}
@@ -52,9 +52,13 @@ module _ (kind : FileKind) (limit : ℕ) where
   sound-bonds hs c xs zero bs s = record { pairs = s .once; atoms = λ k. tt }
   sound-bonds hs c xs (suc k) bs s = s
 
+  pub sound-none : (c : Counts) → Room limit c (c .bonds) → SoundBonds limit c (c .bonds) []
+  unfolding NoPairTwice
+  sound-none c r = record { room = rw zero-add r; once = tt }
+
   pub sound-atoms : (hs : Headers) (c : Counts) (k : ℕ) (xs : List Atom) → Room limit c (c .bonds) → Sound kind limit (toAtoms hs c k xs)
-  unfolding toAtoms NoPairTwice
-  sound-atoms hs c zero xs r = sound-bonds hs c xs (c .bonds) [] (record { room = rw zero-add r; once = tt })
+  unfolding toAtoms
+  sound-atoms hs c zero xs r = sound-bonds hs c xs (c .bonds) [] (sound-none c r)
   sound-atoms hs c (suc k) xs r = r
 
   sound-end : (m : Molecule) → Sound kind limit (afterEnd kind m)
@@ -64,10 +68,10 @@ module _ (kind : FileKind) (limit : ℕ) where
       go molfile = tt
       go sdfile = tt
 
-  bond-more : (c : Counts) (k : ℕ) (bs : List Bond) (b : Bond) → Room limit c (length bs + suc k) → Room limit c (length (bs ++ (b ∷ [])) + k)
-  bond-more c k bs b r =
+  pub sound-bond : (c : Counts) (k : ℕ) (bs : List Bond) (b : Bond) → SoundBonds limit c (suc k) bs → NewPair b bs → SoundBonds limit c k (bs ++ (b ∷ []))
+  sound-bond c k bs b s new =
       let e : length bs + suc k ≡ length (bs ++ (b ∷ [])) + k = omega (arith, length-append bs (b ∷ [])) in
-      subst (Room limit c) e r
+      record { room = subst (Room limit c) e (s .room); once = pair-after b bs (s .once) new }
 
   -- each turn keeps it
   pub sound-takes : {p : Place} {l : Line} {t : Turn} → Sound kind limit p → Takes kind limit p l t → SoundTurn kind limit t
@@ -77,7 +81,7 @@ module _ (kind : FileKind) (limit : ℕ) where
   sound-takes s (Takes.counts-line {hs = hs} {c = c} h) = sound-atoms hs c (c .atoms) [] (record { few = h .atoms .high; pairs = h .pairs })
   sound-takes s (Takes.atom-line {hs = hs} {c = c} {k = k} {xs = xs} {a = a} h) = sound-atoms hs c k (xs ++ (a ∷ [])) s
   sound-takes s (Takes.bond-line {hs = hs} {c = c} {xs = xs} {k = k} {bs = bs} {b = b} h new) =
-      sound-bonds hs c xs k (bs ++ (b ∷ [])) (record { room = bond-more c k bs b (s .room); once = pair-after b bs (s .once) new })
+      sound-bonds hs c xs k (bs ++ (b ∷ [])) (sound-bond c k bs b s new)
   sound-takes s (Takes.property-line {ps = ps} {p = p} h new) = record { pairs = s .pairs; atoms = entries-after p ps (s .atoms) new }
   sound-takes s (Takes.end-line h) = sound-end _
   sound-takes s (Takes.data-header h) = tt
