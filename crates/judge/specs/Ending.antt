@@ -24,7 +24,8 @@ pub data Ending : FileKind → Place → List Raw → Bytes → ℕ → Verdict 
   good-mol : {m : Molecule} {xs : List Raw} {i : ℕ} → Ending molfile (over m) xs [] i (accepted (alone m ∷ []))
   short : {kind : FileKind} {p : Place} {xs : List Raw} {rest : Bytes} {i : ℕ} → ¬ Whole kind p rest → Ending kind p xs rest i (refused 19 i 1)
 
-isFirst : Place → Bool
+-- a record may begin at the place
+abbrev pub isFirst : Place → Bool
 isFirst first = true
 isFirst (second h₁) = false
 isFirst (third h₁ h₂) = false
@@ -36,7 +37,7 @@ isFirst (over m) = false
 isFirst (items m is) = false
 isFirst (values m is name vs) = false
 
-isOver : Place → Bool
+abbrev isOver : Place → Bool
 isOver first = false
 isOver (second h₁) = false
 isOver (third h₁ h₂) = false
@@ -50,18 +51,15 @@ isOver (values m is name vs) = false
 
 -- the place is another
 short-sd : {p : Place} {xs : List Raw} {i : ℕ} → isFirst p ≡ false → Ending sdfile p xs [] i (refused 19 i 1)
-unfolding isFirst
 short-sd {p = p} h = Ending.short {kind = sdfile} {p = p} (λ w. true-false (sym (ap isFirst (w .1 .0)) ∙ h))
 
 short-mol : {p : Place} {xs : List Raw} {i : ℕ} → isOver p ≡ false → Ending molfile p xs [] i (refused 19 i 1)
-unfolding isOver
 short-mol {p = p} h = Ending.short {kind = molfile} {p = p} (λ w. true-false (sym (ap isOver (w .1 .1)) ∙ h))
 
 unfinished : {kind : FileKind} {p : Place} {xs : List Raw} (b : ℕ) (bs : Bytes) {i : ℕ} → Ending kind p xs (b ∷ bs) i (refused 19 i 1)
 unfinished {kind = kind} {p = p} b bs = Ending.short {kind = kind} {p = p} {rest = b ∷ bs} (λ w. omega (arith, ap length (w .2)))
 
 ending-sd : (p : Place) (xs : List Raw) (i : ℕ) → Ending sdfile p xs [] i (endSDfile p xs i)
-unfolding isFirst
 ending-sd first xs i = Ending.good-sd
 ending-sd (second h₁) xs i = short-sd refl
 ending-sd (third h₁ h₂) xs i = short-sd refl
@@ -74,7 +72,6 @@ ending-sd (items m is) xs i = short-sd refl
 ending-sd (values m is name vs) xs i = short-sd refl
 
 ending-mol : (p : Place) (xs : List Raw) (i : ℕ) → Ending molfile p xs [] i (endMolfile p i)
-unfolding isOver
 ending-mol first xs i = short-mol refl
 ending-mol (second h₁) xs i = short-mol refl
 ending-mol (third h₁ h₂) xs i = short-mol refl

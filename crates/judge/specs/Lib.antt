@@ -15,3 +15,8 @@ pub mod Ahead
 pub mod Refuse
 pub mod Ending
 pub mod Promise
+pub mod One
+pub mod Front
+pub mod OneRun
+pub mod OneAgree
+pub mod Walk

@@ -49,11 +49,11 @@ module _ (kind : FileKind) (limit : ℕ) where
   pub run-viable : limit ≤ 999 → (ls : List Line) (q : Place) (ys : List Raw) → run kind limit first [] 1 ls ≡ at q ys → Viable (AFile kind limit) ls
   run-viable small ls q ys h =
       let a = ahead kind limit small q (sound-run kind limit first [] 1 ls q ys tt h) in
-      let r = rewind kind limit first [] 1 ls q ys tt h (a .t) (a .rs) (a .from) in
+      let r = rewind kind limit first [] 1 ls q ys tt h (a .t) (a .x ∷ []) (a .from) in
       (a .t, from-first kind limit (ls ++ a .t) (r .zs) (r .from))
 
   -- a line that it refuses ends that
-  run-dead : (ls : List Line) (q : Place) (ys : List Raw) (l : Line) (e c : ℕ) →
+  pub run-dead : (ls : List Line) (q : Place) (ys : List Raw) (l : Line) (e c : ℕ) →
       run kind limit first [] 1 ls ≡ at q ys → turnOf kind limit q l ≡ bad e c → Dead (AFile kind limit) (ls ++ (l ∷ []))
   run-dead ls q ys l e c h refused more f =
       let g = file-run ((ls ++ (l ∷ [])) ++ more) f in

@@ -26,9 +26,14 @@ pub record SoundProperties (bs : List Bond) (ps : List Property) : Type 0 where
   pub pairs : NoPairTwice bs
   pub atoms : (k : Kind) → NoAtomTwice (listed k ps)
 
+-- a molfile has no items; in an SDfile they follow `M  END`
 abbrev pub SoundOver : FileKind → Type 0
 SoundOver molfile = Unit {0}
 SoundOver sdfile = ⊥
+
+abbrev pub SoundItems : FileKind → Type 0
+SoundItems molfile = ⊥
+SoundItems sdfile = Unit {0}
 
 abbrev pub Sound : FileKind → ℕ → Place → Type 0
 Sound kind limit first = Unit {0}
@@ -39,8 +44,8 @@ Sound kind limit (atoms hs c k xs) = Room limit c (c .bonds)
 Sound kind limit (bonds hs c xs k bs) = SoundBonds limit c (suc k) bs
 Sound kind limit (properties hs c xs bs ps) = SoundProperties bs ps
 Sound kind limit (over m) = SoundOver kind
-Sound kind limit (items m is) = Unit {0}
-Sound kind limit (values m is name vs) = Unit {0}
+Sound kind limit (items m is) = SoundItems kind
+Sound kind limit (values m is name vs) = SoundItems kind
 
 abbrev pub SoundTurn : FileKind → ℕ → Turn → Type 0
 SoundTurn kind limit (next q) = Sound kind limit q
@@ -84,7 +89,7 @@ module _ (kind : FileKind) (limit : ℕ) where
       sound-bonds hs c xs k (bs ++ (b ∷ [])) (sound-bond c k bs b s new)
   sound-takes s (Takes.property-line {ps = ps} {p = p} h new) = record { pairs = s .pairs; atoms = entries-after p ps (s .atoms) new }
   sound-takes s (Takes.end-line h) = sound-end _
-  sound-takes s (Takes.data-header h) = tt
+  sound-takes s (Takes.data-header h) = s
   sound-takes s (Takes.record-end h) = tt
-  sound-takes s (Takes.value-line h) = tt
-  sound-takes s (Takes.blank-line h) = tt
+  sound-takes s (Takes.value-line h) = s
+  sound-takes s (Takes.blank-line h) = s
