@@ -20,3 +20,4 @@ pub mod Front
 pub mod OneRun
 pub mod OneAgree
 pub mod Walk
+pub mod Samples
