@@ -28,7 +28,8 @@ module _ (kind : FileKind) (limit : ℕ) (small : limit ≤ 999) where
 
   -- ---- Parts 1 to 5, where a file can be finished after `M  END`
   module _ (after : (m : Molecule) → Ahead kind limit (afterEnd kind m)) where
-    ahead-properties : (hs : Headers) (c : Counts) (xs : List Atom) (bs : List Bond) (ps : List Property) → SoundProperties bs ps → Ahead kind limit (properties hs c xs bs ps)
+    ahead-properties : (hs : Headers) (c : Counts) (xs : List Atom) (bs : List Bond) (ps : List Property) → SoundProperties bs ps →
+        Ahead kind limit (properties hs c xs bs ps)
     ahead-properties hs c xs bs ps s = ahead-by s (Takes.end-line end-line) (after _)
 
     ahead-bonds : (hs : Headers) (c : Counts) (xs : List Atom) (k : ℕ) (bs : List Bond) → SoundBonds limit c k bs → Ahead kind limit (toBonds hs c xs k bs)

@@ -20,4 +20,5 @@ pub mod Front
 pub mod OneRun
 pub mod OneAgree
 pub mod Walk
+pub mod WalkText
 pub mod Samples

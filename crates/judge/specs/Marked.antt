@@ -22,9 +22,12 @@ use Rattle.symbols.specs.declared.SymbolRead.{SymbolRead}
 use Rattle.rules.specs.Forms.{stereos, centres, Kind, CHG, RAD, ISO, tag}
 use Rattle.pairs.specs.Taken.{pairTaken}
 use Rattle.lines.specs.Got.{Got, got, bad, then, need}
-use Rattle.lines.specs.Field.{numberGot, numberAt, signedGot, signedAt, elem, listedAt, elemSigned, signedListedAt, coordinateGot, coordinateAt, symbolGot, symbolAt, spaceAt, noneFound, spacesFrom, has, within}
-use Rattle.lines.specs.Judge.{reserved, firstHeaderOf, countsOf, atomOf, bondOf, entryNumberAt, entriesOf, listOf, propertyOf, HeaderRead, named, none, headerOf, itemOf, titleGot, isClose, valueOf, notHeader, blankb, begins}
-use Rattle.judge.specs.Place.{FileKind, Place, first, second, third, counts, atoms, bonds, properties, over, items, values, seenIn, lineOf, longest, turnOf}
+use Rattle.lines.specs.Field.{numberGot, numberAt, signedGot, signedAt, elem, listedAt, elemSigned, signedListedAt, coordinateGot, coordinateAt, symbolGot}
+use Rattle.lines.specs.Field.{symbolAt, spaceAt, noneFound, spacesFrom, has, within}
+use Rattle.lines.specs.Judge.{reserved, firstHeaderOf, countsOf, atomOf, bondOf, entryNumberAt, entriesOf, listOf, propertyOf, HeaderRead, named, none}
+use Rattle.lines.specs.Judge.{headerOf, itemOf, titleGot, isClose, valueOf, notHeader, blankb, begins}
+use Rattle.judge.specs.Place.{FileKind, Place, first, second, third, counts, atoms, bonds, properties, over, items, values, seenIn, lineOf, longest}
+use Rattle.judge.specs.Place.{turnOf}
 
 -- a value, or a refusal of such a number at such a column
 pub data Marked {A : Type 0} : Got A → Type 0 where

@@ -3,7 +3,8 @@ use Prim.Native.Nat.{ℕ, suc, _+_, _≤_}
 use mathlib.Core.Path.{_≡_, sym, ap, _∙_, subst}
 use mathlib.Core.Logic.{_↔_}
 use mathlib.Core.List.{List, [], _∷_, _++_, append-nil}
-use lib.ListN.{length, length-append}
+use lib.ListN.{length, drop, length-append}
+use lib.Seq.{drop-at}
 use native.Mathlib.Omega.{arith}
 use Rattle.text.specs.Text.{Line}
 use Rattle.rules.specs.Record.{Raw, Record, SDfile}
@@ -39,6 +40,13 @@ module _ (limit : ℕ) where
       let s = same-one ls (whole x k rest) h in
       let r = record-before (one-record (accepts-sd limit (s .0) (x ∷ []) .0 (s .3))) rest in
       (subst (λ (t : List Line). Record limit t x rest) (sym (s .1)) r, omega (arith, s .2, ap length (s .1), length-append (s .0) rest))
+
+  -- the lines after a record are those past its number of lines
+  pub one-rest : (ls : List Line) (x : Raw) (k : ℕ) (rest : List Line) → oneRecord limit ls ≡ whole x k rest → rest ≡ drop k ls
+  one-rest ls x k rest h =
+      let s = same-one ls (whole x k rest) h in
+      let n : length (s .0) ≡ k = omega (arith, s .2) in
+      sym (ap (drop k) (s .1) ∙ drop-at (s .0) rest k n)
 
   -- the run over a record's own lines
   record-run : {ls : List Line} {x : Raw} → Record limit ls x [] → run sdfile limit first [] 1 ls ≡ at first (x ∷ [])
@@ -94,7 +102,8 @@ module _ (limit : ℕ) where
       let s = same-one ls (short k) h in
       (s .1 ∙ omega arith, open-yet small ls (s .0) (s .2), λ r. none (s .0) (s .2) (own (r .2)))
     where
-      none : {x : Raw} {rest : List Line} (q : Place) → run sdfile limit first [] 1 ls ≡ at q [] → ((before : List Line) × (ls ≡ before ++ rest) × Record limit before x []) → ⊥
+      none : {x : Raw} {rest : List Line} (q : Place) → run sdfile limit first [] 1 ls ≡ at q [] →
+          ((before : List Line) × (ls ≡ before ++ rest) × Record limit before x []) → ⊥
       none {x = x} {rest = rest} q g o =
           let r = run-append sdfile limit first [] 1 (o .0) first (x ∷ []) (record-run (o .2)) rest in
           omega (arith, grows limit first (x ∷ []) (1 + length (o .0)) rest q [] (sym r ∙ ap (run sdfile limit first [] 1) (sym (o .1)) ∙ g))

@@ -40,7 +40,8 @@ module _ (limit : ℕ) where
   Same p xs i j ls (short k) = (q : Place) × (k ≡ j + length ls) × (run sdfile limit p xs i ls ≡ at q xs)
 
   -- a line in front
-  same-next : (p q : Place) (xs : List Raw) (i j : ℕ) (l : Line) (t : List Line) (o : One) → turnOf sdfile limit p l ≡ got (next q) → Same q xs (suc i) (suc j) t o → Same p xs i j (l ∷ t) o
+  same-next : (p q : Place) (xs : List Raw) (i j : ℕ) (l : Line) (t : List Line) (o : One) → turnOf sdfile limit p l ≡ got (next q) →
+      Same q xs (suc i) (suc j) t o → Same p xs i j (l ∷ t) o
   same-next p q xs i j l t (whole x k rest) e s =
       (l ∷ (s .0), ap (λ (y : List Line). l ∷ y) (s .1), omega (arith, s .2), run-next sdfile limit p q xs i l (s .0) e ∙ s .3)
   same-next p q xs i j l t (refused n k c) e s =
@@ -52,7 +53,8 @@ module _ (limit : ℕ) where
   same p xs i j [] = (p, omega arith, refl)
   same p xs i j (l ∷ t) = go (λ (q : Place). same q xs (suc i) (suc j) t) (turnOf sdfile limit p l) refl
     where
-      go : ((q : Place) → Same q xs (suc i) (suc j) t (oneFrom limit q (suc j) t)) → (g : Got Turn) → turnOf sdfile limit p l ≡ g → Same p xs i j (l ∷ t) (oneFrom limit p j (l ∷ t))
+      go : ((q : Place) → Same q xs (suc i) (suc j) t (oneFrom limit q (suc j) t)) → (g : Got Turn) → turnOf sdfile limit p l ≡ g →
+          Same p xs i j (l ∷ t) (oneFrom limit p j (l ∷ t))
       go r (got (next q)) e =
           subst (Same p xs i j (l ∷ t)) (sym (one-next p q j l t e)) (same-next p q xs i j l t (oneFrom limit q (suc j) t) e (r q))
       go r (got (done x)) e = subst (Same p xs i j (l ∷ t)) (sym (one-done p x j l t e)) (l ∷ [], refl, omega arith, run-done sdfile limit p x xs i l [] e)
@@ -94,9 +96,10 @@ module _ (limit : ℕ) where
   pub grows : (p : Place) (xs : List Raw) (i : ℕ) (s : List Line) (q : Place) (ys : List Raw) → run sdfile limit p xs i s ≡ at q ys → length xs ≤ length ys
   unfolding run
   grows p xs i [] q ys h = omega (arith, ap length (at-records h))
-  grows p xs i (l ∷ s) q ys h = go (λ (p′ : Place) (xs′ : List Raw) (h′ : run sdfile limit p′ xs′ (suc i) s ≡ at q ys). grows p′ xs′ (suc i) s q ys h′) (turnOf sdfile limit p l) refl
+  grows p xs i (l ∷ s) q ys h = go (λ p′ xs′ h′. grows p′ xs′ (suc i) s q ys h′) (turnOf sdfile limit p l) refl
     where
-      go : ((p′ : Place) (xs′ : List Raw) → run sdfile limit p′ xs′ (suc i) s ≡ at q ys → length xs′ ≤ length ys) → (g : Got Turn) → turnOf sdfile limit p l ≡ g → length xs ≤ length ys
+      go : ((p′ : Place) (xs′ : List Raw) → run sdfile limit p′ xs′ (suc i) s ≡ at q ys → length xs′ ≤ length ys) → (g : Got Turn) →
+          turnOf sdfile limit p l ≡ g → length xs ≤ length ys
       go r (got (next p′)) e = r p′ xs (sym (run-next sdfile limit p p′ xs i l s e) ∙ h)
       go r (got (done x)) e =
           let m = r first (xs ++ (x ∷ [])) (sym (run-done sdfile limit p x xs i l s e) ∙ h) in
@@ -105,7 +108,8 @@ module _ (limit : ℕ) where
 
   -- the same, where the next line goes on within a record or ends it
   on : (p : Place) (xs : List Raw) (i : ℕ) (l : Line) (s : List Line) (ys : List Raw) →
-      ((q : Place) → isFirst q ≡ false → run sdfile limit q xs (suc i) s ≡ at first ys → length xs < length ys) → run sdfile limit p xs i (l ∷ s) ≡ at first ys → length xs < length ys
+      ((q : Place) → isFirst q ≡ false → run sdfile limit q xs (suc i) s ≡ at first ys → length xs < length ys) →
+      run sdfile limit p xs i (l ∷ s) ≡ at first ys → length xs < length ys
   on p xs i l s ys r h = go (turnOf sdfile limit p l) refl
     where
       go : (g : Got Turn) → turnOf sdfile limit p l ≡ g → length xs < length ys
@@ -115,13 +119,15 @@ module _ (limit : ℕ) where
           omega (arith, length-append xs (x ∷ []))
       go (bad n c) e = at-stopped (sym h ∙ run-stop sdfile limit p xs i l s n c e)
 
-  grows-inside : (p : Place) (xs : List Raw) (i : ℕ) (s : List Line) (ys : List Raw) → isFirst p ≡ false → run sdfile limit p xs i s ≡ at first ys → length xs < length ys
+  grows-inside : (p : Place) (xs : List Raw) (i : ℕ) (s : List Line) (ys : List Raw) → isFirst p ≡ false → run sdfile limit p xs i s ≡ at first ys →
+      length xs < length ys
   unfolding run
   grows-inside p xs i [] ys inside h = true-false (sym (ap isFirst (at-place h)) ∙ inside)
   grows-inside p xs i (l ∷ s) ys inside h =
-      on p xs i l s ys (λ (q : Place) (f : isFirst q ≡ false) (g : run sdfile limit q xs (suc i) s ≡ at first ys). grows-inside q xs (suc i) s ys f g) h
+      on p xs i l s ys (λ q f g. grows-inside q xs (suc i) s ys f g) h
 
-  pub grows-more : (p : Place) (xs : List Raw) (i : ℕ) (l : Line) (s : List Line) (ys : List Raw) → run sdfile limit p xs i (l ∷ s) ≡ at first ys → length xs < length ys
+  pub grows-more : (p : Place) (xs : List Raw) (i : ℕ) (l : Line) (s : List Line) (ys : List Raw) → run sdfile limit p xs i (l ∷ s) ≡ at first ys →
+      length xs < length ys
   grows-more p xs i l s ys h = on p xs i l s ys (λ q f g. grows-inside q xs (suc i) s ys f g) h
 
   -- ---- A run that ends with one record more, read as one record whatever follows
@@ -135,18 +141,21 @@ module _ (limit : ℕ) where
     pub lines : k + 1 ≡ j + length before
     pub is : oneFrom limit p j (before ++ rest) ≡ whole x k rest
 
-  pub follow : (p : Place) (xs : List Raw) (i j : ℕ) (before rest : List Line) (x : Raw) → run sdfile limit p xs i before ≡ at first (xs ++ (x ∷ [])) → Follows p j before rest x
+  pub follow : (p : Place) (xs : List Raw) (i j : ℕ) (before rest : List Line) (x : Raw) → run sdfile limit p xs i before ≡ at first (xs ++ (x ∷ [])) →
+      Follows p j before rest x
   unfolding run
   follow p xs i j [] rest x h = absurd (omega (arith, ap length (at-records h), length-append xs (x ∷ [])))
-  follow p xs i j (l ∷ s) rest x h = go (λ (q : Place) (g : run sdfile limit q xs (suc i) s ≡ at first (xs ++ (x ∷ []))). follow q xs (suc i) (suc j) s rest x g) (turnOf sdfile limit p l) refl
+  follow p xs i j (l ∷ s) rest x h = go (λ q g. follow q xs (suc i) (suc j) s rest x g) (turnOf sdfile limit p l) refl
     where
-      over : (y : Raw) (s : List Line) → turnOf sdfile limit p l ≡ got (done y) → run sdfile limit first (xs ++ (y ∷ [])) (suc i) s ≡ at first (xs ++ (x ∷ [])) → Follows p j (l ∷ s) rest x
+      over : (y : Raw) (s : List Line) → turnOf sdfile limit p l ≡ got (done y) →
+          run sdfile limit first (xs ++ (y ∷ [])) (suc i) s ≡ at first (xs ++ (x ∷ [])) → Follows p j (l ∷ s) rest x
       over y [] e g =
           record { k = j; lines = omega arith; is = one-done p y j l rest e ∙ ap (λ (z : Raw). whole z j rest) (last-same xs y x (at-records g)) }
       over y (m ∷ s) e g =
           absurd (omega (arith, grows-more first (xs ++ (y ∷ [])) (suc i) m s (xs ++ (x ∷ [])) g, length-append xs (y ∷ []), length-append xs (x ∷ [])))
 
-      go : ((q : Place) → run sdfile limit q xs (suc i) s ≡ at first (xs ++ (x ∷ [])) → Follows q (suc j) s rest x) → (g : Got Turn) → turnOf sdfile limit p l ≡ g → Follows p j (l ∷ s) rest x
+      go : ((q : Place) → run sdfile limit q xs (suc i) s ≡ at first (xs ++ (x ∷ [])) → Follows q (suc j) s rest x) → (g : Got Turn) →
+          turnOf sdfile limit p l ≡ g → Follows p j (l ∷ s) rest x
       go r (got (next q)) e =
           let f = r q (sym (run-next sdfile limit p q xs i l s e) ∙ h) in
           record { k = f .k; lines = omega (arith, f .lines); is = one-next p q j l (s ++ rest) e ∙ f .is }

@@ -26,7 +26,8 @@ module _ (kind : FileKind) (limit : ℕ) where
       FromAtoms kind limit hs c (suc k) xs (l ∷ t) rs → Onward kind limit (atoms hs c k xs) l t rs
   onward-atoms hs c k xs l t rs f = go (f .here) (f .after)
     where
-      go : {ys : List Atom} {u : List Line} → Atoms (c .atoms) (suc k) (l ∷ t) ys u → FromBonds kind limit hs c (xs ++ ys) (c .bonds) [] u rs → Onward kind limit (atoms hs c k xs) l t rs
+      go : {ys : List Atom} {u : List Line} → Atoms (c .atoms) (suc k) (l ∷ t) ys u → FromBonds kind limit hs c (xs ++ ys) (c .bonds) [] u rs →
+          Onward kind limit (atoms hs c k xs) l t rs
       go {u = u} (Atoms.more {a = a} {xs = ys} h p) g =
           record {
             turn = next (toAtoms hs c k (xs ++ (a ∷ [])));
@@ -38,7 +39,8 @@ module _ (kind : FileKind) (limit : ℕ) where
       FromBonds kind limit hs c xs (suc k) bs (l ∷ t) rs → Onward kind limit (bonds hs c xs k bs) l t rs
   onward-bonds hs c xs k bs l t rs f = go (f .here) (f .once) (f .after)
     where
-      go : {ys : List Bond} {u : List Line} → Bonds (c .atoms) (suc k) (l ∷ t) ys u → NoPairTwice (bs ++ ys) → FromProperties kind limit hs c xs (bs ++ ys) [] u rs →
+      go : {ys : List Bond} {u : List Line} → Bonds (c .atoms) (suc k) (l ∷ t) ys u → NoPairTwice (bs ++ ys) →
+          FromProperties kind limit hs c xs (bs ++ ys) [] u rs →
           Onward kind limit (bonds hs c xs k bs) l t rs
       go {u = u} (Bonds.more {b = b} {bs = ys} h p) n g =
           record {
@@ -68,7 +70,8 @@ module _ (kind : FileKind) (limit : ℕ) where
       FromItems kind limit m is (l ∷ t) rs → Onward kind limit (items m is) l t rs
   onward-items m is l t rs f = go (f .here) (f .after) (f .all)
     where
-      go : {js : List Item} {u : List Line} {ys : List Raw} → Items (l ∷ t) js u → FromFirst kind limit u ys → rs ≡ record { molecule = m; items = is ++ js } ∷ ys →
+      go : {js : List Item} {u : List Line} {ys : List Raw} → Items (l ∷ t) js u → FromFirst kind limit u ys →
+          rs ≡ record { molecule = m; items = is ++ js } ∷ ys →
           Onward kind limit (items m is) l t rs
       go {ys = ys} (Items.end h) g e = record { turn = done (record { molecule = m; items = is }); takes = Takes.record-end h; left = (ys, g, rw append-nil at e) }
       go {u = u} {ys = ys} (Items.more {name = name} {u = w} {vs = vs} {is = js} h v p) g e =
@@ -107,7 +110,8 @@ first-parts sdfile limit l t rs f = go f
     go (SDfile.more {xs = ys} (Record.record-of {u = u} {r = r} {m = m} {is = is} p i) f) =
         record { m = m; u = u; here = p; after = record { js = is; u = r; ys = ys; here = i; after = f; all = refl } }
 
-onward-over : (kind : FileKind) (limit : ℕ) (m : Molecule) (l : Line) (t : List Line) (rs : List Raw) → FromOver kind m (l ∷ t) rs → Onward kind limit (over m) l t rs
+onward-over : (kind : FileKind) (limit : ℕ) (m : Molecule) (l : Line) (t : List Line) (rs : List Raw) → FromOver kind m (l ∷ t) rs →
+    Onward kind limit (over m) l t rs
 onward-over molfile limit m l t rs f = absurd (omega (arith, ap length (f .0)))
 onward-over sdfile limit m l t rs f = absurd f
 

@@ -22,7 +22,8 @@ module _ (kind : FileKind) (limit : ℕ) where
   unfolding toBonds
   from-bonds hs c xs zero bs t rs f = go (f .here) (f .after)
     where
-      go : {ys : List Bond} {u : List Line} → Bonds (c .atoms) zero t ys u → FromProperties kind limit hs c xs (bs ++ ys) [] u rs → FromProperties kind limit hs c xs bs [] t rs
+      go : {ys : List Bond} {u : List Line} → Bonds (c .atoms) zero t ys u → FromProperties kind limit hs c xs (bs ++ ys) [] u rs →
+          FromProperties kind limit hs c xs bs [] t rs
       go Bonds.none g = rw append-nil at g
   from-bonds hs c xs (suc k) bs t rs f = f
 
@@ -37,7 +38,8 @@ module _ (kind : FileKind) (limit : ℕ) where
   unfolding toAtoms
   from-atoms hs c zero xs t rs f = go (f .here) (f .after)
     where
-      go : {ys : List Atom} {u : List Line} → Atoms (c .atoms) zero t ys u → FromBonds kind limit hs c (xs ++ ys) (c .bonds) [] u rs → From kind limit (toBonds hs c xs (c .bonds) []) t rs
+      go : {ys : List Atom} {u : List Line} → Atoms (c .atoms) zero t ys u → FromBonds kind limit hs c (xs ++ ys) (c .bonds) [] u rs →
+          From kind limit (toBonds hs c xs (c .bonds) []) t rs
       go Atoms.none g = from-bonds hs c xs (c .bonds) [] t rs (rw append-nil at g)
   from-atoms hs c (suc k) xs t rs f = f
 

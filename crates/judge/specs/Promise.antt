@@ -60,7 +60,8 @@ module _ (limit : ℕ) (s : Bytes) where
 pub data Refusal (kind : FileKind) (limit : ℕ) (s : Bytes) : ℕ → ℕ → ℕ → Type 0 where
   line : {ls : List Line} {rest : Bytes} {e i column : ℕ} → Lines s ls rest → (3 ≤ e) × (e ≤ 18) → 1 ≤ column →
       FirstDead (AFile kind limit) ls i → Refusal kind limit s e i column
-  cut-short : {ls : List Line} {rest : Bytes} → Lines s ls rest → Viable (AFile kind limit) ls → ¬ Good kind limit s → Refusal kind limit s 19 (suc (length ls)) 1
+  cut-short : {ls : List Line} {rest : Bytes} → Lines s ls rest → Viable (AFile kind limit) ls → ¬ Good kind limit s →
+      Refusal kind limit s 19 (suc (length ls)) 1
 
 module _ (kind : FileKind) (limit : ℕ) (s : Bytes) where
   not-good : {ls : List Line} {rest : Bytes} → Lines s ls rest → ¬ ((rest ≡ []) × AFile kind limit ls) → ¬ Good kind limit s

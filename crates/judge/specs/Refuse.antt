@@ -77,7 +77,8 @@ module _ (kind : FileKind) (limit : ℕ) where
       }
 
   -- lines that end where no file may end are no file
-  pub run-short : (ls : List Line) (q : Place) (ys : List Raw) → run kind limit first [] 1 ls ≡ at q ys → ((zs : List Raw) → ¬ End kind q zs) → ¬ AFile kind limit ls
+  pub run-short : (ls : List Line) (q : Place) (ys : List Raw) → run kind limit first [] 1 ls ≡ at q ys → ((zs : List Raw) → ¬ End kind q zs) →
+      ¬ AFile kind limit ls
   run-short ls q ys h no-end f =
       let g = file-run ls f in
       no-end (g .zs) (subst (λ (p : Place). End kind p (g .zs)) (at-place (sym (g .is) ∙ h)) (g .ends))

@@ -110,9 +110,10 @@ module _ (kind : FileKind) (limit : ℕ) where
   complete p xs i [] rs f = record { q = p; ys = []; zs = rs; is = rw (append-nil xs); ends = at-end kind limit p rs f; all = refl }
   complete p xs i (l ∷ t) rs f =
       let o = onward kind limit p l t rs f in
-      go (λ (q : Place) (ys : List Raw) (zs : List Raw) (g : From kind limit q t zs). complete q ys (suc i) t zs g) (o .turn) (takes-turn kind limit (o .takes)) (o .left)
+      go (λ q ys zs g. complete q ys (suc i) t zs g) (o .turn) (takes-turn kind limit (o .takes)) (o .left)
     where
-      go : ((q : Place) (ys zs : List Raw) → From kind limit q t zs → Complete q ys (suc i) t zs) → (turn : Turn) → turnOf kind limit p l ≡ got turn → Left kind limit turn t rs → Complete p xs i (l ∷ t) rs
+      go : ((q : Place) (ys zs : List Raw) → From kind limit q t zs → Complete q ys (suc i) t zs) → (turn : Turn) → turnOf kind limit p l ≡ got turn →
+          Left kind limit turn t rs → Complete p xs i (l ∷ t) rs
       go r (next q) e f =
           let c = r q xs rs f in
           record { q = c .q; ys = c .ys; zs = c .zs; is = run-next p q xs i l t e ∙ c .is; ends = c .ends; all = c .all }
@@ -130,12 +131,14 @@ module _ (kind : FileKind) (limit : ℕ) where
   -- ---- And back
 
   -- a run from a sound place ends at one
-  pub sound-run : (p : Place) (xs : List Raw) (i : ℕ) (s : List Line) (q : Place) (ys : List Raw) → Sound kind limit p → run kind limit p xs i s ≡ at q ys → Sound kind limit q
+  pub sound-run : (p : Place) (xs : List Raw) (i : ℕ) (s : List Line) (q : Place) (ys : List Raw) → Sound kind limit p → run kind limit p xs i s ≡ at q ys →
+      Sound kind limit q
   unfolding run
   sound-run p xs i [] q ys sound h = subst (Sound kind limit) (at-place h) sound
-  sound-run p xs i (l ∷ s) q ys sound h = go (λ (p′ : Place) (xs′ : List Raw) (w : Sound kind limit p′) (h′ : run kind limit p′ xs′ (suc i) s ≡ at q ys). sound-run p′ xs′ (suc i) s q ys w h′) (turnOf kind limit p l) refl
+  sound-run p xs i (l ∷ s) q ys sound h = go (λ p′ xs′ w h′. sound-run p′ xs′ (suc i) s q ys w h′) (turnOf kind limit p l) refl
     where
-      go : ((p′ : Place) (xs′ : List Raw) → Sound kind limit p′ → run kind limit p′ xs′ (suc i) s ≡ at q ys → Sound kind limit q) → (x : Got Turn) → turnOf kind limit p l ≡ x → Sound kind limit q
+      go : ((p′ : Place) (xs′ : List Raw) → Sound kind limit p′ → run kind limit p′ xs′ (suc i) s ≡ at q ys → Sound kind limit q) → (x : Got Turn) →
+          turnOf kind limit p l ≡ x → Sound kind limit q
       go r (got (next p′)) e = r p′ xs (sound-takes kind limit sound (turn-takes kind limit p l (next p′) e)) (sym (run-next p p′ xs i l s e) ∙ h)
       go r (got (done x)) e = r first (xs ++ (x ∷ [])) tt (sym (run-done p x xs i l s e) ∙ h)
       go r (bad n c) e = at-stopped (sym h ∙ run-stop p xs i l s n c e)
@@ -152,9 +155,10 @@ module _ (kind : FileKind) (limit : ℕ) where
   rewind p xs i [] q ys sound h t rs f =
       record { zs = rs; all = ap (λ (x : List Raw). x ++ rs) (at-records h); from = subst (λ (x : Place). From kind limit x t rs) (sym (at-place h)) f }
   rewind p xs i (l ∷ s) q ys sound h t rs f =
-      go (λ (p′ : Place) (xs′ : List Raw) (w : Sound kind limit p′) (h′ : run kind limit p′ xs′ (suc i) s ≡ at q ys). rewind p′ xs′ (suc i) s q ys w h′ t rs f) (turnOf kind limit p l) refl
+      go (λ p′ xs′ w h′. rewind p′ xs′ (suc i) s q ys w h′ t rs f) (turnOf kind limit p l) refl
     where
-      go : ((p′ : Place) (xs′ : List Raw) → Sound kind limit p′ → run kind limit p′ xs′ (suc i) s ≡ at q ys → Rewound p′ xs′ s ys t rs) → (x : Got Turn) → turnOf kind limit p l ≡ x → Rewound p xs (l ∷ s) ys t rs
+      go : ((p′ : Place) (xs′ : List Raw) → Sound kind limit p′ → run kind limit p′ xs′ (suc i) s ≡ at q ys → Rewound p′ xs′ s ys t rs) → (x : Got Turn) →
+          turnOf kind limit p l ≡ x → Rewound p xs (l ∷ s) ys t rs
       go r (got (next p′)) e =
           let k = turn-takes kind limit p l (next p′) e in
           let a = r p′ xs (sound-takes kind limit sound k) (sym (run-next p p′ xs i l s e) ∙ h) in
@@ -172,7 +176,7 @@ module _ (kind : FileKind) (limit : ℕ) where
   unfolding run
   run-append p xs i [] q ys h t = let e : i + 0 ≡ i = omega arith in rw (e, at-place h, at-records h)
   run-append p xs i (l ∷ s) q ys h t =
-      go (λ (p′ : Place) (xs′ : List Raw) (h′ : run kind limit p′ xs′ (suc i) s ≡ at q ys). run-append p′ xs′ (suc i) s q ys h′ t) (turnOf kind limit p l) refl
+      go (λ p′ xs′ h′. run-append p′ xs′ (suc i) s q ys h′ t) (turnOf kind limit p l) refl
     where
       go : ((p′ : Place) (xs′ : List Raw) → run kind limit p′ xs′ (suc i) s ≡ at q ys → run kind limit p′ xs′ (suc i) (s ++ t) ≡ run kind limit q ys (suc i + length s) t) →
           (x : Got Turn) → turnOf kind limit p l ≡ x → run kind limit p xs i (l ∷ (s ++ t)) ≡ run kind limit q ys (i + suc (length s)) t
@@ -215,9 +219,10 @@ module _ (kind : FileKind) (limit : ℕ) where
   unfolding run
   stop p xs i [] e k c h = at-stopped h
   stop p xs i (l ∷ t) e k c h =
-      go (λ (q : Place) (ys : List Raw) (g : run kind limit q ys (suc i) t ≡ stopped e k c). stop q ys (suc i) t e k c g) (turnOf kind limit p l) refl
+      go (λ q ys g. stop q ys (suc i) t e k c g) (turnOf kind limit p l) refl
     where
-      go : ((q : Place) (ys : List Raw) → run kind limit q ys (suc i) t ≡ stopped e k c → Stop q ys (suc i) t e k c) → (x : Got Turn) → turnOf kind limit p l ≡ x → Stop p xs i (l ∷ t) e k c
+      go : ((q : Place) (ys : List Raw) → run kind limit q ys (suc i) t ≡ stopped e k c → Stop q ys (suc i) t e k c) → (x : Got Turn) →
+          turnOf kind limit p l ≡ x → Stop p xs i (l ∷ t) e k c
       go r (got (next q)) m =
           later p q xs xs i l t e k c (λ s. run-next p q xs i l s m) (r q xs (sym (run-next p q xs i l t m) ∙ h))
       go r (got (done x)) m =

@@ -18,7 +18,8 @@ use Rattle.rules.specs.Meaning as M
 use Rattle.pairs.specs.Taken.{pairTaken}
 use Rattle.lines.specs.Got.{then, need}
 use Rattle.lines.specs.Field.{numberAt, signedAt, elem, listedAt, elemSigned, signedListedAt, coordinateAt, symbolAt, spaceAt, spacesFrom, within}
-use Rattle.lines.specs.Judge.{begins, contains, firstHeaderOf, countsOf, atomOf, bondOf, entryNumberAt, entriesOf, listOf, propertyOf, blankb, nameOn, opened, spaced, arrowed, headerOf, itemOf, valueOf}
+use Rattle.lines.specs.Judge.{begins, contains, firstHeaderOf, countsOf, atomOf, bondOf, entryNumberAt, entriesOf, listOf, propertyOf, blankb, nameOn, opened}
+use Rattle.lines.specs.Judge.{spaced, arrowed, headerOf, itemOf, valueOf}
 use Rattle.judge.specs.Place.{FileKind, molfile, sdfile, toBonds, toAtoms, lineOf, turnOf}
 use Rattle.judge.specs.Verdict.{Verdict, accepted, refused, run, verdict}
 
@@ -124,5 +125,8 @@ samples =
     []
 
 pub samples-judged : map (λ s. show (s .look) (verdict (s .kind) limit (s .text))) samples ≡ map (λ s. s .is) samples
-unfolding columnsFor firstFrom badColumn inkColumn ended split cut decimalAfter allDigits afterSpaces digitsRead afterBlank integerIn ranged numberIn signedRanged signedIn pointRead beforePoint inked coordinateIn sameBytes among symbolIn listed M.among M.numberIn M.atomsFrom M.meaning pairTaken then need numberAt signedAt elem listedAt elemSigned signedListedAt coordinateAt symbolAt spaceAt spacesFrom within begins contains firstHeaderOf countsOf atomOf bondOf entryNumberAt entriesOf listOf propertyOf blankb nameOn opened spaced arrowed headerOf itemOf valueOf toBonds toAtoms lineOf turnOf run verdict
+unfolding columnsFor firstFrom badColumn inkColumn ended split cut decimalAfter allDigits afterSpaces digitsRead afterBlank integerIn ranged numberIn
+    signedRanged signedIn pointRead beforePoint inked coordinateIn sameBytes among symbolIn listed M.among M.numberIn M.atomsFrom M.meaning pairTaken then need
+    numberAt signedAt elem listedAt elemSigned signedListedAt coordinateAt symbolAt spaceAt spacesFrom within begins contains firstHeaderOf countsOf atomOf
+    bondOf entryNumberAt entriesOf listOf propertyOf blankb nameOn opened spaced arrowed headerOf itemOf valueOf toBonds toAtoms lineOf turnOf run verdict
 samples-judged = refl

@@ -16,7 +16,8 @@ use Rattle.lines.specs.Judge.{firstHeaderOf, countsOf, atomOf, bondOf, property
 use Rattle.lines.specs.Judge.{PropertyOrEnd, property, last, ItemOrEnd, title, close, ValueOrBlank, value, blank}
 use Rattle.lines.specs.GotLaws.{got-inj, bad-got, then-got, then-is, need-got, need-is}
 use Rattle.lines.specs.Agree.{NewEntries, within-got, within-is}
-use Rattle.lines.specs.Agree.{header-agrees, counts-agrees, atom-agrees, bond-agrees, property-agrees, end-agrees, title-agrees, close-agrees, value-agrees, blank-agrees}
+use Rattle.lines.specs.Agree.{header-agrees, counts-agrees, atom-agrees, bond-agrees, property-agrees, end-agrees, title-agrees, close-agrees, value-agrees}
+use Rattle.lines.specs.Agree.{blank-agrees}
 use Rattle.judge.specs.Place.{FileKind, seenIn, toAtoms, toBonds, afterEnd, afterProperty, afterItem, afterValue, lineOf, longest, turnOf}
 use Rattle.judge.specs.Place.{Place, first, second, third, counts, atoms, bonds, properties, over, items, values, Turn, next, done}
 
@@ -105,7 +106,8 @@ module _ (kind : FileKind) (limit : ℕ) where
       let r = then-got (propertyOf (c .atoms) (seenIn ps) l) _ t e in
       go (r .0) (r .1) (r .2)
     where
-      go : (p : PropertyOrEnd) → propertyOf (c .atoms) (seenIn ps) l ≡ got p → got (afterProperty kind hs c xs bs ps p) ≡ got t → Takes kind limit (properties hs c xs bs ps) l t
+      go : (p : PropertyOrEnd) → propertyOf (c .atoms) (seenIn ps) l ≡ got p → got (afterProperty kind hs c xs bs ps p) ≡ got t →
+          Takes kind limit (properties hs c xs bs ps) l t
       go (property p) h e =
           let q = property-agrees (c .atoms) (seenIn ps) l p w .0 h in
           found (properties hs c xs bs ps) l e (Takes.property-line (q .0) (q .1))

@@ -125,7 +125,8 @@ apart-front seen [] ys h = tt
 apart-front seen (x ∷ xs) ys h = (h .0, apart-front seen xs ys (h .1))
 
 -- the entries of a good list's property line are new among those before it
-pub entries-among : (p : Property) (ps qs : List Property) → NoAtomTwice (listed (p .kind) (ps ++ (p ∷ qs))) → NewEntries (atomsOf (listed (p .kind) ps)) (p .entries)
+pub entries-among : (p : Property) (ps qs : List Property) → NoAtomTwice (listed (p .kind) (ps ++ (p ∷ qs))) →
+    NewEntries (atomsOf (listed (p .kind) ps)) (p .entries)
 unfolding listed
 entries-among p ps qs h =
     let e : listed (p .kind) (ps ++ (p ∷ qs)) ≡ listed (p .kind) ps ++ (p .entries ++ listed (p .kind) qs) =

@@ -30,7 +30,8 @@ module _ (limit : ℕ) (xs : List Raw) (i : ℕ) (ls : List Line) (rest : Bytes)
   same-one o h = subst (Same limit first xs i 1 ls) h (same limit first xs i 1 ls)
 
   -- the first record is whole: go on after it
-  pub walk-whole : (x : Raw) (k : ℕ) (more : List Line) → oneRecord limit ls ≡ whole x k more → fileFrom limit xs i ls rest ≡ fileFrom limit (xs ++ (x ∷ [])) (i + k) more rest
+  pub walk-whole : (x : Raw) (k : ℕ) (more : List Line) → oneRecord limit ls ≡ whole x k more →
+      fileFrom limit xs i ls rest ≡ fileFrom limit (xs ++ (x ∷ [])) (i + k) more rest
   unfolding fileFrom
   walk-whole x k more h =
       let s = same-one (whole x k more) h in
@@ -41,7 +42,7 @@ module _ (limit : ℕ) (xs : List Raw) (i : ℕ) (ls : List Line) (rest : Bytes)
       ∙ run-append sdfile limit first xs i (s .0) first (xs ++ (x ∷ [])) (s .3) more
       ∙ ap (λ (j : ℕ). run sdfile limit first (xs ++ (x ∷ [])) j more) n
       in
-      ap₂ (λ (u : Run) (j : ℕ). conclude sdfile u rest j) r m
+      ap₂ (λ u j. conclude sdfile u rest j) r m
 
   -- it is refused: so is the file
   pub walk-refused : (e k column : ℕ) → oneRecord limit ls ≡ refused e k column → fileFrom limit xs i ls rest ≡ Verdict.refused e (i + k - 1) column
@@ -57,14 +58,16 @@ module _ (limit : ℕ) (xs : List Raw) (i : ℕ) (ls : List Line) (rest : Bytes)
       in
       ap (λ (u : Run). conclude sdfile u rest (i + length ls)) r
 
-  cut-short : (q : Place) → run sdfile limit first xs i ls ≡ at q xs → 0 < length ls + length rest → finish sdfile q xs rest (i + length ls) ≡ Verdict.refused 19 (i + length ls) 1
+  cut-short : (q : Place) → run sdfile limit first xs i ls ≡ at q xs → 0 < length ls + length rest →
+      finish sdfile q xs rest (i + length ls) ≡ Verdict.refused 19 (i + length ls) 1
   cut-short q r some = go (ending sdfile q xs rest (i + length ls)) refl r some
     where
       empty : (t : List Line) → run sdfile limit first xs i t ≡ at first xs → length t ≡ 0
       empty [] g = refl
       empty (l ∷ t) g = absurd (omega (arith, grows-more limit first xs i l t xs g))
 
-      go : {p : Place} {ys : List Raw} {b : Bytes} {j : ℕ} {v : Verdict} → Ending sdfile p ys b j v → ys ≡ xs → run sdfile limit first xs i ls ≡ at p xs → 0 < length ls + length b → v ≡ Verdict.refused 19 j 1
+      go : {p : Place} {ys : List Raw} {b : Bytes} {j : ℕ} {v : Verdict} → Ending sdfile p ys b j v → ys ≡ xs → run sdfile limit first xs i ls ≡ at p xs →
+          0 < length ls + length b → v ≡ Verdict.refused 19 j 1
       go Ending.good-sd e g some = absurd (omega (arith, empty ls g))
       go (Ending.short w) e g some = refl
 
