@@ -4,7 +4,7 @@ use Prim.Native.Nat.{ℕ, zero, suc}
 use mathlib.Core.List.{List, [], _∷_, _++_, map}
 use mathlib.Core.Bool.{not}
 use Rattle.text.specs.Text.{Bytes, Line}
-use Rattle.rules.specs.Forms.{Counts, Atom, Bond, Kind, Entry, Property}
+use Rattle.rules.specs.Forms.{Counts, Atom, Bond, Kind, Property}
 use Rattle.rules.specs.Record.{Headers, Molecule, Item, Raw, listed}
 use Rattle.pairs.specs.Taken.{pairTaken}
 use Rattle.lines.specs.Got.{Got, got, bad, then, need}
