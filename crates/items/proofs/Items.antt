@@ -62,7 +62,7 @@ module _ (l : Line) (v : Found) (e : v ≡ inkColumn l 3) where
   unfolding inkColumn
   ink-low k f = let w = first-within isInk 3 k (drop 2 l) (sym e ∙ f) in omega arith
 
-  pub ink-high : (k : ℕ) → v ≡ At k → k ≤ length l
+  pub ink-high : (k : ℕ) → v ≡ At k → k - 1 < length l
   unfolding inkColumn
   ink-high k f = let w = first-within isInk 3 k (drop 2 l) (sym e ∙ f) in omega (arith, length-drop 2 l)
 

@@ -8,8 +8,7 @@ use mathlib.Core.Bool.{Bool, true, false}
 use lib.ListN.{length, getD, take, drop, length-drop, drop-of-length-le}
 use lib.Seq.{drop-cons, take-suc, getD-drop, length-take-le}
 use borrow.Author.Tests.{eq-eqb, ne-eqb, le-leb, lt-leb}
-use Rattle.text.specs.Text.{Line, byte}
-use Rattle.text.specs.Columns.{column}
+use Rattle.text.specs.Text.{Line}
 use Rattle.lines.specs.Judge.{HeaderRead, named, none, blankb, nameOn, opened}
 use Rattle.items.specs.Parts.{nameEnds}
 use Rattle.items.specs.Answer.{nameIn}
@@ -96,20 +95,13 @@ pub ruleset naming-laws = (naming-start, naming-next, naming-open, naming-close,
 
 -- ---- how it starts
 
--- the byte of column k and what follows it
-column-cons : (l : Line) (k : ℕ) → 1 ≤ k → k ≤ length l → drop (k - 1) l ≡ column l k ∷ drop k l
-column-cons l k h g =
-    let s : k - 1 < length l = omega arith in
-    let e : suc (k - 1) ≡ k = omega arith in
-    drop-cons l (k - 1) 32 s ∙ ap (λ (x : ℕ). column l k ∷ drop x l) e
-
-module _ (l : Line) (k b : ℕ) (h : 1 ≤ k) (g : k ≤ length l) (e : b ≡ column l k) where
-  pub opened-other : (b ≡ 60 → ⊥) → none ≡ opened (drop (k - 1) l)
+module _ (l : Line) (at : ℕ) (h : at < length l) where
+  pub opened-other : (getD l at 0 ≡ 60 → ⊥) → none ≡ opened (drop at l)
   unfolding opened
-  opened-other n = sym (rw (column-cons l k h g, ne-eqb (column l k) 60 (λ q. n (e ∙ q))))
+  opened-other n = sym (rw (drop-cons l at 0 h, ne-eqb _ _ n))
 
-  pub opened-name : (x : HeaderRead) → b ≡ 60 → x ≡ nameOn [] (drop k l) → x ≡ opened (drop (k - 1) l)
+  pub opened-name : (x : HeaderRead) → getD l at 0 ≡ 60 → x ≡ nameOn [] (drop (at + 1) l) → x ≡ opened (drop at l)
   unfolding opened
-  opened-name x q f = f ∙ sym (rw (column-cons l k h g, eq-eqb (column l k) 60 (sym e ∙ q)))
+  opened-name x q f = f ∙ sym (rw (drop-cons l at 0 h, eq-eqb _ _ q, add-one at))
 
 pub ruleset opened-laws = (opened-other, opened-name, unnamed-in)

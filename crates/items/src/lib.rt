@@ -131,16 +131,16 @@ fn name_from(line: &[u8], from: usize) -> NameRead
     NameRead::Unnamed
 }
 
-// `<` in column k, and then the name.
-fn name_opened(line: &[u8], k: usize) -> NameRead
-    requires { ⌜ (1 ≤ k) × (k ≤ length (now line)) ⌝ }
-    ensures { λ r. ⌜ nameGot (now (line .entry)) r ≡ opened (drop (k - 1) (now (line .entry))) ⌝ }
+// `<` at position `at`, and then the name.
+fn name_opened(line: &[u8], at: usize) -> NameRead
+    requires { ⌜ at < length (now line) ⌝ }
+    ensures { λ r. ⌜ nameGot (now (line .entry)) r ≡ opened (drop at (now (line .entry))) ⌝ }
     ensures { λ r. ⌜ nameIn (now (line .entry)) r ⌝ }
 {
-    if text::column(line, k) != b'<' {
+    if line[at] != b'<' {
         return NameRead::Unnamed;
     }
-    name_from(line, k)
+    name_from(line, at + 1)
 }
 
 // What follows `>` and a space: more spaces, `<` and the name.
@@ -149,7 +149,7 @@ fn name_spaced(line: &[u8]) -> NameRead
     ensures { λ r. ⌜ nameIn (now (line .entry)) r ⌝ }
 {
     match text::ink_column(line, 3) {
-        Found::At(k) => name_opened(line, k),
+        Found::At(k) => name_opened(line, k - 1),
         Found::Nothing => NameRead::Unnamed,
     }
 }

@@ -10,6 +10,9 @@ ink-column-requires c κs = search needs
 enum-known-k : tie.Need-enum-known-k
 enum-known-k c = search needs
 
+sub-name-opened : tie.Need-sub-name-opened
+sub-name-opened c = search (needs, spaced-laws)
+
 name-opened-requires : tie.Need-name-opened-requires
 name-opened-requires c κs = search (needs, spaced-laws)
 
@@ -25,4 +28,11 @@ returns-2 c = search (needs, spaced-laws)
 pub name-spaced-spec : {M : Type 1} → statement M
 name-spaced-spec =
     tie.close
-    (tie.spec ink-column-requires enum-known-k name-opened-requires enum-told returns returns-2)
+    (tie.spec
+    ink-column-requires
+    enum-known-k
+    sub-name-opened
+    name-opened-requires
+    enum-told
+    returns
+    returns-2)
