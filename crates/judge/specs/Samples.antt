@@ -12,7 +12,8 @@ use Rattle.text.specs.Cut.{ended, split, cut}
 use Rattle.numbers.specs.Number.{decimalAfter}
 use Rattle.numbers.specs.Read.{allDigits, afterSpaces, digitsRead, afterBlank, integerIn, ranged, numberIn, signedRanged, signedIn}
 use Rattle.coordinates.specs.Read.{pointRead, beforePoint, inked, coordinateIn}
-use Rattle.symbols.specs.Read.{sameBytes, among, symbolIn}
+use Rattle.symbols.specs.Read.{among, symbolIn}
+use Rattle.text.specs.Find.{sameBytes}
 use Rattle.rules.specs.Record.{Item, Raw, listed, limit}
 use Rattle.rules.specs.Meaning as M
 use Rattle.pairs.specs.Taken.{pairTaken}

@@ -16,6 +16,9 @@ use numbers::SignedRead;
 use symbols::SymbolRead;
 use text::Found;
 
+// The most atoms, and the most bonds, of a record.
+pub const LIMIT: u32 = 255;
+
 // A number that columns hold, or the refusal.
 pub enum Field {
     Is(u32),

@@ -1,0 +1,1 @@
+// Property lines, judged and entered into a lent table.
