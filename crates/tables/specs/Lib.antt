@@ -1,0 +1,5 @@
+pub mod Row
+pub mod Small
+pub mod Held
+pub mod Filled
+pub mod Parts
