@@ -50,6 +50,10 @@ module _ (t : List ℤ) (at : ℕ) where
       set (set (set (set t at (held x)) (at + 1) (held y)) (at + 2) (held z)) (at + 3) (cast symbol) ≡ sets t at (x ∷ y ∷ z ∷ pos symbol ∷ [])
   place-stored x y z symbol fx fy fz h = rw (hop x fx, hop y fy, hop z fz, same symbol h, one, two, three)
 
+  pub four-stored : (a b c d : ℤ) → SFits w32 a → SFits w32 b → SFits w32 c → SFits w32 d →
+      set (set (set (set t at (held a)) (at + 1) (held b)) (at + 2) (held c)) (at + 3) (held d) ≡ sets t at (a ∷ b ∷ c ∷ d ∷ [])
+  four-stored a b c d fa fb fc fd = rw (hop a fa, hop b fb, hop c fc, hop d fd, one, two, three)
+
   pub codes-stored : (mass : ℤ) (code parity hydrogens care : ℕ) → SFits w32 mass → code ≤ 999 → parity ≤ 999 → hydrogens ≤ 999 → care ≤ 999 →
       set (set (set (set (set (set (set t at (held mass)) (at + 1) (cast code)) (at + 2) (pos 0)) (at + 3) (pos 0)) (at + 4) (cast parity)) (at + 5) (cast hydrogens)) (at + 6) (cast care)
       ≡ sets t at (mass ∷ pos code ∷ pos 0 ∷ pos 0 ∷ pos parity ∷ pos hydrogens ∷ pos care ∷ [])

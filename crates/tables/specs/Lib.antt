@@ -3,3 +3,4 @@ pub mod Small
 pub mod Held
 pub mod Filled
 pub mod Parts
+pub mod Mean

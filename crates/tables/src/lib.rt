@@ -1,6 +1,7 @@
 // Rows of the lent tables: stored, cleared, given their meaning.
 ghost use mathlib.Core.Path.{_≡_};
-ghost use Prim.Native.Nat.{_+_, _*_, _-_, _≤_};
+ghost use Prim.Native.Nat.{_+_, _*_, _≤_, _<_};
+ghost use mathlib.Core.List.{[], _∷_};
 ghost use lib.ListN.{length};
 ghost use lib.Seq.{sets};
 ghost use Rattle.lines.specs.Answer.{atomIs, bondIs};
@@ -8,10 +9,21 @@ ghost use Rattle.rules.specs.Meaning.{bondNumbers};
 ghost use Rattle.tables.specs.Row.{rawRow, SmallAtom, SmallBond};
 ghost use Rattle.tables.specs.Parts.{placeRow, codesRow, restRow, SmallCodes};
 ghost use Rattle.tables.specs.Filled.{cleared};
+ghost use Rattle.tables.specs.Mean.{anyAfter, numberKept, chargeBy, radicalBy, massBy, codeIn, Kept, kindsIn, meantRow, meant};
 use lines::Atom;
 use lines::AtomCodes;
 use lines::AtomPlace;
 use lines::Bond;
+
+// Places of the table of listed numbers.
+const LISTED: usize = 768;
+
+// Of which kinds a record has property lines.
+struct Kinds {
+    charges: bool,
+    radicals: bool,
+    isotopes: bool,
+}
 
 // Where an atom stands and what it is: the first four numbers of its row.
 fn put_place(table: &mut [i32], at: usize, p: AtomPlace)
@@ -105,6 +117,141 @@ pub fn clear(table: &mut [i32], from: usize, to: usize)
     let mut i = from;
     while i < to {
         table[i] = 0;
+        i += 1;
+    }
+}
+
+// Places of one kind in the table of listed numbers.
+const PLACES: usize = 256;
+
+// Whether one of the places 1 to n after place `from` is in use.
+fn any_listed(listed: &[u32; LISTED], from: usize, n: usize) -> bool
+    requires { ⌜ from + n < 768 ⌝ }
+    ensures { λ r. ⌜ r ≡ anyAfter from (now (listed .entry)) n ⌝ }
+{
+    let mut a = n;
+    while 0 < a {
+        if listed[from + a] != 0 {
+            return true;
+        }
+        a -= 1;
+    }
+    false
+}
+
+// The number that a place keeps.
+fn number_kept(k: u32) -> i32
+    requires { ⌜ k ≤ 1015 ⌝ }
+    ensures { λ r. ⌜ r ≡ numberKept k ⌝ }
+{
+    if k == 0 {
+        return 0;
+    }
+    if 16 <= k {
+        return numbers::with_sign(false, k - 16);
+    }
+    numbers::with_sign(true, 16 - k)
+}
+
+// The charge of an atom: listed, or that of its code.
+fn charge_of(kinds: Kinds, code: i32, kept: u32) -> i32
+    requires { ⌜ kept ≤ 1015 ⌝ }
+    ensures { λ r. ⌜ r ≡ chargeBy kinds (codeIn code) (numberKept kept) ⌝ }
+{
+    if kinds.charges {
+        return number_kept(kept);
+    }
+    if code == 1 {
+        return 3;
+    }
+    if code == 2 {
+        return 2;
+    }
+    if code == 3 {
+        return 1;
+    }
+    if code == 5 {
+        return -1;
+    }
+    if code == 6 {
+        return -2;
+    }
+    if code == 7 {
+        return -3;
+    }
+    0
+}
+
+// The radical of an atom: listed, or that of its code.
+fn radical_of(kinds: Kinds, code: i32, kept: u32) -> i32
+    requires { ⌜ kept ≤ 1015 ⌝ }
+    ensures { λ r. ⌜ r ≡ radicalBy kinds (codeIn code) (numberKept kept) ⌝ }
+{
+    if kinds.radicals {
+        return number_kept(kept);
+    }
+    if code == 4 {
+        return 2;
+    }
+    0
+}
+
+// Isotopes put an end to mass differences.
+fn mass_of(kinds: Kinds, mass: i32) -> i32
+    ensures { λ r. ⌜ r ≡ massBy kinds mass ⌝ }
+{
+    if kinds.isotopes { 0 } else { mass }
+}
+
+// Four numbers from place `at` on.
+fn put_four(table: &mut [i32], at: usize, a: i32, b: i32, c: i32, d: i32)
+    requires { ⌜ at + 4 ≤ length (now table) ⌝ }
+    ensures { λ r. ⌜ now (table .exit) ≡ sets (now (table .entry)) at (a ∷ b ∷ c ∷ d ∷ []) ⌝ }
+{
+    table[at] = a;
+    table[at + 1] = b;
+    table[at + 2] = c;
+    table[at + 3] = d;
+}
+
+// Row i, of atom i + 1, gets its meaning.
+fn mean_row(atoms: &mut [i32], i: usize, listed: &[u32; LISTED], kinds: Kinds)
+    requires { ⌜ (i < 255) × (16 * i + 16 ≤ length (now atoms)) × Kept (i + 1) (now listed) ⌝ }
+    ensures { λ r. ⌜ now (atoms .exit) ≡ meantRow kinds (now (listed .entry)) i (now (atoms .entry)) ⌝ }
+{
+    let at = 16 * i;
+    let atom = i + 1;
+    let mass = atoms[at + 4];
+    let code = atoms[at + 5];
+    let mass = mass_of(kinds, mass);
+    let charge = charge_of(kinds, code, listed[atom]);
+    let radical = radical_of(kinds, code, listed[PLACES + atom]);
+    let isotope = number_kept(listed[2 * PLACES + atom]);
+    put_four(atoms, at + 4, mass, charge, radical, isotope);
+}
+
+// Of which kinds some atom of 1 to n is listed.
+fn kinds_in(listed: &[u32; LISTED], n: usize) -> Kinds
+    requires { ⌜ n ≤ 255 ⌝ }
+    ensures { λ r. ⌜ r ≡ kindsIn n (now (listed .entry)) ⌝ }
+{
+    Kinds {
+        charges: any_listed(listed, 0, n),
+        radicals: any_listed(listed, PLACES, n),
+        isotopes: any_listed(listed, 2 * PLACES, n),
+    }
+}
+
+// The first n rows get their meaning.
+pub fn mean(atoms: &mut [i32], n: u32, listed: &[u32; LISTED])
+    requires { ⌜ (n ≤ 255) × (16 * n ≤ length (now atoms)) × Kept n (now listed) ⌝ }
+    ensures { λ r. ⌜ now (atoms .exit) ≡ meant n (now (atoms .entry)) (now (listed .entry)) ⌝ }
+{
+    let rows = n as usize;
+    let kinds = kinds_in(listed, rows);
+    let mut i = 0;
+    while i < rows {
+        mean_row(atoms, i, listed, kinds);
         i += 1;
     }
 }
