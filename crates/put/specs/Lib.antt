@@ -5,3 +5,4 @@ pub mod Lines
 -- Laws for the proofs
 pub mod Signs
 pub mod Parts
+pub mod Walks

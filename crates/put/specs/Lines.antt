@@ -8,13 +8,18 @@ use Rattle.numbers.specs.Write.{numberText, signedText}
 use Rattle.coordinates.specs.Write.{coordinateText}
 use Rattle.symbols.specs.Write.{symbolText}
 use Rattle.rules.specs.Write.{atomText, bondText}
-use Rattle.rules.specs.Canon.{atomRow, atomOf, bondRow, bondOf, chargeCode}
+use Rattle.rules.specs.Canon.{atomRow, atomOf, bondRow, bondOf, chargeCode, Rows, WritableAtom}
+use Rattle.put.specs.Rows.{rowsOf}
 
 abbrev pub atomLine : List ℤ → Line
 atomLine t = atomText (atomOf (atomRow t))
 
 abbrev pub bondLine : List ℤ → Line
 bondLine t = bondText (bondOf (bondRow t))
+
+-- n atoms that can be written, in a flat table
+unfoldable pub WritableAtoms : ℕ → List ℤ → Type 0
+WritableAtoms n t = Rows 16 (λ (row : List ℤ). WritableAtom n (atomRow row)) (rowsOf 16 n t)
 
 -- three columns for each of so many numbers of a row, from number i on
 unfoldable pub columnsFrom : List ℤ → ℕ → ℕ → Bytes

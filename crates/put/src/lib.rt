@@ -1,6 +1,6 @@
 // The lines of a record's molecule written into lent room: counts, atoms, bonds, properties and `M  END`.
 ghost use mathlib.Core.Path.{_≡_};
-ghost use mathlib.Core.List.{[], _∷_};
+ghost use mathlib.Core.List.{[], _∷_, map};
 ghost use Prim.Native.Nat.{_+_, _-_, _*_, _≤_, _<_};
 ghost use lib.ListN.{length, getD};
 ghost use lib.IntN.{pos, natAbs};
@@ -11,7 +11,8 @@ ghost use Rattle.symbols.specs.Write.{symbolText};
 ghost use Rattle.rules.specs.Write.{countsText};
 ghost use Rattle.rules.specs.Canon.{codeOfCharge, chargeCode};
 ghost use Rattle.put.specs.Laid.{Field};
-ghost use Rattle.put.specs.Lines.{atomLine, bondLine, columnsFrom, codeText, positionText, elementText};
+ghost use Rattle.put.specs.Rows.{rowsOf};
+ghost use Rattle.put.specs.Lines.{atomLine, bondLine, WritableAtoms, columnsFrom, codeText, positionText, elementText};
 
 // These bytes.
 fn put_bytes(room: &mut [u8], at: usize, src: &[u8]) -> usize
@@ -200,4 +201,35 @@ fn put_bond(room: &mut [u8], at: usize, row: &[i32]) -> usize
     let c = put_columns(room, b, row, 4, 5);
     let d = put_signed(room, c, 3, row, 5);
     put_bytes(room, d, b"\n")
+}
+
+fn put_atoms(room: &mut [u8], at: usize, atoms: &[i32], n: usize) -> usize
+    requires { ⌜ (16 * n ≤ length (now atoms)) × (at + 70 * n ≤ length (now room)) ⌝ }
+    requires { ⌜ WritableAtoms n (now atoms) ⌝ }
+    ensures { λ r. ⌜ Field (now (room .entry)) (now (room .exit)) at (70 * n) (text (map atomLine (rowsOf 16 n (now (atoms .entry))))) r ⌝ }
+{
+    let mut i = 0;
+    let mut e = at;
+    while i < n {
+        let a = 16 * i;
+        let b = a + 16;
+        e = put_atom(room, e, &atoms[a..b]);
+        i += 1;
+    }
+    e
+}
+
+fn put_bonds(room: &mut [u8], at: usize, bonds: &[i32], m: usize) -> usize
+    requires { ⌜ (6 * m ≤ length (now bonds)) × (at + 22 * m ≤ length (now room)) ⌝ }
+    ensures { λ r. ⌜ Field (now (room .entry)) (now (room .exit)) at (22 * m) (text (map bondLine (rowsOf 6 m (now (bonds .entry))))) r ⌝ }
+{
+    let mut i = 0;
+    let mut e = at;
+    while i < m {
+        let a = 6 * i;
+        let b = a + 6;
+        e = put_bond(room, e, &bonds[a..b]);
+        i += 1;
+    }
+    e
 }
