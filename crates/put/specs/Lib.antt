@@ -1,0 +1,8 @@
+-- What the contracts cite
+pub mod Laid
+pub mod Rows
+pub mod Lines
+-- Laws for the proofs
+pub mod Signs
+pub mod Parts
+pub mod Walks
