@@ -1,0 +1,14 @@
+-- `parts::judge_items` meets its contract.
+use Rattle.parts.proofs.Beside.{items-judged}
+use borrow.Author.Needs.{needs}
+use Rattle.parts.proofs.judge_items.Statement.{statement}
+use Rattle.parts.proofs.judge_items.Tie as tie
+
+judge-part-requires : tie.Need-judge-part-requires
+judge-part-requires c κs = search needs
+
+returns : tie.Need-returns
+returns c = search (needs, items-judged)
+
+pub judge-items-spec : {M : Type 1} → statement M
+judge-items-spec = tie.close (tie.spec judge-part-requires returns)

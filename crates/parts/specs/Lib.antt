@@ -1,0 +1,4 @@
+pub mod Part
+pub mod Written
+pub mod Step
+pub mod Runs

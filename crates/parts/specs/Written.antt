@@ -1,0 +1,43 @@
+-- The canonical text of the two parts, and what the code answers: its length, or the refusal.
+use Prim.Native.Nat.{ℕ}
+use mathlib.Core.List.{List, [], _∷_, _++_}
+use lib.ListN.{length}
+use Rattle.text.specs.Text.{Bytes, Line}
+use Rattle.text.specs.Written.{text}
+use Rattle.rules.specs.Record.{Headers, Item}
+use Rattle.rules.specs.Write.{headerText}
+use Rattle.parts.specs.Part.{PartVerdict, good, refused, headersVerdict, itemsVerdict}
+use Rattle.parts.specs.declared.PartJudged.{PartJudged}
+
+-- header lines keep their bytes
+unfoldable pub headersText : Headers → Bytes
+headersText h = text (h .first ∷ h .second ∷ h .third ∷ [])
+
+-- each item's header made anew, its values as they are, and an empty line
+unfoldable pub itemLines : List Item → List Line
+itemLines [] = []
+itemLines (i ∷ is) = headerText (i .name) ∷ (i .values ++ ([] ∷ itemLines is))
+
+unfoldable pub itemsText : List Item → Bytes
+itemsText is = text (itemLines is)
+
+-- what a good part stands for, by a function
+abbrev pub mapGood : {A B : Type 0} → (A → B) → PartVerdict A → PartVerdict B
+mapGood f (good a) = good (f a)
+mapGood f (refused e i column) = refused e i column
+
+abbrev pub judged : PartVerdict Bytes → PartJudged
+judged (good bs) = PartJudged.Good (length bs)
+judged (refused e i column) = PartJudged.Refused e i column
+
+-- the text of a good part; of another, nothing
+abbrev pub textOf : PartVerdict Bytes → Bytes
+textOf (good bs) = bs
+textOf (refused e i column) = []
+
+-- the canonical text of a part, or its refusal
+unfoldable pub writtenHeaders : Bytes → PartVerdict Bytes
+writtenHeaders s = mapGood headersText (headersVerdict s)
+
+unfoldable pub writtenItems : Bytes → PartVerdict Bytes
+writtenItems s = mapGood itemsText (itemsVerdict s)
