@@ -1,0 +1,51 @@
+-- `writable::atoms_hold` meets its contract.
+use borrow.Author.Needs.{needs}
+use Prim.Native.Nat.{_-_}
+use mathlib.Core.List.{List}
+use lib.IntN.{ℤ}
+use Rattle.rules.specs.Canon.{atomRow}
+use Rattle.writable.specs.Tables.{atomHolds}
+use Rattle.writable.proofs.Loops.{Walking, walking}
+use Rattle.writable.proofs.atoms_hold.Statement.{statement}
+use Rattle.writable.proofs.atoms_hold.Tie as tie
+
+abbrev Inv-loop : tie.InvT-loop
+Inv-loop atoms n i₀ i = Walking (λ (t : List ℤ). atomHolds n (atomRow t)) 16 atoms n i
+
+abbrev μ-loop : tie.MeasureT-loop
+μ-loop atoms n i₀ i = n - i
+
+loop-holds : tie.Need-loop-holds Inv-loop μ-loop
+loop-holds c = search (needs, walking)
+
+atom-at-requires : tie.Need-atom-at-requires Inv-loop μ-loop
+atom-at-requires c κs = search (needs, walking)
+
+returns : tie.Need-returns Inv-loop μ-loop
+returns c = search (needs, walking)
+
+add-i : tie.Need-add-i Inv-loop μ-loop
+add-i c = search (needs, walking)
+
+loop-less : tie.Need-loop-less Inv-loop μ-loop
+loop-less c = search (needs, walking)
+
+loop-again : tie.Need-loop-again Inv-loop μ-loop
+loop-again c = search (needs, walking)
+
+returns-2 : tie.Need-returns-2 Inv-loop μ-loop
+returns-2 c = search (needs, walking)
+
+pub atoms-hold-spec : {M : Type 1} → statement M
+atoms-hold-spec =
+    tie.close
+    (tie.spec
+    Inv-loop
+    μ-loop
+    loop-holds
+    atom-at-requires
+    returns
+    add-i
+    loop-less
+    loop-again
+    returns-2)

@@ -1,0 +1,149 @@
+-- Which tables can be written: computed, part by part.
+use Prim.Native.Nat.{ℕ, zero, suc, _-_, _*_}
+use mathlib.Core.List.{List, [], _∷_, map}
+use mathlib.Core.Bool.{Bool, true, false, cond, not, _&&_, _||_}
+use lib.Dec.{eqb, leb}
+use lib.ListN.{getD, length}
+use lib.IntN.{ℤ, pos, negℤ}
+use lib.Signed.{leZ}
+use Rattle.rules.specs.Forms.{stereos, centres}
+use Rattle.rules.specs.Record.{limit}
+use Rattle.rules.specs.Canon.{AtomRow, atomRow, BondRow, bondRow, isZero}
+use Rattle.lines.specs.Field.{sameInteger, elemSigned}
+use Rattle.symbols.specs.Symbol.{names}
+use Rattle.writable.specs.Rows.{rowAt, rowsOf}
+use Rattle.writable.specs.declared.Repeat.{Repeat}
+use Rattle.writable.specs.declared.Repeat.the-variants.{Pair, Nothing}
+
+-- ---- One number
+
+-- from `low` to `high`
+unfoldable pub inRange : ℤ → ℕ → ℤ → Bool
+inRange low high z = leZ low z && leZ z (pos high)
+
+abbrev pub minus : ℕ → ℤ
+minus k = negℤ (pos k)
+
+-- the stereo marks that a type allows
+unfoldable pub marks : ℤ → List ℤ
+marks type =
+    cond (sameInteger type (pos 1)) (map pos (stereos 1))
+    (cond (sameInteger type (pos 2)) (map pos (stereos 2)) (map pos (stereos 0)))
+
+-- ---- One row
+
+-- coordinates, symbol, mass difference
+unfoldable pub placeHolds : AtomRow → Bool
+placeHolds a =
+    inRange (minus 99999999) 999999999 (a .x) &&
+    (inRange (minus 99999999) 999999999 (a .y) &&
+    (inRange (minus 99999999) 999999999 (a .z) &&
+    (inRange (pos 1) (length names) (a .symbol) &&
+    inRange (minus 3) 4 (a .mass-difference))))
+
+-- charge, radical, isotope, parity, hydrogen count
+unfoldable pub numbersHold : AtomRow → Bool
+numbersHold a =
+    inRange (minus 15) 15 (a .charge) &&
+    (inRange (pos 0) 3 (a .radical) &&
+    (inRange (pos 0) 999 (a .isotope) &&
+    (inRange (pos 0) 3 (a .parity) &&
+    inRange (pos 0) 5 (a .hydrogen-count))))
+
+-- stereo care, valence, H0, atom map
+unfoldable pub codesHold : ℕ → AtomRow → Bool
+codesHold n a =
+    inRange (pos 0) 1 (a .stereo-care) &&
+    (inRange (pos 0) 15 (a .valence) &&
+    (inRange (pos 0) 1 (a .H0) &&
+    inRange (pos 0) n (a .atom-map)))
+
+-- inversion, exact change
+unfoldable pub changesHold : AtomRow → Bool
+changesHold a = inRange (pos 0) 2 (a .inversion) && inRange (pos 0) 1 (a .exact-change)
+
+-- in a record of n atoms
+unfoldable pub atomHolds : ℕ → AtomRow → Bool
+atomHolds n a = placeHolds a && (numbersHold a && (codesHold n a && changesHold a))
+
+-- the bond without its ends
+unfoldable pub kindHolds : BondRow → Bool
+kindHolds b =
+    inRange (pos 1) 8 (b .type) &&
+    (elemSigned (b .stereo) (marks (b .type)) &&
+    (inRange (pos 0) 2 (b .topology) &&
+    elemSigned (b .centre) centres))
+
+unfoldable pub bondHolds : ℕ → BondRow → Bool
+bondHolds n b =
+    inRange (pos 1) n (b .first) &&
+    (inRange (pos 1) n (b .second) &&
+    (kindHolds b &&
+    not (sameInteger (b .first) (b .second))))
+
+-- ---- All rows
+
+unfoldable pub allRows : (List ℤ → Bool) → List (List ℤ) → Bool
+allRows p [] = true
+allRows p (t ∷ ts) = p t && allRows p ts
+
+abbrev pub atomsHold : ℕ → List (List ℤ) → Bool
+atomsHold n ts = allRows (λ t. atomHolds n (atomRow t)) ts
+
+abbrev pub bondsHold : ℕ → List (List ℤ) → Bool
+bondsHold n ts = allRows (λ t. bondHolds n (bondRow t)) ts
+
+-- the number at k is 0 in every row
+abbrev pub allZero : ℕ → List (List ℤ) → Bool
+allZero k ts = allRows (λ t. isZero (getD t k (pos 0))) ts
+
+-- no isotope, or no mass difference
+unfoldable pub massesHold : List (List ℤ) → Bool
+massesHold ts = allZero 7 ts || allZero 4 ts
+
+-- ---- The first bond that joins a pair once more
+
+-- the same two ends, in either direction
+unfoldable pub sameEnds : BondRow → BondRow → Bool
+sameEnds b c =
+    (sameInteger (b .first) (c .first) && sameInteger (b .second) (c .second)) ||
+    (sameInteger (b .first) (c .second) && sameInteger (b .second) (c .first))
+
+-- rows i and j of a table of bonds
+unfoldable pub sameAt : List ℤ → ℕ → ℕ → Bool
+sameAt t i j = sameEnds (bondRow (rowAt 6 t i)) (bondRow (rowAt 6 t j))
+
+-- row i is held against so many rows, row j first; if none of them joins its pair, `next`. Bonds count from 1.
+unfoldable pub against : List ℤ → ℕ → ℕ → ℕ → Repeat → Repeat
+against t i j zero next = next
+against t i j (suc count) next = cond (sameAt t i j) (Pair (suc j) (suc i)) (against t i (suc j) count next)
+
+-- so many rows, row i first, each held against all rows before it
+unfoldable pub walkFrom : List ℤ → ℕ → ℕ → Repeat
+walkFrom t i zero = Nothing
+walkFrom t i (suc count) = against t i 0 i (walkFrom t (suc i) count)
+
+-- the first bond that joins the pair of an earlier one, with the first such
+abbrev pub firstRepeat : List ℤ → ℕ → Repeat
+firstRepeat t m = walkFrom t 0 m
+
+abbrev pub isNothing : Repeat → Bool
+isNothing (Pair earlier later) = false
+isNothing Nothing = true
+
+-- ---- Tables
+
+-- n, m, pairs enough for m bonds, chiral
+unfoldable pub countsHold : ℕ → ℕ → ℕ → Bool
+countsHold n m chiral = leb n limit && (leb m limit && (leb (2 * m) (n * (n - 1)) && leb chiral 1))
+
+-- the first n atoms and the first m bonds: ranges, bond rules, no pair twice, masses
+unfoldable pub tablesHold : ℕ → ℕ → List ℤ → List ℤ → Bool
+tablesHold n m atoms bonds =
+    atomsHold n (rowsOf 16 n atoms) &&
+    (bondsHold n (rowsOf 6 m bonds) &&
+    (isNothing (firstRepeat bonds m) &&
+    massesHold (rowsOf 16 n atoms)))
+
+unfoldable pub writableTables : ℕ → ℕ → ℕ → List ℤ → List ℤ → Bool
+writableTables n m chiral atoms bonds = countsHold n m chiral && tablesHold n m atoms bonds
