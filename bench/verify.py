@@ -2,8 +2,9 @@
 
     python3 bench/verify.py [SEED] [N]      N files, each judged as both kinds (default: seed 1, 4,000 files)
 
-The files are the oracle's: good ones, aimed damage, cuts and blind damage. Many cases go to one process. Inputs around the
-reader's buffer go in as standard input, one process each.
+The files are the oracle's: good ones, aimed damage, cuts and blind damage; then one small record with every field set to
+numbers around its limits, and with every column of every line written over. Many cases go to one process. Inputs around
+the reader's buffer go in as standard input, one process each.
 """
 
 import collections
@@ -17,10 +18,11 @@ sys.path[:0] = [os.path.join(HERE, "..", "oracle"), HERE]
 
 from counter_cases import around_the_buffer
 from ctfile import check
-from damage import damaged
+from damage import FIELDS, damaged, put
 from generate import all_symbols, file_rows, good_drafts, to_bytes
+from vectors import SWEEP_LINES, sweep_file
 
-OUT = os.path.join(HERE, "..", "target", "bench")
+OUT = os.path.join(HERE, "out")
 
 
 def build(name, *flags):
@@ -44,6 +46,30 @@ def files(rng, count):
             yield "damaged %d" % k, damaged(rng, kind)
 
 
+def small_files():
+    """One record with a field set to a number, or a byte written over a column, as (name, bytes)."""
+    numbers = [-99, -9, *range(-17, 18), 99, 100, 254, 255, 256, 998, 999]
+    fields = [(place, first, last - first + 1) for place, rows in FIELDS.items() for first, last, _ in rows]
+    fields += [("bond", 10, 3), ("property", 7, 3), ("property", 11, 3), ("property", 15, 3)]
+    for place, first, width in fields:
+        for text in [" " * width] + [str(number).rjust(width) for number in numbers]:
+            for tag in [b"CHG", b"RAD", b"ISO"] if place == "property" else [b""]:
+                yield "%s column %d" % (place, first), changed(place, first, text[-width:], tag)
+    for kind in range(10):
+        for stereo in range(10):
+            yield "bond type %d, stereo %d" % (kind, stereo), changed("bond", 7, "%3d%3d" % (kind, stereo))
+    for place in SWEEP_LINES:
+        for column in range(1, 82 if place != b"value" else 202):
+            for byte in b"#9- \x1f\x7f\x80":
+                yield "%s column %d, byte %d" % (place.decode(), column, byte), changed(place.decode(), column, bytes([byte]))
+
+
+def changed(place, column, text, tag=b""):
+    """The record with a text put into one of its lines; for a property line also with that tag."""
+    old = SWEEP_LINES[place.encode()]
+    return sweep_file(place.encode(), put(put(old, 4, tag), column, text))
+
+
 def line(answer):
     if answer[0] == "accepted":
         return "accepted %d" % answer[1]
@@ -63,6 +89,7 @@ def main(seed, count):
     plain = build("reader-plain")                   # a watched one starts too slowly to be started often
     rng = random.Random(seed)
     made = [(name, kind, data) for name, data in files(rng, count) for kind in (0, 1)]
+    made += [(name, 1, data) for name, data in small_files()]
     made.append(("no such kind", 2, b""))
     head = b"".join(b"check %d %d\n%s\n" % (kind, len(data), data) for _, kind, data in made)
     got = subprocess.run([watched, "cases"], input=head, stdout=subprocess.PIPE, check=True).stdout.decode().splitlines()
