@@ -1,1 +1,3 @@
 pub mod Went
+pub mod Parts
+pub mod Stays

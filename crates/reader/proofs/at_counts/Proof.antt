@@ -1,0 +1,34 @@
+-- `reader::at_counts` meets its contract.
+use Rattle.reader.proofs.Places.{counts-laws, untitled}
+use borrow.Author.Needs.{needs}
+use Rattle.reader.proofs.at_counts.Statement.{statement}
+use Rattle.reader.proofs.at_counts.Tie as tie
+
+counts-line-requires : tie.Need-counts-line-requires
+counts-line-requires c κs = search needs
+
+enum-known-counts : tie.Need-enum-known-counts
+enum-known-counts c = search needs
+
+counted-requires : tie.Need-counted-requires
+counted-requires c κs = search needs
+
+enum-known-no : tie.Need-enum-known-no
+enum-known-no c = search needs
+
+returns : tie.Need-returns
+returns c = search (needs, counts-laws, untitled)
+
+returns-2 : tie.Need-returns-2
+returns-2 c = search (needs, counts-laws, untitled)
+
+pub at-counts-spec : {M : Type 1} → statement M
+at-counts-spec =
+    tie.close
+    (tie.spec
+    counts-line-requires
+    enum-known-counts
+    counted-requires
+    enum-known-no
+    returns
+    returns-2)
