@@ -30,7 +30,7 @@ class Home(NamedTuple):
     loader: str
     libraries: str
     root: str = ""
-    variables: tuple = ()
+    variables: dict = {}
 
 
 def kit():
@@ -60,8 +60,10 @@ def debian_home():
     variables = {"PYTHONHOME": "usr", "PYTHONPATH": "usr/lib/python3/dist-packages",
                  "BABEL_LIBDIR": "usr/lib/x86_64-linux-gnu/openbabel/3.1.1",
                  "BABEL_DATADIR": "usr/share/openbabel/3.1.1"}
+    variables = {name: os.path.join(root, path) for name, path in variables.items()}
+    variables["PYTHONHASHSEED"] = "0"
     return Home(os.path.join(lib, "ld-linux-x86-64.so.2"), ":".join([lib, usr, usr + "/blas", usr + "/lapack"]), root,
-                tuple((name, os.path.join(root, path)) for name, path in variables.items()))
+                variables)
 
 
 class Counter:
@@ -105,7 +107,7 @@ class Counter:
             option = [log_option + log] if log_option.endswith("=") else [log_option, log]
             with open(given or os.devnull, "rb") as stdin, open(out, "wb") as stdout:
                 status = subprocess.run(command + option + words, stdin=stdin, stdout=stdout, stderr=subprocess.STDOUT,
-                                        env=dict(home.variables) if home else {}).returncode
+                                        env=home.variables if home else {}).returncode
             counts = {"instructions": 0}
             if os.path.exists(log):
                 with open(log, errors="replace") as lines:

@@ -15,6 +15,7 @@ import sys
 
 HERE = os.path.dirname(os.path.abspath(__file__))
 sys.path[:0] = [os.path.join(HERE, "..", "oracle"), HERE]
+sys.dont_write_bytecode = True
 
 from counter_cases import around_the_buffer
 from ctfile import check
