@@ -1,8 +1,8 @@
 -- Bonds held against each other, one after the other.
-use Prim.Native.Nat.{ℕ, zero, suc, _+_, _-_, _*_, _≤_, _<_}
+use Prim.Native.Nat.{ℕ, suc, _+_, _-_, _*_, _≤_, _<_}
 use native.Mathlib.Numerals.{add-one}
 use native.Mathlib.Omega.{arith}
-use mathlib.Core.Path.{_≡_, refl, sym, ap, _∙_}
+use mathlib.Core.Path.{_≡_, _∙_}
 use mathlib.Core.List.{List}
 use mathlib.Core.Bool.{Bool, true, false, _&&_, _||_}
 use lib.Dec.{eqb}
@@ -11,9 +11,7 @@ use lib.ListN.{getD}
 use mir.Syntax.{w32}
 use mir.Val.{SFits, ofZ}
 use Rattle.lines.specs.Field.{sameInteger}
-use Rattle.writable.specs.Rows.{rowAt}
 use Rattle.writable.specs.Tables.{sameEnds, sameAt, against, walkFrom, firstRepeat}
-use Rattle.writable.specs.declared.Repeat.{Repeat}
 use Rattle.writable.specs.declared.Repeat.the-variants.{Pair, Nothing}
 use Rattle.writable.proofs.Steps.{bits-same, bits-apart, bits-test}
 use Rattle.writable.proofs.Loops.{row-get}

@@ -1,25 +1,25 @@
 -- One test after the other, as the code goes.
-use Prim.Native.Nat.{ℕ, zero, suc, _+_, _-_, _*_, _≤_, _<_, _^_}
+use Prim.Native.Nat.{ℕ, _+_, _≤_, _<_}
 use native.Mathlib.Omega.{arith}
 use mathlib.Core.Path.{_≡_, refl, sym, ap, _∙_}
-use mathlib.Core.Bool.{Bool, true, false, not, cond, _&&_, _||_}
-use mathlib.Core.List.{List, [], _∷_, map}
+use mathlib.Core.Bool.{Bool, true, false, not, _&&_, _||_}
+use mathlib.Core.List.{List, map}
 use native.Mathlib.Numerals.{add-one}
-use lib.Dec.{eqb, ltb, leb}
+use lib.Dec.{eqb, leb}
 use lib.ListN.{length, getD, drop}
 use lib.Seq.{drop-cons, drop-length}
 use lib.IntN.{ℤ, pos, negsuc}
 use lib.Signed.{ltZ, leZ}
-use borrow.Author.Tests.{leb-true, eq-eqb, eqb-true, eqb-false, lt-leb, le-leb, ltb-true, ltb-false, not-true, not-false}
+use borrow.Author.Tests.{leb-true, eqb-true, eqb-false, lt-leb, le-leb, ltb-true, ltb-false, not-true, not-false}
 use mir.Syntax.{w32}
 use mir.Val.{SFits, toZ, ofZ}
 use mir.ValLaws.{toZ-pos}
 use Rattle.rules.specs.Forms.{stereos}
 use Rattle.rules.specs.Record.{limit}
-use Rattle.pairs.specs.Agree.{true-false}
 use Rattle.lines.specs.Field.{sameInteger, elemSigned}
 use Rattle.lines.specs.Steps.{hop}
 use Rattle.writable.specs.Tables.{inRange, marks, isNothing, countsHold}
+use Rattle.writable.specs.AgreeNumber.{same-refl, same-is, left-true, right-true}
 use Rattle.writable.specs.declared.Repeat.{Repeat}
 use Rattle.writable.specs.declared.Repeat.the-variants.{Pair, Nothing}
 
@@ -64,16 +64,6 @@ module _ (low z : ℤ) (high : ℕ) (l : SFits w32 low) (f : SFits w32 z) where
   up-to h k = rw (above low z (rw (hop z f, hop low l) at h), hop z f, toZ-pos w32 high (omega arith))
 
 -- ---- Two numbers are the same if their bits are
-
-same-refl : (x : ℤ) → sameInteger x x ≡ true
-same-refl (pos a) = eq-eqb a a refl
-same-refl (negsuc a) = eq-eqb a a refl
-
-pub same-is : (x y : ℤ) → sameInteger x y ≡ true → x ≡ y
-same-is (pos a) (pos b) h = ap pos (eqb-true a b h)
-same-is (pos a) (negsuc b) h = true-false (sym h)
-same-is (negsuc a) (pos b) h = true-false (sym h)
-same-is (negsuc a) (negsuc b) h = ap negsuc (eqb-true a b h)
 
 module _ (x y : ℤ) (f : SFits w32 x) (g : SFits w32 y) where
   pub bits-same : ofZ w32 x ≡ ofZ w32 y → sameInteger x y ≡ true
@@ -163,22 +153,14 @@ module _ (x : Bool) (found first : Repeat) (e : found ≡ first) where
 
 pub ruleset pair-steps = (pair-stop, pair-next)
 
-left-true : (a b : Bool) → (a && b) ≡ true → a ≡ true
-left-true true b h = refl
-left-true false b h = h
-
-right-true : (a b : Bool) → (a && b) ≡ true → b ≡ true
-right-true true b h = h
-right-true false b h = true-false (sym h)
-
 module _ (n m chiral : ℕ) (t : Bool) (e : t ≡ countsHold n m chiral) (h : not t ≡ false) where
   hold : countsHold n m chiral ≡ true
   hold = sym e ∙ not-false t h
 
-  pub n-small : n ≤ 255
+  pub n-small : n ≤ limit
   unfolding countsHold
   n-small = leb-true n limit (left-true _ _ hold)
 
-  pub m-small : m ≤ 255
+  pub m-small : m ≤ limit
   unfolding countsHold
   m-small = leb-true m limit (left-true _ _ (right-true (leb n limit) _ hold))

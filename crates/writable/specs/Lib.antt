@@ -1,2 +1,6 @@
 pub mod Rows
 pub mod Tables
+pub mod AgreeNumber
+pub mod AgreeRow
+pub mod AgreePairs
+pub mod Agree

@@ -5,6 +5,7 @@ ghost use lib.Dec.{leb};
 ghost use mathlib.Core.Bool.{not};
 ghost use lib.ListN.{length, getD};
 ghost use lib.IntN.{pos};
+ghost use Rattle.rules.specs.Record.{limit};
 ghost use Rattle.rules.specs.Canon.{atomRow, bondRow, isZero};
 ghost use Rattle.lines.specs.Field.{elemSigned, sameInteger};
 ghost use Rattle.writable.specs.Rows.{rowAt, rowsOf};
@@ -71,7 +72,7 @@ fn numbers_hold(row: &[i32]) -> bool
 
 // Stereo care, valence, H0, atom map.
 fn codes_hold(row: &[i32], n: u32) -> bool
-    requires { ⌜ (16 ≤ length (now row)) × (n ≤ 255) ⌝ }
+    requires { ⌜ (16 ≤ length (now row)) × (n ≤ limit) ⌝ }
     ensures { λ r. ⌜ r ≡ codesHold n (atomRow (now (row .entry))) ⌝ }
 {
     if !in_range(row, 10, 0, 1) {
@@ -99,7 +100,7 @@ fn changes_hold(row: &[i32]) -> bool
 
 // A row of an atom, in a record of n.
 fn atom_holds(row: &[i32], n: u32) -> bool
-    requires { ⌜ (16 ≤ length (now row)) × (n ≤ 255) ⌝ }
+    requires { ⌜ (16 ≤ length (now row)) × (n ≤ limit) ⌝ }
     ensures { λ r. ⌜ r ≡ atomHolds n (atomRow (now (row .entry))) ⌝ }
 {
     if !place_holds(row) {
@@ -116,7 +117,7 @@ fn atom_holds(row: &[i32], n: u32) -> bool
 
 // Atom i, counted from 0.
 fn atom_at(atoms: &[i32], i: u32, n: u32) -> bool
-    requires { ⌜ (16 * i + 16 ≤ length (now atoms)) × (n ≤ 255) ⌝ }
+    requires { ⌜ (16 * i + 16 ≤ length (now atoms)) × (n ≤ limit) ⌝ }
     ensures { λ r. ⌜ r ≡ atomHolds n (atomRow (rowAt 16 (now (atoms .entry)) i)) ⌝ }
 {
     let at = 16 * (i as usize);
@@ -125,7 +126,7 @@ fn atom_at(atoms: &[i32], i: u32, n: u32) -> bool
 }
 
 fn atoms_hold(atoms: &[i32], n: u32) -> bool
-    requires { ⌜ (4080 ≤ length (now atoms)) × (n ≤ 255) ⌝ }
+    requires { ⌜ (16 * limit ≤ length (now atoms)) × (n ≤ limit) ⌝ }
     ensures { λ r. ⌜ r ≡ atomsHold n (rowsOf 16 n (now (atoms .entry))) ⌝ }
 {
     let mut i = 0;
@@ -206,7 +207,7 @@ fn ends_differ(row: &[i32]) -> bool
 
 // A row of a bond, in a record of n atoms.
 fn bond_holds(row: &[i32], n: u32) -> bool
-    requires { ⌜ (6 ≤ length (now row)) × (n ≤ 255) ⌝ }
+    requires { ⌜ (6 ≤ length (now row)) × (n ≤ limit) ⌝ }
     ensures { λ r. ⌜ r ≡ bondHolds n (bondRow (now (row .entry))) ⌝ }
 {
     if !in_range(row, 0, 1, n) {
@@ -223,7 +224,7 @@ fn bond_holds(row: &[i32], n: u32) -> bool
 
 // Bond i, counted from 0.
 fn bond_at(bonds: &[i32], i: u32, n: u32) -> bool
-    requires { ⌜ (6 * i + 6 ≤ length (now bonds)) × (n ≤ 255) ⌝ }
+    requires { ⌜ (6 * i + 6 ≤ length (now bonds)) × (n ≤ limit) ⌝ }
     ensures { λ r. ⌜ r ≡ bondHolds n (bondRow (rowAt 6 (now (bonds .entry)) i)) ⌝ }
 {
     let at = 6 * (i as usize);
@@ -232,7 +233,7 @@ fn bond_at(bonds: &[i32], i: u32, n: u32) -> bool
 }
 
 fn bonds_hold(bonds: &[i32], n: u32, m: u32) -> bool
-    requires { ⌜ (1530 ≤ length (now bonds)) × ((n ≤ 255) × (m ≤ 255)) ⌝ }
+    requires { ⌜ (6 * limit ≤ length (now bonds)) × ((n ≤ limit) × (m ≤ limit)) ⌝ }
     ensures { λ r. ⌜ r ≡ bondsHold n (rowsOf 6 m (now (bonds .entry))) ⌝ }
 {
     let mut i = 0;
@@ -247,7 +248,7 @@ fn bonds_hold(bonds: &[i32], n: u32, m: u32) -> bool
 
 // Bonds i and j, counted from 0, join the same pair of atoms, in either direction.
 fn same_at(bonds: &[i32], i: usize, j: usize) -> bool
-    requires { ⌜ ((i < 255) × (j < 255)) × (1530 ≤ length (now bonds)) ⌝ }
+    requires { ⌜ ((i < limit) × (j < limit)) × (6 * limit ≤ length (now bonds)) ⌝ }
     ensures { λ r. ⌜ r ≡ sameAt (now (bonds .entry)) i j ⌝ }
 {
     let a = bonds[6 * i];
@@ -271,7 +272,7 @@ fn same_at(bonds: &[i32], i: usize, j: usize) -> bool
 
 // The first bond that joins the pair of an earlier one, with the first such.
 pub fn repeated_pair(bonds: &[i32], m: u32) -> Repeat
-    requires { ⌜ (1530 ≤ length (now bonds)) × (m ≤ 255) ⌝ }
+    requires { ⌜ (6 * limit ≤ length (now bonds)) × (m ≤ limit) ⌝ }
     ensures { λ r. ⌜ r ≡ firstRepeat (now (bonds .entry)) m ⌝ }
 {
     let count = m as usize;
@@ -305,7 +306,7 @@ fn zero_at(atoms: &[i32], i: u32, k: usize) -> bool
 
 // The number at k is 0 in every atom.
 fn all_zero(atoms: &[i32], n: u32, k: usize) -> bool
-    requires { ⌜ (4080 ≤ length (now atoms)) × ((n ≤ 255) × (k < 16)) ⌝ }
+    requires { ⌜ (16 * limit ≤ length (now atoms)) × ((n ≤ limit) × (k < 16)) ⌝ }
     ensures { λ r. ⌜ r ≡ allZero k (rowsOf 16 n (now (atoms .entry))) ⌝ }
 {
     let mut i = 0;
@@ -320,7 +321,7 @@ fn all_zero(atoms: &[i32], n: u32, k: usize) -> bool
 
 // No isotope, or no mass difference.
 fn masses_hold(atoms: &[i32], n: u32) -> bool
-    requires { ⌜ (4080 ≤ length (now atoms)) × (n ≤ 255) ⌝ }
+    requires { ⌜ (16 * limit ≤ length (now atoms)) × (n ≤ limit) ⌝ }
     ensures { λ r. ⌜ r ≡ massesHold (rowsOf 16 n (now (atoms .entry))) ⌝ }
 {
     if all_zero(atoms, n, 7) {
@@ -331,7 +332,7 @@ fn masses_hold(atoms: &[i32], n: u32) -> bool
 
 // The pairs of n atoms suffice for m bonds.
 fn enough_pairs(n: u32, m: u32) -> bool
-    requires { ⌜ (n ≤ 255) × (m ≤ 255) ⌝ }
+    requires { ⌜ (n ≤ limit) × (m ≤ limit) ⌝ }
     ensures { λ r. ⌜ r ≡ leb (2 * m) (n * (n - 1)) ⌝ }
 {
     if n == 0 {
@@ -357,7 +358,7 @@ fn counts_hold(n: u32, m: u32, chiral: u32) -> bool
 
 // Atoms and bonds, once n and m are good.
 fn tables_hold(atoms: &[i32], bonds: &[i32], n: u32, m: u32) -> bool
-    requires { ⌜ (4080 ≤ length (now atoms)) × ((1530 ≤ length (now bonds)) × ((n ≤ 255) × (m ≤ 255))) ⌝ }
+    requires { ⌜ (16 * limit ≤ length (now atoms)) × ((6 * limit ≤ length (now bonds)) × ((n ≤ limit) × (m ≤ limit))) ⌝ }
     ensures { λ r. ⌜ r ≡ tablesHold n m (now (atoms .entry)) (now (bonds .entry)) ⌝ }
 {
     if !atoms_hold(atoms, n) {
@@ -377,7 +378,7 @@ fn tables_hold(atoms: &[i32], bonds: &[i32], n: u32, m: u32) -> bool
 
 // Whether the first n atoms and the first m bonds can be written.
 pub fn writable(atoms: &[i32], bonds: &[i32], n: u32, m: u32, chiral: u32) -> bool
-    requires { ⌜ (4080 ≤ length (now atoms)) × (1530 ≤ length (now bonds)) ⌝ }
+    requires { ⌜ (16 * limit ≤ length (now atoms)) × (6 * limit ≤ length (now bonds)) ⌝ }
     ensures { λ r. ⌜ r ≡ writableTables n m chiral (now (atoms .entry)) (now (bonds .entry)) ⌝ }
 {
     if !counts_hold(n, m, chiral) {

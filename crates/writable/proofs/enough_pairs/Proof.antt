@@ -2,6 +2,7 @@
 use native.Mathlib.Nat.{lt-of-le-of-lt, mul-le-mul}
 use native.Mathlib.Omega.{arith}
 use lib.Dec.{lit<}
+use Rattle.rules.specs.Record.{limit}
 use Rattle.lines.specs.Lists.{no-atoms}
 use borrow.Author.Needs.{needs}
 use Rattle.writable.proofs.enough_pairs.Statement.{statement}
@@ -17,7 +18,7 @@ sub-result : tie.Need-sub-result
 sub-result c = search needs
 
 mul-result-2 : tie.Need-mul-result-2
-mul-result-2 c = record { fits = lt-of-le-of-lt (mul-le-mul {n₂ = 255} {m₂ = 255} (c .before .pre .0) (omega arith)) (lit< tt) }
+mul-result-2 c = record { fits = lt-of-le-of-lt (mul-le-mul {n₂ = limit} {m₂ = limit} (c .before .pre .0) (omega arith)) (lit< tt) }
 
 returns-2 : tie.Need-returns-2
 returns-2 c = search needs
