@@ -1,12 +1,11 @@
 -- One number of a row, as the code finds it.
-use Prim.Native.Nat.{ℕ, zero, suc, _+_, _-_, _^_, _≤_, _<_}
+use Prim.Native.Nat.{ℕ, zero, suc, _+_, _-_, _≤_, _<_}
 use native.Mathlib.Omega.{arith}
 use mathlib.Core.Path.{_≡_, refl, sym, ap, _∙_}
 use mathlib.Core.List.{List}
-use mathlib.Core.Bool.{Bool, true, false, cond}
-use lib.Dec.{eqb, leb}
-use lib.ListN.{length, getD}
-use lib.IntN.{ℤ, pos, negsuc, negℤ}
+use mathlib.Core.Bool.{true, false}
+use lib.ListN.{getD}
+use lib.IntN.{ℤ, pos, negsuc}
 use mir.Val.{SFits, toZ, ofZ}
 use mir.Syntax.{w32}
 use mir.Facts.{toZ-pos}

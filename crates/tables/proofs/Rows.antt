@@ -1,5 +1,5 @@
 -- Rows given their meaning, as the code does it.
-use Prim.Native.Nat.{ℕ, zero, suc, _+_, _*_, _-_, _^_, _≤_, _<_}
+use Prim.Native.Nat.{ℕ, suc, _+_, _*_, _-_, _^_, _≤_, _<_}
 use native.Mathlib.Omega.{arith}
 use native.Mathlib.Numerals.{add-one}
 use mathlib.Core.Path.{_≡_, refl, sym, ap, _∙_}
@@ -11,7 +11,7 @@ use lib.IntN.{ℤ, pos}
 use lib.Signed.{mag}
 use mir.Val.{SFits, toZ, ofZ}
 use mir.Syntax.{w32}
-use Rattle.rules.specs.Forms.{Kind, CHG, RAD, ISO}
+use Rattle.rules.specs.Forms.{CHG, RAD, ISO}
 use Rattle.lines.specs.Steps.{hop}
 use Rattle.tables.specs.Mean.{anyAfter, kindsIn, Kept, numberKept, chargeBy, radicalBy, massBy, codeIn, meantRow, meantFrom, meant}
 use Rattle.tables.specs.declared.Kinds.{Kinds}
@@ -92,7 +92,4 @@ module _ (t₀ t : List ℤ) (listed : List ℕ) (kinds : Kinds) (n i : ℕ) (g 
   pub meaning-size : length t ≡ length t₀
   meaning-size = g .size
 
-  pub meaning-less : i < n → i + 1 ≤ 255
-  meaning-less h = omega (arith, g .few)
-
-pub ruleset meanings = (meaning-start, meaning-kept, meaning-next, meaning-end, meaning-size, meaning-less)
+pub ruleset meanings = (meaning-start, meaning-kept, meaning-next, meaning-end, meaning-size)

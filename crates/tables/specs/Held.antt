@@ -1,10 +1,10 @@
 -- Rows stored one after the other: what the table then begins with, and what stays as it was.
-use Prim.Native.Nat.{ℕ, zero, suc, _+_, _*_, _≤_}
+use Prim.Native.Nat.{ℕ, suc, _+_, _*_, _≤_}
 use native.Mathlib.Omega.{arith}
-use mathlib.Core.Path.{_≡_, refl, sym, ap, ap₂, _∙_, subst}
-use mathlib.Core.List.{List, [], _∷_, _++_, append-assoc, append-nil}
-use lib.ListN.{length, take, drop, set, length-append, length-take}
-use lib.Seq.{sets, sets-eq, length-sets, drop-set-lt, take-at, length-take-le}
+use mathlib.Core.Path.{_≡_, refl, sym, ap, _∙_, subst}
+use mathlib.Core.List.{List, [], _∷_, _++_, map}
+use lib.ListN.{length, take, drop, set}
+use lib.Seq.{sets, sets-eq, length-sets, drop-set-lt, take-at}
 use lib.IntN.{ℤ}
 use Rattle.rules.specs.Forms.{Atom, Bond}
 use Rattle.rules.specs.Meaning.{bondNumbers}
@@ -83,3 +83,9 @@ module _ (t : List ℤ) (bs : List Bond) (b : Bond) where
 
   pub bond-past : (k : ℕ) → 6 * (length bs + 1) ≤ k → drop k bondStored ≡ drop k t
   bond-past k h = drop-sets (bondNumbers b) t (6 * length bs) k (omega arith)
+
+-- the rows of a reading's bonds
+pub bond-rows-flat : (bs : List Bond) → flat (map bondNumbers bs) ≡ bondRows bs
+unfolding flat bondRows
+bond-rows-flat [] = refl
+bond-rows-flat (b ∷ bs) = ap (λ (r : List ℤ). bondNumbers b ++ r) (bond-rows-flat bs)

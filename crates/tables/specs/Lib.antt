@@ -1,6 +1,9 @@
 pub mod Row
+pub mod Parts
 pub mod Small
 pub mod Held
-pub mod Filled
-pub mod Parts
 pub mod Mean
+pub mod Proper
+pub mod Meant
+pub mod Filled
+pub mod Cleared

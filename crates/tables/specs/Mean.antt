@@ -54,15 +54,17 @@ abbrev pub codeIn : ℤ → ℕ
 codeIn (pos k) = k
 codeIn (negsuc k) = 0
 
--- row i, from 0, is of atom i + 1
-abbrev pub meantRow : Kinds → List ℕ → ℕ → List ℤ → List ℤ
-meantRow kinds listed i t =
+-- mass difference, charge, radical and isotope of row i; rows count from 0, atoms from 1
+abbrev pub fourOf : Kinds → List ℕ → ℕ → List ℤ → List ℤ
+fourOf kinds listed i t =
     let code = codeIn (getD t (16 * i + 5) (pos 0)) in
-    sets t (16 * i + 4)
-    (massBy kinds (getD t (16 * i + 4) (pos 0)) ∷
+    massBy kinds (getD t (16 * i + 4) (pos 0)) ∷
     chargeBy kinds code (listedNumber CHG listed (i + 1)) ∷
     radicalBy kinds code (listedNumber RAD listed (i + 1)) ∷
-    listedNumber ISO listed (i + 1) ∷ [])
+    listedNumber ISO listed (i + 1) ∷ []
+
+abbrev pub meantRow : Kinds → List ℕ → ℕ → List ℤ → List ℤ
+meantRow kinds listed i t = sets t (16 * i + 4) (fourOf kinds listed i t)
 
 -- k rows from row i on
 unfoldable pub meantFrom : Kinds → List ℕ → ℕ → ℕ → List ℤ → List ℤ

@@ -1,5 +1,5 @@
 -- Rows of the lent tables: an atom is 16 numbers, a bond 6. While a record is read, an atom's row holds the charge code in the place of the charge, and no radical and no isotope.
-use Prim.Native.Nat.{ℕ, _≤_}
+use Prim.Native.Nat.{_≤_}
 use mathlib.Core.Path.{_≡_}
 use mathlib.Core.List.{List, [], _∷_, _++_}
 use lib.ListN.{length, take}

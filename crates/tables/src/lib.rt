@@ -15,7 +15,9 @@ use lines::AtomCodes;
 use lines::AtomPlace;
 use lines::Bond;
 
-// Places of the table of listed numbers.
+// Places of one kind in the table of listed numbers, and of all three.
+const PLACES: usize = 256;
+
 const LISTED: usize = 768;
 
 // Of which kinds a record has property lines.
@@ -120,9 +122,6 @@ pub fn clear(table: &mut [i32], from: usize, to: usize)
         i += 1;
     }
 }
-
-// Places of one kind in the table of listed numbers.
-const PLACES: usize = 256;
 
 // Whether one of the places 1 to n after place `from` is in use.
 fn any_listed(listed: &[u32; LISTED], from: usize, n: usize) -> bool

@@ -1,6 +1,4 @@
 -- `tables::put_atom` meets its contract.
-use lib.ListN.{length-set}
-use native.Mathlib.Omega.{arith}
 use Rattle.tables.proofs.Stored.{atom-stored}
 use borrow.Author.Needs.{needs}
 use Rattle.tables.proofs.put_atom.Statement.{statement}
