@@ -1,1 +1,5 @@
 pub mod Listed
+pub mod Answer
+pub mod Kept
+pub mod Seen
+pub mod Entering
