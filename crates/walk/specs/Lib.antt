@@ -1,0 +1,9 @@
+pub mod Keys
+pub mod Outcome
+pub mod Stands
+pub mod Took
+pub mod Follow
+pub mod Walked
+pub mod Walking
+pub mod Pairing
+pub mod AtEnd

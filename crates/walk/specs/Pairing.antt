@@ -1,0 +1,93 @@
+-- The search for a bond's pair among the pairs before it, within the walk: a repeat ends the walk with 11, else the bond is stored and the walk goes on.
+use Prim.Native.Nat.{ℕ, suc, _+_, _-_, _*_, _≤_, _<_}
+use native.Mathlib.Omega.{arith}
+use mathlib.Core.Path.{_≡_, refl, sym, ap, _∙_, subst}
+use mathlib.Core.List.{List}
+use mathlib.Core.Bool.{Bool, true, false}
+use lib.ListN.{length, getD, take, drop, set}
+use lib.Seq.{sets, length-sets}
+use lib.IntN.{ℤ}
+use Rattle.text.specs.Text.{Bytes}
+use Rattle.text.specs.Find.{lineAt}
+use Rattle.text.specs.declared.LineAt.{LineAt}
+use Rattle.rules.specs.Record.{limit}
+use Rattle.rules.specs.Meaning.{bondNumbers}
+use Rattle.lines.specs.Field.{elem}
+use Rattle.lines.specs.Answer.{bondIs}
+use Rattle.lines.specs.declared.Bond.{Bond}
+use Rattle.tables.specs.Row.{SmallBond}
+use Rattle.tables.specs.Held.{drop-sets}
+use Rattle.reader.specs.declared.Reader.{Reader}
+use Rattle.reader.specs.Went.{wentOf, Kept}
+use Rattle.walk.specs.declared.Notes.{Notes}
+use Rattle.walk.specs.declared.Taken.{Taken}
+use Rattle.walk.specs.declared.Walked.{Walked}
+use Rattle.walk.specs.Keys.{pairKey, keyOf, Searching, searching-start, searching-next, searching-found, searching-end}
+use Rattle.walk.specs.Outcome.{refused, outcomeOf}
+use Rattle.walk.specs.Took.{bondMore, takenBy, atomsBy}
+use Rattle.walk.specs.Stands.{kindOf}
+use Rattle.walk.specs.Follow.{Shown}
+use Rattle.walk.specs.Walked.{walkedBy, walkOf, Beside, HeldBy, Left}
+use Rattle.walk.specs.Walking.{Walking, Bonding, part, bonding}
+
+-- bonds 1 to j have been asked; `count` bonds stand before this one
+pub record Pairing (sd : Bool) (s : Bytes) (r : Reader) (m : Notes) (n i : ℕ) (t keys : List ℕ) (ta tb : List ℤ) (b : Bond) (key count j : ℕ) : Type 0 where
+  pub bond : Bonding sd s r m n i t keys ta tb b
+  pub key-of : key ≡ pairKey (b .first) (b .second)
+  pub before : count ≡ m .bonds
+  pub searching : Searching keys key count j
+
+pub pairing-start : (shown : Shown) (sd : Bool) (s : Bytes) (ta₀ tb₀ : List ℤ) (r : Reader) (m : Notes) (at i : ℕ) (t keys : List ℕ) (ta tb : List ℤ)
+    (g : Walking sd s ta₀ tb₀ r m at i t keys ta tb) (e n : ℕ) (l : lineAt s at ≡ LineAt.Line e n) (x : Taken) (r′ : Reader) (b : Bond) (t′ : List ℕ) (ta′ : List ℤ) →
+    x ≡ takenBy m n (wentOf r t (part s at e)) → Kept r t (part s at e) t′ → ta′ ≡ atomsBy m (wentOf r t (part s at e)) ta → x ≡ Taken.Bond r′ b → (key : ℕ) →
+    key ≡ pairKey (b .first) (b .second) → Pairing sd s r′ m n i t′ keys ta′ tb b key (m .bonds) 0
+pairing-start shown sd s ta₀ tb₀ r m at i t keys ta tb g e n l x r′ b t′ ta′ ex kept ea q key ek =
+    let h = bonding shown sd s ta₀ tb₀ r m at i t keys ta tb g e n l x r′ b t′ ta′ ex kept ea q in
+    record { bond = h; key-of = ek; before = refl; searching = searching-start keys key (m .bonds) (omega (arith, h .few, h .key-room)) }
+
+module _ (sd : Bool) (s : Bytes) (r : Reader) (m : Notes) (n i : ℕ) (t keys : List ℕ) (ta tb : List ℤ) (b : Bond) (key count j : ℕ)
+    (g : Pairing sd s r m n i t keys ta tb b key count j) where
+  pub pairing-next : j < count → (getD keys j 0 ≡ key → ⊥) → Pairing sd s r m n i t keys ta tb b key count (j + 1)
+  pairing-next h ne = record { bond = g .bond; key-of = g .key-of; before = g .before; searching = searching-next keys key count j (g .searching) h ne }
+
+  pub pairing-within : j < count → j < 256
+  pairing-within h = omega (arith, g .before, g .bond .few)
+
+  -- ---- The pair is found
+
+  module _ (h : j < count) (q : getD keys j 0 ≡ key) where
+    twice : outcomeOf (kindOf sd) s ≡ refused 11 i 1
+    twice =
+        let a = g .bond in
+        a .taken
+        (sym (a .key-is)
+        ∙ ap (λ (k : ℕ). elem k (take (m .bonds) keys)) (sym (g .key-of))
+        ∙ ap (λ (c : ℕ). elem key (take c keys)) (sym (g .before))
+        ∙ searching-found keys key count j (g .searching) h q)
+
+    pub pairing-found : (y : Walked) → y ≡ Walked.Refused 11 i 1 → y ≡ walkOf (kindOf sd) s
+    unfolding walkOf
+    pairing-found y e = e ∙ sym (ap (walkedBy (kindOf sd) s) twice)
+
+    pub found-left : (ta₀ tb₀ : List ℤ) → Beside 4080 ta₀ ta → Beside 1530 tb₀ tb → Left ta₀ ta tb₀ tb t (outcomeOf (kindOf sd) s)
+    found-left ta₀ tb₀ ba bb = record { atoms = ba; bonds = bb; held = subst (HeldBy ta tb t) (sym twice) tt }
+
+  -- ---- It is not among those before
+
+  pub pairing-end : count ≤ j → (ta₀ tb₀ : List ℤ) → Beside 4080 ta₀ ta → Beside 1530 tb₀ tb → (m′ : Notes) (keys′ : List ℕ) (tb′ : List ℤ) →
+      m′ ≡ bondMore m → keys′ ≡ set keys (m .bonds) key → tb′ ≡ sets tb (6 * (m .bonds)) (bondNumbers (bondIs b)) →
+      Walking sd s ta₀ tb₀ r m′ n (i + 1) t keys′ ta tb′
+  pairing-end h ta₀ tb₀ ba bb m′ keys′ tb′ em ek et =
+      let a = g .bond in
+      let new =
+      sym (a .key-is)
+      ∙ ap (λ (k : ℕ). elem k (take (m .bonds) keys)) (sym (g .key-of))
+      ∙ ap (λ (c : ℕ). elem key (take c keys)) (sym (g .before))
+      ∙ searching-end keys key count j (g .searching) h in
+      rw (em, ek, et, g .key-of)
+      (a .free new ta₀ tb₀ ba
+      (record {
+        room = bb .room;
+        size = length-sets tb (6 * (m .bonds)) (bondNumbers (bondIs b)) ∙ bb .size;
+        past = drop-sets (bondNumbers (bondIs b)) tb (6 * (m .bonds)) 1530 (omega (arith, a .few)) ∙ bb .past;
+      }))
