@@ -2,7 +2,9 @@
 pub mod Laid
 pub mod Rows
 pub mod Lines
+pub mod Properties
 -- Laws for the proofs
 pub mod Signs
 pub mod Parts
 pub mod Walks
+pub mod Listing
