@@ -3,3 +3,5 @@ pub mod Answer
 pub mod Kept
 pub mod Seen
 pub mod Entering
+pub mod Proper
+pub mod Shown
