@@ -7,3 +7,4 @@ pub mod Walked
 pub mod Walking
 pub mod Pairing
 pub mod AtEnd
+pub mod Promise
