@@ -15,9 +15,10 @@ use lines::AtomCodes;
 use lines::AtomPlace;
 use lines::Bond;
 
-// Places of one kind in the table of listed numbers, and of all three.
+// Places of one kind in the table of listed numbers: atoms 0 to the limit.
 const PLACES: usize = 256;
 
+// Places of that table: three kinds.
 const LISTED: usize = 768;
 
 // Of which kinds a record has property lines.
