@@ -3,8 +3,10 @@ pub mod Laid
 pub mod Rows
 pub mod Lines
 pub mod Properties
+pub mod Body
 -- Laws for the proofs
 pub mod Signs
 pub mod Parts
 pub mod Walks
 pub mod Listing
+pub mod Sizes

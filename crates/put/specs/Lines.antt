@@ -1,6 +1,6 @@
 -- Lines of a row, and their parts as they are laid.
 use Prim.Native.Nat.{ℕ, zero, suc}
-use mathlib.Core.List.{List, [], _∷_, _++_}
+use mathlib.Core.List.{List, [], _++_}
 use lib.ListN.{getD}
 use lib.IntN.{ℤ, pos, natAbs}
 use Rattle.text.specs.Text.{Bytes, Line, bytes}

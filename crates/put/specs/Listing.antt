@@ -10,14 +10,14 @@ use lib.ListN.{length, getD, take, drop, length-append, length-take, length-drop
 use lib.Seq.{getD-take, getD-drop, take-all}
 use lib.IntN.{ℤ, pos}
 use lib.Signed.{mag}
-use borrow.Author.Tests.{ltb-true, ltb-false, lt-ltb, le-ltb}
+use borrow.Author.Tests.{ltb-true, lt-ltb, le-ltb}
 use mir.Syntax.{w32, w64}
 use mir.Val.{Fits, ofZ}
-use Rattle.text.specs.Text.{Bytes, Line, bytes, LF}
+use Rattle.text.specs.Text.{Bytes, bytes, LF}
 use Rattle.text.specs.Written.{text}
 use Rattle.numbers.specs.Write.{numberText, signedText}
 use Rattle.numbers.specs.Written.{number-length, signed-length}
-use Rattle.rules.specs.Forms.{Kind, CHG, RAD, ISO, tag, Entry, Property}
+use Rattle.rules.specs.Forms.{CHG, RAD, ISO, tag, Entry}
 use Rattle.rules.specs.Write.{joined, entryFields, propertyText}
 use Rattle.rules.specs.Canon.{atomRow, numberOf, isZero, entriesFrom, eights, linesOf}
 use Rattle.put.specs.Laid.{Laid, Field, field-join, Owes, owes-start, owes-next, owes-end}
@@ -323,14 +323,14 @@ eight-small left k x = go (ltb left 8) refl
 
 -- ---- While the lines of a kind are written
 
-lines-next : (kind : ℕ) (left k : ℕ) (es : List Entry) → left ≡ length es → 0 < left → Eight left k →
+pub lines-next : (kind : ℕ) (left k : ℕ) (es : List Entry) → left ≡ length es → 0 < left → Eight left k →
     linesText kind es ≡ text (propertyText (record { kind = kindOf kind; entries = take k es }) ∷ []) ++ linesText kind (drop k es)
 unfolding linesText text
 lines-next kind left k es l h x =
     rw (eights-next es (omega arith), eight-taken left k es l x, eight-dropped left k es l x)
     (sym (append-assoc (propertyText (record { kind = kindOf kind; entries = take 8 es })) (LF ∷ []) (text (map propertyText (linesOf (kindOf kind) (drop 8 es))))))
 
-line-length : (kind : ℕ) (es : List Entry) → length (text (propertyText (record { kind = kindOf kind; entries = es }) ∷ [])) ≡ 10 + 8 * length es
+pub line-length : (kind : ℕ) (es : List Entry) → length (text (propertyText (record { kind = kindOf kind; entries = es }) ∷ [])) ≡ 10 + 8 * length es
 line-length kind es =
     ap length (sym (property-is kind es))
     ∙ length-append (bytes (tag (kindOf kind))) (numberText 3 (length es) ++ (entriesText es ++ (LF ∷ [])))

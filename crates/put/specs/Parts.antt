@@ -3,17 +3,17 @@ use Prim.Native.Nat.{ℕ, zero, suc, _+_, _-_, _*_, _≤_, _<_, _^_}
 use native.Mathlib.Numerals.{add-one}
 use native.Mathlib.Omega.{arith}
 use mathlib.Core.Path.{_≡_, refl, sym, ap, _∙_, subst}
-use mathlib.Core.List.{List, [], _∷_, _++_, append-assoc, append-nil}
-use lib.ListN.{length, getD, take, drop, set, length-append, length-set}
+use mathlib.Core.List.{List, [], _∷_, _++_, append-assoc}
+use lib.ListN.{length, getD, take, set, length-append, length-set}
 use lib.Seq.{sets, take-suc, take-all}
 use lib.IntN.{ℤ, pos, natAbs}
 use lib.Signed.{mag}
 use mir.Syntax.{w32}
 use mir.Val.{toZ, ofZ}
-use Rattle.text.specs.Text.{Bytes, Line, bytes, LF}
+use Rattle.text.specs.Text.{Bytes, bytes, LF}
 use Rattle.text.specs.Written.{text}
 use Rattle.numbers.specs.Write.{numberText, signedText}
-use Rattle.numbers.specs.Written.{number-length, signed-length}
+use Rattle.numbers.specs.Written.{text-length, number-length, signed-length}
 use Rattle.coordinates.specs.Write.{coordinateText}
 use Rattle.coordinates.specs.Written.{coordinate-length}
 use Rattle.symbols.specs.Write.{symbolText, symbol-length}
@@ -164,6 +164,9 @@ counts-is : (n m chiral : ℕ) →
     ≡ text (countsText (record { atoms = n; bonds = m; chiral = chiral }) ∷ [])
 unfolding text countsText joined
 counts-is n m chiral = simp append-assoc
+
+pub counts-length : (n m chiral : ℕ) → length (text (countsText (record { atoms = n; bonds = m; chiral = chiral }) ∷ [])) ≡ 40
+counts-length n m chiral = ap length (sym (counts-is n m chiral)) ∙ simp (length-append, text-length)
 
 pub counts-parts : (n m chiral : ℕ) {r₀ r₁ r₂ r₃ r₄ r₅ : Bytes} {at a b c d e : ℕ} →
     Field r₀ r₁ at 3 (numberText 3 n) a → Field r₁ r₂ a 3 (numberText 3 m) b → Field r₂ r₃ b 6 (bytes "  0  0") c → Field r₃ r₄ c 3 (numberText 3 chiral) d →

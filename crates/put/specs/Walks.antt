@@ -7,14 +7,11 @@ use mathlib.Core.Path.{_≡_, refl, sym, ap, _∙_, subst}
 use mathlib.Core.List.{List, [], _∷_, _++_, map, append-assoc}
 use lib.ListN.{length, getD, take, drop, length-append, length-take, length-drop, drop-of-length-le}
 use lib.IntN.{ℤ, pos, negsuc, natAbs}
-use Rattle.text.specs.Text.{Bytes, Line, bytes, LF}
+use Rattle.text.specs.Text.{Bytes, Line, LF}
 use Rattle.text.specs.Written.{text}
-use Rattle.numbers.specs.Write.{numberText, signedText}
-use Rattle.numbers.specs.Written.{number-length, signed-length, text-length}
-use Rattle.coordinates.specs.Write.{coordinateText}
+use Rattle.numbers.specs.Written.{signed-length, text-length}
 use Rattle.coordinates.specs.Written.{coordinate-length}
-use Rattle.symbols.specs.Symbol.{names}
-use Rattle.symbols.specs.Write.{symbolText, symbol-length}
+use Rattle.symbols.specs.Write.{symbol-length}
 use Rattle.rules.specs.Write.{joined, atomText, bondText}
 use Rattle.rules.specs.Canon.{atomRow, atomOf, bondOf, FromTo, WritableAtom}
 use Rattle.rules.specs.Canon as R

@@ -17,6 +17,7 @@ ghost use Rattle.put.specs.Laid.{Laid, Field};
 ghost use Rattle.put.specs.Rows.{rowsOf};
 ghost use Rattle.put.specs.Lines.{atomLine, bondLine, WritableAtoms, columnsFrom, codeText, positionText, elementText};
 ghost use Rattle.put.specs.Properties.{kindOf, numberAt, entryAt, entriesAt, entriesText, propertiesText, Next, Eight, Entered};
+ghost use Rattle.put.specs.Body.{bodyText, restText, restSize, bodySize};
 
 // These bytes.
 fn put_bytes(room: &mut [u8], at: usize, src: &[u8]) -> usize
@@ -400,4 +401,59 @@ fn put_properties(room: &mut [u8], at: usize, atoms: &[i32], n: usize, kind: usi
         left -= k;
     }
     e
+}
+
+// How many bytes the lines of a kind take.
+fn kind_size(atoms: &[i32], n: usize, kind: usize) -> usize
+    requires { ⌜ (16 * n ≤ length (now atoms)) × ((kind ≤ 2) × (n ≤ 255)) ⌝ }
+    ensures { λ r. ⌜ r ≡ length (propertiesText kind n (now (atoms .entry))) ⌝ }
+{
+    let k = entry_count(atoms, n, kind);
+    10 * ((k + 7) / 8) + 8 * k
+}
+
+// How many bytes the lines after the header lines take.
+pub fn molecule_size(atoms: &[i32], n: u32, m: u32) -> usize
+    requires { ⌜ (16 * n ≤ length (now atoms)) × ((n ≤ 255) × (m ≤ 255)) ⌝ }
+    ensures { λ r. ⌜ r ≡ bodySize n m (now (atoms .entry)) ⌝ }
+{
+    let k = n as usize;
+    let a = kind_size(atoms, k, 0);
+    let b = kind_size(atoms, k, 1);
+    let c = kind_size(atoms, k, 2);
+    40 + 70 * k + 22 * (m as usize) + (a + b + c + 7)
+}
+
+// The property lines and `M  END`.
+fn put_rest(room: &mut [u8], at: usize, atoms: &[i32], n: usize) -> usize
+    requires { ⌜ (16 * n ≤ length (now atoms)) × (n ≤ 255) ⌝ }
+    requires { ⌜ at + restSize n (now atoms) ≤ length (now room) ⌝ }
+    ensures { λ r. ⌜ Laid (now (room .entry)) (now (room .exit)) at (restText n (now (atoms .entry))) r ⌝ }
+{
+    let a = put_properties(room, at, atoms, n, 0);
+    let b = put_properties(room, a, atoms, n, 1);
+    let c = put_properties(room, b, atoms, n, 2);
+    put_bytes(room, c, b"M  END\n")
+}
+
+// The lines after the header lines.
+pub fn put_molecule(
+    room: &mut [u8],
+    at: usize,
+    atoms: &[i32],
+    bonds: &[i32],
+    n: u32,
+    m: u32,
+    chiral: u32,
+) -> usize
+    requires { ⌜ ((16 * n ≤ length (now atoms)) × (6 * m ≤ length (now bonds))) × ((n ≤ 255) × (m ≤ 255)) ⌝ }
+    requires { ⌜ WritableAtoms n (now atoms) ⌝ }
+    requires { ⌜ at + bodySize n m (now atoms) ≤ length (now room) ⌝ }
+    ensures { λ r. ⌜ Laid (now (room .entry)) (now (room .exit)) at (bodyText n m chiral (now (atoms .entry)) (now (bonds .entry))) r ⌝ }
+{
+    let k = n as usize;
+    let a = put_counts(room, at, n, m, chiral);
+    let b = put_atoms(room, a, atoms, k);
+    let c = put_bonds(room, b, bonds, m as usize);
+    put_rest(room, c, atoms, k)
 }
