@@ -373,15 +373,18 @@ fn put_property(
     }
 }
 
+// Entries that a line holds at most.
+const PER_LINE: usize = 8;
+
 // How many of the entries left go into the next line.
 fn at_most_eight(left: usize) -> usize
     requires { ⌜ 0 < left ⌝ }
     ensures { λ r. ⌜ Eight left r ⌝ }
 {
-    if left < 8 {
+    if left < PER_LINE {
         return left;
     }
-    8
+    PER_LINE
 }
 
 // All lines of a kind: entries by rising atom number, eight a line.
