@@ -2,3 +2,5 @@ pub mod Part
 pub mod Written
 pub mod Step
 pub mod Runs
+pub mod Laid
+pub mod Put
