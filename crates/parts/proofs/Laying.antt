@@ -16,47 +16,22 @@ use Rattle.items.specs.declared.HeaderJudged.{HeaderJudged}
 use Rattle.items.specs.declared.ItemRead.{ItemRead}
 use Rattle.items.specs.declared.ValueRead.{ValueRead}
 use Rattle.parts.specs.Step.{ended, Taken, taken, lineAs}
-use Rattle.parts.specs.Laid.{Laid, laid-none, laid-join}
+use Rattle.put.specs.Laid.{Laid, laid-none, laid-join}
+use Rattle.put.specs.Parts.{Copying, copying-start, copying-next, copying-end, copying-size}
 use Rattle.parts.specs.Put.{textIn, PutAs}
 use Rattle.parts.specs.declared.Place.{Place}
 use Rattle.parts.specs.declared.Put.{Put}
 use Rattle.parts.proofs.Turns.{title-length, name-length}
 
--- ---- while bytes are copied
+-- ---- bytes
 
-pub record Copying (src r₀ r : Bytes) (at i : ℕ) : Type 0 where
-  pub within : i ≤ length src
-  pub room : at + length src ≤ length r₀
-  pub laid : Laid r₀ r at (take i src) (at + i)
-  pub size : length r ≡ length r₀
+pub copied : (src r₀ r : Bytes) (at i : ℕ) → Copying src r₀ r at i → length src ≤ i → Laid r₀ r at src (at + i)
+copied src r₀ r at i g h = copying-end src r₀ r at i g h .laid
 
-pub copying-start : (src r : Bytes) (at : ℕ) → at + length src ≤ length r → Copying src r r at 0
-copying-start src r at h =
-    let e : at + 0 ≡ at = omega arith in
-    record { within = omega arith; room = h; laid = rw e (laid-none r at (omega arith)); size = refl }
+pub ruleset copied-laws = (copied, copying-start, copying-next, copying-size)
 
 laid-one : (r : Bytes) (at b : ℕ) → at < length r → Laid r (set r at b) at (b ∷ []) (at + 1)
 laid-one r at b h = record { size = length-set r at b; next = refl; fits = omega arith; same = refl }
-
-module _ (src r₀ r : Bytes) (at i : ℕ) (g : Copying src r₀ r at i) where
-  pub copying-next : i < length src → Copying src r₀ (set r (at + i) (getD src i 0)) at (i + 1)
-  copying-next h =
-      let t : take (i + 1) src ≡ take i src ++ (getD src i 0 ∷ []) = ap (λ (k : ℕ). take k src) (add-one i) ∙ take-suc src i 0 h in
-      let e : at + (i + 1) ≡ at + i + 1 = omega arith in
-      record {
-        within = omega arith;
-        room = g .room;
-        laid = rw (t, e) (laid-join (g .laid) (laid-one r (at + i) (getD src i 0) (omega (arith, g .room, g .size))));
-        size = length-set r (at + i) (getD src i 0) ∙ g .size;
-      }
-
-  pub copying-end : length src ≤ i → Laid r₀ r at src (at + i)
-  copying-end h = subst (λ (x : Bytes). Laid r₀ r at x (at + i)) (take-all i src h) (g .laid)
-
-  pub copying-size : length r ≡ length r₀
-  copying-size = g .size
-
-pub ruleset copying-laws = (copying-start, copying-next, copying-end, copying-size)
 
 -- ---- a line and its end, a data header
 

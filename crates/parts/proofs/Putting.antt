@@ -15,7 +15,7 @@ use Rattle.parts.specs.Part.{PartVerdict, good, refused, Run, run, concl
 use Rattle.parts.specs.Written.{textOf, writtenHeaders, writtenItems}
 use Rattle.parts.specs.Step.{Taken, taken, lineAs, longest, turnAs, Standing, standingTurn, standingEnd, endsAt, writtenFrom}
 use Rattle.parts.specs.Runs.{at-place, at-stopped, run-next, run-stop, fromCut}
-use Rattle.parts.specs.Laid.{Laid, laid-none, laid-join}
+use Rattle.put.specs.Laid.{Laid, laid-none, laid-join}
 use Rattle.parts.specs.Put.{textIn, placeIn, PutAs, Room}
 use Rattle.parts.specs.declared.Place.{Place}
 use Rattle.parts.specs.declared.Put.{Put}

@@ -8,7 +8,7 @@ use Rattle.lines.specs.Got.{Got, got, bad}
 use Rattle.parts.specs.Part.{PartVerdict, good}
 use Rattle.parts.specs.Written.{textOf}
 use Rattle.parts.specs.Step.{Taken}
-use Rattle.parts.specs.Laid.{Laid}
+use Rattle.put.specs.Laid.{Laid}
 use Rattle.parts.specs.declared.Place.{Place}
 use Rattle.parts.specs.declared.Put.{Put}
 

@@ -9,7 +9,7 @@ ghost use Prim.Native.Nat.{_+_, _-_, _≤_};
 ghost use lib.ListN.{length, take, drop};
 ghost use Rattle.rules.specs.Write.{headerText};
 ghost use Rattle.parts.specs.Written.{judged, textOf, writtenHeaders, writtenItems};
-ghost use Rattle.parts.specs.Laid.{Laid};
+ghost use Rattle.put.specs.Laid.{Laid};
 ghost use Rattle.parts.specs.Put.{textIn, PutAs, Room};
 ghost use Rattle.parts.specs.Step.{ended, lineAs, longest, turnAs, turned, allowedAs, endsAs, writtenFrom};
 
@@ -142,33 +142,28 @@ fn line_turn(place: Place, line: &[u8]) -> Turn
     allowed_turn(place, line)
 }
 
-// What a part is at its end: whole or cut short. The next line would be `line`.
+// A part that is not whole. The next line would be `line`.
+fn cut_short(line: usize) -> PartJudged
+    ensures { λ r. ⌜ r ≡ PartJudged.Refused 19 line 1 ⌝ }
+{
+    PartJudged::Refused {
+        no: 19,
+        line,
+        column: 1,
+    }
+}
+
+// What a part is at its end.
 fn part_end(place: Place, line: usize, size: usize) -> PartJudged
     ensures { λ r. ⌜ r ≡ endsAs place size line ⌝ }
 {
     match place {
-        Place::First => PartJudged::Refused {
-            no: 19,
-            line,
-            column: 1,
-        },
-        Place::Second => PartJudged::Refused {
-            no: 19,
-            line,
-            column: 1,
-        },
-        Place::Third => PartJudged::Refused {
-            no: 19,
-            line,
-            column: 1,
-        },
+        Place::First => cut_short(line),
+        Place::Second => cut_short(line),
+        Place::Third => cut_short(line),
         Place::Full => PartJudged::Good { size },
         Place::Items => PartJudged::Good { size },
-        Place::Values => PartJudged::Refused {
-            no: 19,
-            line,
-            column: 1,
-        },
+        Place::Values => cut_short(line),
     }
 }
 
@@ -182,11 +177,7 @@ fn judge_part(s: &[u8], start: Place) -> PartJudged
     let mut size: usize = 0;
     while at < s.len() {
         let LineAt::Line { end, next } = text::line_at(s, at) else {
-            return PartJudged::Refused {
-                no: 19,
-                line,
-                column: 1,
-            };
+            return cut_short(line);
         };
         match line_turn(place, &s[at..end]) {
             Turn::Next { place: p, size: n } => {

@@ -2,7 +2,8 @@
 use borrow.Author.Needs.{needs}
 use Prim.Native.Nat.{_-_}
 use lib.ListN.{length}
-use Rattle.parts.proofs.Laying.{Copying, copying-laws}
+use Rattle.put.specs.Parts.{Copying}
+use Rattle.parts.proofs.Laying.{copied-laws}
 use Rattle.parts.proofs.put_bytes.Statement.{statement}
 use Rattle.parts.proofs.put_bytes.Tie as tie
 
@@ -13,34 +14,34 @@ abbrev μ-loop : tie.MeasureT-loop
 μ-loop src room₀ at i₀ room i = length src - i
 
 loop-holds : tie.Need-loop-holds Inv-loop μ-loop
-loop-holds c = search (needs, copying-laws)
+loop-holds c = search (needs, copied-laws)
 
 shared-slice-read-room : tie.Need-shared-slice-read-room Inv-loop μ-loop
-shared-slice-read-room c = search (needs, copying-laws)
+shared-slice-read-room c = search (needs, copied-laws)
 
 add-room : tie.Need-add-room Inv-loop μ-loop
-add-room c = search (needs, copying-laws)
+add-room c = search (needs, copied-laws)
 
 slice-write-room : tie.Need-slice-write-room Inv-loop μ-loop
-slice-write-room c = search (needs, copying-laws)
+slice-write-room c = search (needs, copied-laws)
 
 add-i : tie.Need-add-i Inv-loop μ-loop
-add-i c = search (needs, copying-laws)
+add-i c = search (needs, copied-laws)
 
 loop-less : tie.Need-loop-less Inv-loop μ-loop
-loop-less c = search (needs, copying-laws)
+loop-less c = search (needs, copied-laws)
 
 loop-again : tie.Need-loop-again Inv-loop μ-loop
-loop-again c = search (needs, copying-laws)
+loop-again c = search (needs, copied-laws)
 
 add-result : tie.Need-add-result Inv-loop μ-loop
-add-result c = search (needs, copying-laws)
+add-result c = search (needs, copied-laws)
 
 same-length : tie.Need-same-length Inv-loop μ-loop
-same-length c = search (needs, copying-laws)
+same-length c = search (needs, copied-laws)
 
 returns : tie.Need-returns Inv-loop μ-loop
-returns c = search (needs, copying-laws)
+returns c = search (needs, copied-laws)
 
 pub put-bytes-spec : {M : Type 1} → statement M
 put-bytes-spec =
