@@ -174,8 +174,8 @@ module _ (start : Place) (s : Bytes) (p : Place) (at i size : ℕ) (g : Judging 
   pub judging-end : (r : PartJudged) → length s ≤ at → r ≡ endsAs p size i → r ≡ judged (writtenFrom start s)
   judging-end r h k = k ∙ sym (ap judged (g .same ∙ here-end p (g .out) i s at h) ∙ ends-length p (g .out) (g .measured))
 
-  pub judging-cut : (x : LineAt) → at < length s → x ≡ lineAt s at → x ≡ LineAt.Unfinished → PartJudged.Refused 19 i 1 ≡ judged (writtenFrom start s)
-  judging-cut x some e h = sym (ap judged (g .same ∙ here-cut p (g .out) i s at some (sym e ∙ h)))
+  pub judging-cut : (r : PartJudged) (x : LineAt) → at < length s → x ≡ lineAt s at → x ≡ LineAt.Unfinished → r ≡ PartJudged.Refused 19 i 1 → r ≡ judged (writtenFrom start s)
+  judging-cut r x some e h k = k ∙ sym (ap judged (g .same ∙ here-cut p (g .out) i s at some (sym e ∙ h)))
 
   module _ (x : LineAt) (e n : ℕ) (k : x ≡ lineAt s at) (h : x ≡ LineAt.Line e n) where
     line-is : lineAt s at ≡ LineAt.Line e n

@@ -1,3 +1,5 @@
 pub mod Turns
 pub mod Judging
 pub mod Beside
+pub mod Laying
+pub mod Putting

@@ -142,14 +142,14 @@ pub ruleset turn-laws = (at-this, at-second, at-third, at-full, bad-byte, good-b
 -- ---- at the end of a part
 
 module _ (p : Place) (size line : ℕ) where
-  pub end-first : p ≡ Place.First → PartJudged.Refused 19 line 1 ≡ endsAs p size line
-  end-first e = rw e
+  pub end-first : (r : PartJudged) → p ≡ Place.First → r ≡ PartJudged.Refused 19 line 1 → r ≡ endsAs p size line
+  end-first r e h = rw e h
 
-  pub end-second : p ≡ Place.Second → PartJudged.Refused 19 line 1 ≡ endsAs p size line
-  end-second e = rw e
+  pub end-second : (r : PartJudged) → p ≡ Place.Second → r ≡ PartJudged.Refused 19 line 1 → r ≡ endsAs p size line
+  end-second r e h = rw e h
 
-  pub end-third : p ≡ Place.Third → PartJudged.Refused 19 line 1 ≡ endsAs p size line
-  end-third e = rw e
+  pub end-third : (r : PartJudged) → p ≡ Place.Third → r ≡ PartJudged.Refused 19 line 1 → r ≡ endsAs p size line
+  end-third r e h = rw e h
 
   pub end-full : p ≡ Place.Full → PartJudged.Good size ≡ endsAs p size line
   end-full e = rw e
@@ -157,7 +157,7 @@ module _ (p : Place) (size line : ℕ) where
   pub end-items : p ≡ Place.Items → PartJudged.Good size ≡ endsAs p size line
   end-items e = rw e
 
-  pub end-values : p ≡ Place.Values → PartJudged.Refused 19 line 1 ≡ endsAs p size line
-  end-values e = rw e
+  pub end-values : (r : PartJudged) → p ≡ Place.Values → r ≡ PartJudged.Refused 19 line 1 → r ≡ endsAs p size line
+  end-values r e h = rw e h
 
 pub ruleset end-laws = (end-first, end-second, end-third, end-full, end-items, end-values)

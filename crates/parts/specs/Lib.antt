@@ -1,4 +1,9 @@
 pub mod Part
 pub mod Written
 pub mod Step
+pub mod Put
 pub mod Runs
+pub mod AnyPart
+pub mod PartFrom
+pub mod PartAgree
+pub mod PartText

@@ -24,6 +24,9 @@ enum-known-end c = search (needs, judging-laws)
 enum-told : tie.Need-enum-told Inv-loop μ-loop
 enum-told c = search (needs, judging-laws)
 
+cut-short-requires : tie.Need-cut-short-requires Inv-loop μ-loop
+cut-short-requires c κs = search (needs, judging-laws)
+
 returns : tie.Need-returns Inv-loop μ-loop
 returns c = search (needs, judging-laws)
 
@@ -76,6 +79,7 @@ judge-part-spec =
     line-at-requires
     enum-known-end
     enum-told
+    cut-short-requires
     returns
     sub-line-turn
     part-line-turn-start

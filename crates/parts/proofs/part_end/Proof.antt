@@ -7,11 +7,20 @@ use Rattle.parts.proofs.part_end.Tie as tie
 enum-told : tie.Need-enum-told
 enum-told c = search needs
 
+cut-short-requires : tie.Need-cut-short-requires
+cut-short-requires c κs = search needs
+
 enum-told-2 : tie.Need-enum-told-2
 enum-told-2 c = search needs
 
+cut-short-requires-2 : tie.Need-cut-short-requires-2
+cut-short-requires-2 c κs = search needs
+
 enum-told-3 : tie.Need-enum-told-3
 enum-told-3 c = search needs
+
+cut-short-requires-3 : tie.Need-cut-short-requires-3
+cut-short-requires-3 c κs = search needs
 
 enum-told-4 : tie.Need-enum-told-4
 enum-told-4 c = search needs
@@ -21,6 +30,9 @@ enum-told-5 c = search needs
 
 enum-told-6 : tie.Need-enum-told-6
 enum-told-6 c = search needs
+
+cut-short-requires-4 : tie.Need-cut-short-requires-4
+cut-short-requires-4 c κs = search needs
 
 returns : tie.Need-returns
 returns c = search (needs, end-laws)
@@ -45,11 +57,15 @@ part-end-spec =
     tie.close
     (tie.spec
     enum-told
+    cut-short-requires
     enum-told-2
+    cut-short-requires-2
     enum-told-3
+    cut-short-requires-3
     enum-told-4
     enum-told-5
     enum-told-6
+    cut-short-requires-4
     returns
     returns-2
     returns-3
