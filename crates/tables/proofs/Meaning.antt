@@ -1,5 +1,5 @@
 -- One number of a row, as the code finds it.
-use Prim.Native.Nat.{ℕ, zero, suc, _+_, _-_, _≤_, _<_}
+use Prim.Native.Nat.{ℕ, zero, suc, _+_, _*_, _-_, _≤_, _<_}
 use native.Mathlib.Omega.{arith}
 use mathlib.Core.Path.{_≡_, refl, sym, ap, _∙_}
 use mathlib.Core.List.{List}
@@ -12,6 +12,7 @@ use mir.Facts.{toZ-pos}
 use borrow.Author.Tests.{eq-eqb, ne-eqb, le-leb, lt-leb}
 use Rattle.numbers.specs.Read.{signed}
 use Rattle.rules.specs.Meaning.{chargeOfCode, radicalOfCode}
+use Rattle.entries.specs.Listed.{places}
 use Rattle.lines.specs.Steps.{hop}
 use Rattle.tables.specs.Mean.{anyAfter, numberKept, chargeBy, radicalBy, massBy, codeIn}
 use Rattle.tables.specs.declared.Kinds.{Kinds}
@@ -20,11 +21,11 @@ use Rattle.tables.specs.declared.Kinds.{Kinds}
 
 -- none from a + 1 to n is
 pub record Asking (t : List ℕ) (from n a : ℕ) : Type 0 where
-  pub room : from + n < 768
+  pub room : from + n < 3 * places
   pub within : a ≤ n
   pub same : anyAfter from t n ≡ anyAfter from t a
 
-pub asking-start : (t : List ℕ) (from n : ℕ) → from + n < 768 → Asking t from n n
+pub asking-start : (t : List ℕ) (from n : ℕ) → from + n < 3 * places → Asking t from n n
 asking-start t from n h = record { room = h; within = omega arith; same = refl }
 
 module _ (t : List ℕ) (from n a : ℕ) (g : Asking t from n a) where
@@ -52,7 +53,7 @@ module _ (t : List ℕ) (from n a : ℕ) (g : Asking t from n a) where
       go : (b : ℕ) → b ≡ 0 → anyAfter from t b ≡ false
       go b q = rw q
 
-  pub asking-room : from + a < 768
+  pub asking-room : from + a < 3 * places
   asking-room = omega (arith, g .room, g .within)
 
 pub ruleset asking = (asking-start, asking-next, asking-found, asking-end, asking-room)

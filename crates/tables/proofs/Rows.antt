@@ -12,11 +12,13 @@ use lib.Signed.{mag}
 use mir.Val.{SFits, toZ, ofZ}
 use mir.Syntax.{w32}
 use Rattle.rules.specs.Forms.{CHG, RAD, ISO}
+use Rattle.rules.specs.Record.{limit}
+use Rattle.entries.specs.Listed.{places}
 use Rattle.lines.specs.Steps.{hop}
 use Rattle.tables.specs.Mean.{anyAfter, kindsIn, Kept, numberKept, chargeBy, radicalBy, massBy, codeIn, meantRow, meantFrom, meant}
 use Rattle.tables.specs.declared.Kinds.{Kinds}
 
-pub kinds-made : (t : List ℕ) (n : ℕ) (a b c : Bool) → a ≡ anyAfter 0 t n → b ≡ anyAfter 256 t n → c ≡ anyAfter 512 t n → _≡_ {A = Kinds} (record { charges = a; radicals = b; isotopes = c }) (kindsIn n t)
+pub kinds-made : (t : List ℕ) (n : ℕ) (a b c : Bool) → a ≡ anyAfter 0 t n → b ≡ anyAfter places t n → c ≡ anyAfter (2 * places) t n → _≡_ {A = Kinds} (record { charges = a; radicals = b; isotopes = c }) (kindsIn n t)
 kinds-made t n a b c e f g = rw (e, f, g)
 
 -- ---- one row
@@ -25,10 +27,10 @@ module _ (t : List ℕ) (i : ℕ) (g : Kept (i + 1) t) where
   pub charge-small : getD t (i + 1) 0 ≤ 1015
   charge-small = let e : 0 + (i + 1) ≡ i + 1 = omega arith in rw e at (g .small CHG (i + 1) (omega arith))
 
-  pub radical-small : getD t (256 + (i + 1)) 0 ≤ 1015
+  pub radical-small : getD t (places + (i + 1)) 0 ≤ 1015
   radical-small = g .small RAD (i + 1) (omega arith)
 
-  pub isotope-small : getD t (512 + (i + 1)) 0 ≤ 1015
+  pub isotope-small : getD t (2 * places + (i + 1)) 0 ≤ 1015
   isotope-small = g .small ISO (i + 1) (omega arith)
 
 pub ruleset small-places = (charge-small, radical-small, isotope-small)
@@ -42,8 +44,8 @@ pub row-meant : (t u : List ℤ) (listed : List ℕ) (kinds : Kinds) (i : ℕ) (
     SFits w32 m → SFits w32 c → SFits w32 r → SFits w32 s →
     m ≡ massBy kinds (toZ w32 (ofZ w32 (getD t (16 * i + 4) (pos 0)))) →
     c ≡ chargeBy kinds (codeIn (toZ w32 (ofZ w32 (getD t (16 * i + 5) (pos 0))))) (numberKept (getD listed (i + 1) 0)) →
-    r ≡ radicalBy kinds (codeIn (toZ w32 (ofZ w32 (getD t (16 * i + 5) (pos 0))))) (numberKept (getD listed (256 + (i + 1)) 0)) →
-    s ≡ numberKept (getD listed (512 + (i + 1)) 0) →
+    r ≡ radicalBy kinds (codeIn (toZ w32 (ofZ w32 (getD t (16 * i + 5) (pos 0))))) (numberKept (getD listed (places + (i + 1)) 0)) →
+    s ≡ numberKept (getD listed (2 * places + (i + 1)) 0) →
     u ≡ sets t (16 * i + 4) (toZ w32 (ofZ w32 m) ∷ toZ w32 (ofZ w32 c) ∷ toZ w32 (ofZ w32 r) ∷ toZ w32 (ofZ w32 s) ∷ []) →
     u ≡ meantRow kinds listed i t
 row-meant t u listed kinds i m c r s x y fm fc fr fs em ec er es e =
@@ -53,7 +55,7 @@ row-meant t u listed kinds i m c r s x y fm fc fr fs em ec er es e =
 -- ---- row after row
 
 pub record Meaning (t₀ t : List ℤ) (listed : List ℕ) (kinds : Kinds) (n i : ℕ) : Type 0 where
-  pub few : n ≤ 255
+  pub few : n ≤ limit
   pub room : 16 * n ≤ length t
   pub kept : Kept n listed
   pub within : i ≤ n
@@ -61,7 +63,7 @@ pub record Meaning (t₀ t : List ℤ) (listed : List ℕ) (kinds : Kinds) (n i 
   pub kinds-are : kinds ≡ kindsIn n listed
   pub same : meantFrom kinds listed 0 n t₀ ≡ meantFrom kinds listed i (n - i) t
 
-pub meaning-start : (t : List ℤ) (listed : List ℕ) (kinds : Kinds) (n : ℕ) → n ≤ 255 → 16 * n ≤ length t → Kept n listed → kinds ≡ kindsIn n listed → Meaning t t listed kinds n 0
+pub meaning-start : (t : List ℤ) (listed : List ℕ) (kinds : Kinds) (n : ℕ) → n ≤ limit → 16 * n ≤ length t → Kept n listed → kinds ≡ kindsIn n listed → Meaning t t listed kinds n 0
 meaning-start t listed kinds n h k g e =
     let z : n - 0 ≡ n = omega arith in
     record { few = h; room = k; kept = g; within = omega arith; size = refl; kinds-are = e; same = rw z }

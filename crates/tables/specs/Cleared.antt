@@ -15,7 +15,7 @@ use Rattle.tables.specs.Held.{length-bond-rows}
 use Rattle.tables.specs.Filled.{cleared, filled}
 use Rattle.tables.specs.Mean.{meant}
 use Rattle.tables.specs.Meant.{meant-holds, meant-past, length-meant-rows}
-use Rattle.tables.specs.Proper.{Proper}
+use Rattle.entries.specs.Proper.{Proper}
 
 -- u was t before the reading; the walk and the meaning leave everything from the limit on as it was
 module _ (cap : ℕ) (t u : List ℤ) (past : drop cap u ≡ drop cap t) where

@@ -3,7 +3,6 @@ pub mod Parts
 pub mod Small
 pub mod Held
 pub mod Mean
-pub mod Proper
 pub mod Meant
 pub mod Filled
 pub mod Cleared

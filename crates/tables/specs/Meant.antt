@@ -20,7 +20,7 @@ use Rattle.tables.specs.Row.{rawRow, rawRows, flat, Holds}
 use Rattle.tables.specs.Held.{drop-sets}
 use Rattle.tables.specs.Mean.{anyAfter, anyListed, kindsIn, numberKept, listedNumber, Kept, fourOf, meantRow, meantFrom, meant}
 use Rattle.tables.specs.declared.Kinds.{Kinds}
-use Rattle.tables.specs.Proper.{ProperEntries, Proper, listed-proper, some-listed}
+use Rattle.entries.specs.Proper.{ProperEntries, Proper, listed-proper, some-listed}
 
 -- ---- numbers kept
 

@@ -5,21 +5,21 @@ ghost use mathlib.Core.List.{[], _∷_};
 ghost use lib.ListN.{length};
 ghost use lib.Seq.{sets};
 ghost use Rattle.lines.specs.Answer.{atomIs, bondIs};
+ghost use Rattle.rules.specs.Record.{limit};
 ghost use Rattle.rules.specs.Meaning.{bondNumbers};
+ghost use Rattle.entries.specs.Listed.{places};
 ghost use Rattle.tables.specs.Row.{rawRow, SmallAtom, SmallBond};
 ghost use Rattle.tables.specs.Parts.{placeRow, codesRow, restRow, SmallCodes};
 ghost use Rattle.tables.specs.Filled.{cleared};
 ghost use Rattle.tables.specs.Mean.{anyAfter, numberKept, chargeBy, radicalBy, massBy, codeIn, Kept, kindsIn, meantRow, meant};
+use entries::LISTED;
 use lines::Atom;
 use lines::AtomCodes;
 use lines::AtomPlace;
 use lines::Bond;
 
-// Places of one kind in the table of listed numbers: atoms 0 to the limit.
-const PLACES: usize = 256;
-
-// Places of that table: three kinds.
-const LISTED: usize = 768;
+// Places of one kind in the table of listed numbers.
+const PLACES: usize = LISTED / 3;
 
 // Of which kinds a record has property lines.
 struct Kinds {
@@ -126,7 +126,7 @@ pub fn clear(table: &mut [i32], from: usize, to: usize)
 
 // Whether one of the places 1 to n after place `from` is in use.
 fn any_listed(listed: &[u32; LISTED], from: usize, n: usize) -> bool
-    requires { ⌜ from + n < 768 ⌝ }
+    requires { ⌜ from + n < 3 * places ⌝ }
     ensures { λ r. ⌜ r ≡ anyAfter from (now (listed .entry)) n ⌝ }
 {
     let mut a = n;
@@ -216,7 +216,7 @@ fn put_four(table: &mut [i32], at: usize, a: i32, b: i32, c: i32, d: i32)
 
 // Row i, of atom i + 1, gets its meaning.
 fn mean_row(atoms: &mut [i32], i: usize, listed: &[u32; LISTED], kinds: Kinds)
-    requires { ⌜ (i < 255) × (16 * i + 16 ≤ length (now atoms)) × Kept (i + 1) (now listed) ⌝ }
+    requires { ⌜ (i < limit) × (16 * i + 16 ≤ length (now atoms)) × Kept (i + 1) (now listed) ⌝ }
     ensures { λ r. ⌜ now (atoms .exit) ≡ meantRow kinds (now (listed .entry)) i (now (atoms .entry)) ⌝ }
 {
     let at = 16 * i;
@@ -232,7 +232,7 @@ fn mean_row(atoms: &mut [i32], i: usize, listed: &[u32; LISTED], kinds: Kinds)
 
 // Of which kinds some atom of 1 to n is listed.
 fn kinds_in(listed: &[u32; LISTED], n: usize) -> Kinds
-    requires { ⌜ n ≤ 255 ⌝ }
+    requires { ⌜ n ≤ limit ⌝ }
     ensures { λ r. ⌜ r ≡ kindsIn n (now (listed .entry)) ⌝ }
 {
     Kinds {
@@ -244,7 +244,7 @@ fn kinds_in(listed: &[u32; LISTED], n: usize) -> Kinds
 
 // The first n rows get their meaning.
 pub fn mean(atoms: &mut [i32], n: u32, listed: &[u32; LISTED])
-    requires { ⌜ (n ≤ 255) × (16 * n ≤ length (now atoms)) × Kept n (now listed) ⌝ }
+    requires { ⌜ (n ≤ limit) × (16 * n ≤ length (now atoms)) × Kept n (now listed) ⌝ }
     ensures { λ r. ⌜ now (atoms .exit) ≡ meant n (now (atoms .entry)) (now (listed .entry)) ⌝ }
 {
     let rows = n as usize;
