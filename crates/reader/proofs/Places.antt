@@ -1,20 +1,21 @@
 -- Laws on a step, place by place: what a callee answered decides what the step is.
-use Prim.Native.Nat.{ℕ, suc, _+_, _-_, _≤_, _<_}
+use Prim.Native.Nat.{ℕ, suc, _+_, _*_, _-_, _≤_, _<_}
 use native.Mathlib.Numerals.{add-one}
 use native.Mathlib.Omega.{arith}
 use mathlib.Core.Path.{_≡_, refl, sym, ap, _∙_, subst}
 use mathlib.Core.List.{List, []}
 use mathlib.Core.Bool.{Bool, true, false}
 use lib.Dec.{eqb, leb}
-use lib.ListN.{length, take, drop, replicate}
+use lib.ListN.{length, take, drop, replicate, length-replicate}
 use borrow.Author.Tests.{eq-eqb, ne-eqb, le-leb, lt-leb}
 use Rattle.text.specs.Text.{Line}
 use Rattle.text.specs.Find.{badColumn}
 use Rattle.text.specs.declared.Found.{Found}
 use Rattle.rules.specs.Record.{limit}
 use Rattle.lines.specs.Got.{Got, got, bad, then, need}
-use Rattle.lines.specs.GotLaws.{bad-got, need-got}
+use Rattle.lines.specs.GotLaws.{bad-got, then-got}
 use Rattle.lines.specs.Field.{within, noneFound}
+use Rattle.lines.specs.AgreeField.{within-got}
 use Rattle.lines.specs.Judge as J
 use Rattle.lines.specs.Answer.{countsIs, countsGot, atomIs, atomGot, bondIs, bondGot}
 use Rattle.lines.specs.declared.Counts.{Counts}
@@ -23,6 +24,10 @@ use Rattle.lines.specs.declared.Atom.{Atom}
 use Rattle.lines.specs.declared.AtomRead.{AtomRead}
 use Rattle.lines.specs.declared.Bond.{Bond}
 use Rattle.lines.specs.declared.BondRead.{BondRead}
+use Rattle.entries.specs.Listed.{seenOf, places}
+use Rattle.entries.specs.Answer.{propertyRead}
+use Rattle.entries.specs.Kept as E
+use Rattle.entries.specs.declared.PropertyRead.{PropertyRead}
 use Rattle.items.specs.Answer.{headerGot, itemGot, itemIn, valueGot}
 use Rattle.items.specs.Within.{title-order, title-end}
 use Rattle.items.specs.declared.HeaderJudged.{HeaderJudged}
@@ -34,7 +39,7 @@ use Rattle.reader.specs.declared.Reader.{Reader}
 use Rattle.reader.specs.declared.Step.{Step}
 use Rattle.reader.specs.declared.Finish.{Finish}
 use Rattle.reader.specs.declared.LineJudged.{LineJudged}
-use Rattle.reader.specs.Went.{Went, on, headed, atom, bond, ended, title, value, blank, done, moved, counted, bondsOwed, atomsOwed, headerIn, lineIn, longestIn, wentOf, tableAt, Kept, Owing, Sane}
+use Rattle.reader.specs.Went.{Went, on, headed, atom, bond, ended, title, value, blank, done, moved, counted, bondsOwed, atomsOwed, afterEnd, afterProperty, enteredBy, headerIn, lineIn, longestIn, wentOf, tableAt, Kept, Owing, Sane}
 use Rattle.reader.specs.Parts.{beforeHeader, finishedAt, finished, titleIn, lineGot, KeptAt}
 
 -- ---- a step that is no title
@@ -158,7 +163,10 @@ module _ (r : Reader) (t : List ℕ) (l : Line) (v : CountsRead) (e : countsGot 
   pub counts-refused : (number column : ℕ) (t′ : List ℕ) → v ≡ CountsRead.Bad number column → KeptAt r P.Counts t l t′
   counts-refused number column t′ h = record { kept = λ w q. bad-got (counts-stop number column h ∙ q) }
 
-pub ruleset counts-laws = (counts-next, counts-stop, counts-cleared, counts-refused)
+pub cleared-size : length {A = ℕ} (replicate 768 0) ≡ 3 * places
+cleared-size = length-replicate {A = ℕ} 768 0
+
+pub ruleset counts-laws = (counts-next, counts-stop, counts-cleared, counts-refused, cleared-size)
 
 -- ---- atom and bond lines
 
@@ -183,6 +191,56 @@ module _ (r : Reader) (owed : ℕ) (t : List ℕ) (l : Line) (v : BondRead) (e :
 pub ruleset atoms-laws = (atoms-next, atoms-stop)
 
 pub ruleset bonds-laws = (bonds-next, bonds-stop)
+
+-- ---- property lines
+
+-- by what was read alone, since a property itself is not read
+abbrev readWent : Reader → PropertyRead → Got Went
+readWent r PropertyRead.Listed = got (on r)
+readWent r PropertyRead.End = got (ended (moved r (afterEnd (r .sd))))
+readWent r (PropertyRead.Bad e column) = bad e column
+
+read-went : (r : Reader) (g : Got J.PropertyOrEnd) → readWent r (propertyRead g) ≡ then g (λ p. got (afterProperty r p))
+unfolding then
+read-went r (got (J.property p)) = refl
+read-went r (got J.last) = refl
+read-went r (bad e column) = refl
+
+module _ (r : Reader) (t : List ℕ) (l : Line) where
+  abbrev judged : Got J.PropertyOrEnd
+  judged = J.propertyOf (r .counts .atoms) (seenOf (r .counts .atoms) t) l
+
+  module _ (v : PropertyRead) (e : v ≡ propertyRead judged) where
+    properties-went : readWent r v ≡ lineIn r P.Properties t l
+    unfolding lineIn
+    properties-went = ap (readWent r) e ∙ read-went r judged
+
+    pub properties-next : v ≡ PropertyRead.Listed → got (on r) ≡ lineIn r P.Properties t l
+    properties-next h = ap (readWent r) (sym h) ∙ properties-went
+
+    pub properties-end : (p : Place) (m : Reader) → v ≡ PropertyRead.End → p ≡ afterEnd (r .sd) → m ≡ moved r p → got (ended m) ≡ lineIn r P.Properties t l
+    properties-end p m h k q = rw (q, k) (ap (readWent r) (sym h) ∙ properties-went)
+
+    pub properties-stop : (number column : ℕ) → v ≡ PropertyRead.Bad number column → bad number column ≡ lineIn r P.Properties t l
+    properties-stop number column h = ap (readWent r) (sym h) ∙ properties-went
+
+  kept-by : (t′ : List ℕ) (x : J.PropertyOrEnd) → E.Kept (r .counts .atoms) t l t′ → judged ≡ got x → t′ ≡ enteredBy t (got x)
+  kept-by t′ (J.property p) k e = k .entered p e
+  kept-by t′ J.last k e = k .same e
+
+  pub properties-kept : (t′ : List ℕ) → E.Kept (r .counts .atoms) t l t′ → KeptAt r P.Properties t l t′
+  unfolding lineIn
+  properties-kept t′ k = record { kept = there }
+    where
+      there : (w : Went) → then judged (λ p. got (afterProperty r p)) ≡ got w → t′ ≡ enteredBy t judged
+      there w q =
+          let g = then-got judged (λ p. got (afterProperty r p)) w q in
+          kept-by t′ (g .0) k (g .1) ∙ ap (enteredBy t) (sym (g .1))
+
+pub properties-size : (n : ℕ) (t : List ℕ) (l : Line) (t′ : List ℕ) → E.Kept n t l t′ → length t ≡ 3 * places → length t′ ≡ 3 * places
+properties-size n t l t′ k h = k .size ∙ h
+
+pub ruleset properties-laws = (properties-next, properties-end, properties-stop, properties-kept, properties-size)
 
 -- ---- data items
 
@@ -240,67 +298,66 @@ pub ruleset finish-laws = (may-begin, molfile-owes, header-owes, finish-at)
 
 -- ---- all places
 
-module _ (r : Reader) (t : List ℕ) (l : Line) (g : Got Went) where
-  pub place-is : (p : Place) → r .place ≡ p → g ≡ lineIn r p t l → g ≡ lineIn r (r .place) t l
-  place-is p e h = h ∙ ap (λ (q : Place). lineIn r q t l) (sym e)
+-- places at which the table is neither read nor changed
+abbrev untabled : Place → Type 0
+untabled (P.Header owed) = Unit {0}
+untabled P.Counts = ⊥
+untabled (P.Atoms owed) = Unit {0}
+untabled (P.Bonds owed) = Unit {0}
+untabled P.Properties = ⊥
+untabled P.Over = Unit {0}
+untabled P.Items = Unit {0}
+untabled P.Values = Unit {0}
 
-  pub place-header : (owed : ℕ) → r .place ≡ P.Header owed → g ≡ headerIn r owed l → g ≡ lineIn r (r .place) t l
-  unfolding lineIn
-  place-header owed e h = place-is (P.Header owed) e h
+any-table : (r : Reader) (p : Place) (t : List ℕ) (l : Line) → untabled p → lineIn r p [] l ≡ lineIn r p t l
+unfolding lineIn
+any-table r (P.Header owed) t l h = refl
+any-table r P.Counts t l h = absurd h
+any-table r (P.Atoms owed) t l h = refl
+any-table r (P.Bonds owed) t l h = refl
+any-table r P.Properties t l h = absurd h
+any-table r P.Over t l h = refl
+any-table r P.Items t l h = refl
+any-table r P.Values t l h = refl
 
-  pub place-atoms : (owed : ℕ) → r .place ≡ P.Atoms owed → g ≡ lineIn r (P.Atoms owed) [] l → g ≡ lineIn r (r .place) t l
-  unfolding lineIn
-  place-atoms owed e h = place-is (P.Atoms owed) e h
+same-table : (r : Reader) (p : Place) (t : List ℕ) (l : Line) → untabled p → KeptAt r p t l t
+same-table r (P.Header owed) t l h = record { kept = λ w q. refl }
+same-table r P.Counts t l h = absurd h
+same-table r (P.Atoms owed) t l h = record { kept = λ w q. refl }
+same-table r (P.Bonds owed) t l h = record { kept = λ w q. refl }
+same-table r P.Properties t l h = absurd h
+same-table r P.Over t l h = record { kept = λ w q. refl }
+same-table r P.Items t l h = record { kept = λ w q. refl }
+same-table r P.Values t l h = record { kept = λ w q. refl }
 
-  pub place-bonds : (owed : ℕ) → r .place ≡ P.Bonds owed → g ≡ lineIn r (P.Bonds owed) [] l → g ≡ lineIn r (r .place) t l
-  unfolding lineIn
-  place-bonds owed e h = place-is (P.Bonds owed) e h
+module _ (r : Reader) (t : List ℕ) (l : Line) (p : Place) (e : r .place ≡ p) where
+  pub place-is : (g : Got Went) → g ≡ lineIn r p t l → g ≡ lineIn r (r .place) t l
+  place-is g h = h ∙ ap (λ (q : Place). lineIn r q t l) (sym e)
 
-  pub place-items : r .place ≡ P.Items → g ≡ lineIn r P.Items [] l → g ≡ lineIn r (r .place) t l
-  unfolding lineIn
-  place-items e h = place-is P.Items e h
+  pub place-untabled : (g : Got Went) → untabled p → g ≡ lineIn r p [] l → g ≡ lineIn r (r .place) t l
+  place-untabled g u h = place-is g (h ∙ any-table r p t l u)
 
-  pub place-values : r .place ≡ P.Values → g ≡ lineIn r P.Values [] l → g ≡ lineIn r (r .place) t l
-  unfolding lineIn
-  place-values e h = place-is P.Values e h
+  pub kept-is : (t′ : List ℕ) → KeptAt r p t l t′ → KeptAt r (r .place) t l t′
+  kept-is t′ h = subst (λ (q : Place). KeptAt r q t l t′) (sym e) h
+
+  pub kept-same : untabled p → KeptAt r (r .place) t l t
+  kept-same u = kept-is t (same-table r p t l u)
+
+pub place-header : (r : Reader) (t : List ℕ) (l : Line) (owed : ℕ) (g : Got Went) → r .place ≡ P.Header owed → g ≡ headerIn r owed l → g ≡ lineIn r (r .place) t l
+unfolding lineIn
+place-header r t l owed g e h = place-is r t l (P.Header owed) e g h
 
 pub place-over : (r : Reader) (t : List ℕ) (l : Line) → r .place ≡ P.Over → bad 18 1 ≡ lineIn r (r .place) t l
 unfolding lineIn
-place-over r t l e = place-is r t l (bad 18 1) P.Over e refl
-
-module _ (r : Reader) (t : List ℕ) (l : Line) (t′ : List ℕ) where
-  pub kept-is : (p : Place) → r .place ≡ p → KeptAt r p t l t′ → KeptAt r (r .place) t l t′
-  kept-is p e h = subst (λ (q : Place). KeptAt r q t l t′) (sym e) h
-
--- places at which the table stays as it is
-abbrev stays : Place → Type 0
-stays (P.Header owed) = Unit {0}
-stays P.Counts = ⊥
-stays (P.Atoms owed) = Unit {0}
-stays (P.Bonds owed) = Unit {0}
-stays P.Properties = ⊥
-stays P.Over = Unit {0}
-stays P.Items = Unit {0}
-stays P.Values = Unit {0}
-
-kept-stays : (r : Reader) (p : Place) (t : List ℕ) (l : Line) → stays p → KeptAt r p t l t
-kept-stays r (P.Header owed) t l h = record { kept = λ w q. refl }
-kept-stays r P.Counts t l h = absurd h
-kept-stays r (P.Atoms owed) t l h = record { kept = λ w q. refl }
-kept-stays r (P.Bonds owed) t l h = record { kept = λ w q. refl }
-kept-stays r P.Properties t l h = absurd h
-kept-stays r P.Over t l h = record { kept = λ w q. refl }
-kept-stays r P.Items t l h = record { kept = λ w q. refl }
-kept-stays r P.Values t l h = record { kept = λ w q. refl }
-
-pub kept-same : (r : Reader) (t : List ℕ) (l : Line) (p : Place) → r .place ≡ p → stays p → KeptAt r (r .place) t l t
-kept-same r t l p e h = kept-is r t l t p e (kept-stays r p t l h)
+place-over r t l e = place-is r t l P.Over e (bad 18 1) refl
 
 pub atoms-owing : (r : Reader) (owed : ℕ) → Sane r → r .place ≡ P.Atoms owed → 1 ≤ owed
 atoms-owing r owed s e = subst Owing e (s .owing) .0
 
 pub bonds-owing : (r : Reader) (owed : ℕ) → Sane r → r .place ≡ P.Bonds owed → 1 ≤ owed
 bonds-owing r owed s e = subst Owing e (s .owing) .0
+
+pub ruleset place-laws = (place-is, place-untabled, place-header, place-over, kept-is, kept-same, atoms-owing, bonds-owing)
 
 -- ---- a whole step
 
@@ -317,12 +374,8 @@ longest-most P.Values = omega arith
 pub longest-is : (n : ℕ) (p : Place) → n ≡ longestIn p → n ≤ 200
 longest-is n p e = let h = longest-most p in omega arith
 
-none-then : {A B : Type 0} (e : ℕ) (found : Found) (a : A) (x : Got B) → then (noneFound e found (got a)) (λ b. x) ≡ noneFound e found x
-unfolding then
-none-then e (Found.At i) a x = refl
-none-then e Found.Nothing a x = refl
-
-within-by : {A : Type 0} (longest : ℕ) (l : Line) (x : Got A) (b : Bool) (found : Found) → then (need b 3 (suc longest) (noneFound 4 found (got l))) (λ k. x) ≡ need b 3 (suc longest) (noneFound 4 found x)
+within-by : {A : Type 0} (longest : ℕ) (l : Line) (x : Got A) (b : Bool) (found : Found) →
+    then (need b 3 (suc longest) (noneFound 4 found (got l))) (λ k. x) ≡ need b 3 (suc longest) (noneFound 4 found x)
 unfolding then need
 within-by longest l x true (Found.At i) = refl
 within-by longest l x true Found.Nothing = refl
@@ -332,32 +385,26 @@ within-then : {A : Type 0} (longest : ℕ) (l : Line) (x : Got A) → then (with
 unfolding within
 within-then longest l x = within-by longest l x (leb (length l) longest) (badColumn l)
 
-none-got : {A : Type 0} (e : ℕ) (found : Found) (x : Got A) (a : A) → noneFound e found x ≡ got a → x ≡ got a
-none-got e (Found.At i) x a h = bad-got h
-none-got e Found.Nothing x a h = h
-
-within-got : {A : Type 0} (longest : ℕ) (l : Line) (x : Got A) (a : A) → within longest l x ≡ got a → x ≡ got a
-unfolding within
-within-got longest l x a h = none-got 4 (badColumn l) x a (need-got (leb (length l) longest) 3 (suc longest) (noneFound 4 (badColumn l) x) a h .1)
-
 module _ (r : Reader) (t : List ℕ) (l : Line) (n : ℕ) (v : LineJudged) (p : n ≡ longestIn (r .place)) (e : lineGot l v ≡ within n l (got l)) where
+  step-by : (x : LineJudged) → v ≡ x → then (lineGot l x) (λ k. lineIn r (r .place) t l) ≡ wentOf r t l
+  unfolding wentOf
+  step-by x h =
+      ap (λ (g : Got Line). then g (λ k. lineIn r (r .place) t l)) (ap (lineGot l) (sym h) ∙ (e ∙ ap (λ (m : ℕ). within m l (got l)) p))
+      ∙ within-then (longestIn (r .place)) l (lineIn r (r .place) t l)
+
   pub step-good : (g : Got Went) → v ≡ LineJudged.Good → g ≡ lineIn r (r .place) t l → g ≡ wentOf r t l
-  unfolding wentOf then
-  step-good g h k =
-      k ∙ (ap (λ (x : Got Line). then x (λ b. lineIn r (r .place) t l)) (ap (lineGot l) (sym h) ∙ (e ∙ ap (λ (m : ℕ). within m l (got l)) p)) ∙ within-then (longestIn (r .place)) l (lineIn r (r .place) t l))
+  unfolding then
+  step-good g h k = k ∙ step-by LineJudged.Good h
 
   pub step-stop : (number column : ℕ) → v ≡ LineJudged.Bad number column → bad number column ≡ wentOf r t l
-  unfolding wentOf then
-  step-stop number column h =
-      ap (λ (x : Got Line). then x (λ b. lineIn r (r .place) t l)) (ap (lineGot l) (sym h) ∙ (e ∙ ap (λ (m : ℕ). within m l (got l)) p)) ∙ within-then (longestIn (r .place)) l (lineIn r (r .place) t l)
+  unfolding then
+  step-stop number column h = step-by (LineJudged.Bad number column) h
 
   pub step-refused : (number column : ℕ) (t′ : List ℕ) → v ≡ LineJudged.Bad number column → Kept r t l t′
   step-refused number column t′ h = record { kept = λ w q. bad-got (step-stop number column h ∙ q) }
 
 pub step-kept : (r : Reader) (t : List ℕ) (l : Line) (t′ : List ℕ) → KeptAt r (r .place) t l t′ → Kept r t l t′
 unfolding wentOf
-step-kept r t l t′ k = record { kept = λ w q. k .kept w (within-got (longestIn (r .place)) l (lineIn r (r .place) t l) w q) }
+step-kept r t l t′ k = record { kept = λ w q. k .kept w (within-got (longestIn (r .place)) l (lineIn r (r .place) t l) w q .1) }
 
 pub ruleset step-laws = (longest-is, step-good, step-stop, step-refused, step-kept)
-
-pub ruleset place-laws = (place-is, place-header, place-atoms, place-bonds, place-items, place-values, place-over, kept-is, kept-same, atoms-owing, bonds-owing)

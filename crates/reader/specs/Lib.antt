@@ -1,3 +1,4 @@
 pub mod Went
 pub mod Parts
 pub mod Stays
+pub mod Within

@@ -1,4 +1,4 @@
--- Parts of a step, for the functions inside: what they answer, and what they leave of the table.
+-- The state before the first line, whether the input may end at a state, and parts of a step for the functions inside.
 use Prim.Native.Nat.{ℕ, _≤_}
 use mathlib.Core.Path.{_≡_}
 use mathlib.Core.List.{List}

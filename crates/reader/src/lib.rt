@@ -1,12 +1,16 @@
 // The reader's state, by value: at every line in one place of the record, with the lines still owed there.
 ghost use mathlib.Core.Path.{_≡_};
 ghost use mathlib.Core.List.{[]};
-ghost use Prim.Native.Nat.{_≤_};
+ghost use Prim.Native.Nat.{_*_, _≤_};
+ghost use lib.ListN.{length};
 ghost use Rattle.lines.specs.Got.{got};
 ghost use Rattle.lines.specs.Field.{within};
 ghost use Rattle.lines.specs.Answer.{countsIs};
-ghost use Rattle.reader.specs.Went.{stepGot, lineIn, headerIn, longestIn, moved, bondsOwed, atomsOwed, counted, afterEnd};
+ghost use Rattle.entries.specs.Listed.{places};
+ghost use Rattle.reader.specs.Went.{stepGot, wentOf, Kept, Sane, lineIn, headerIn, longestIn, moved, bondsOwed, atomsOwed, counted, afterEnd};
 ghost use Rattle.reader.specs.Parts.{begun, finished, beforeHeader, titleIn, lineGot, KeptAt};
+use entries::LISTED;
+use entries::PropertyRead;
 use items::HeaderJudged;
 use items::ItemRead;
 use items::ValueRead;
@@ -102,6 +106,22 @@ impl Reader {
         Reader { sd, place, counts }
     }
 
+    // One line, with the table of listed numbers. Length and bytes come first, whatever the place.
+    pub fn step(self, line: &[u8], listed: &mut [u32; LISTED]) -> Step
+        requires { ⌜ Sane self ⌝ }
+        requires { ⌜ length (now listed) ≡ 3 * places ⌝ }
+        ensures { λ r. ⌜ stepGot (now (line .entry)) r ≡ wentOf self (now (listed .entry)) (now (line .entry)) ⌝ }
+        ensures { λ r. ⌜ Kept self (now (listed .entry)) (now (line .entry)) (now (listed .exit)) ⌝ }
+        ensures { λ r. ⌜ length (now (listed .exit)) ≡ 3 * places ⌝ }
+        ensures { λ r. ⌜ titleIn (now (line .entry)) r ⌝ }
+    {
+        let place = self.place;
+        match line_judged(line, longest(place)) {
+            LineJudged::Good => at_place(self, line, listed),
+            LineJudged::Bad { no, column } => Step::Refused { no, column },
+        }
+    }
+
     // At the end of the input: where a record may begin in an SDfile, or after a molfile's `M  END`.
     pub fn finish(self) -> Finish
         ensures { λ r. ⌜ r ≡ finished self ⌝ }
@@ -167,6 +187,28 @@ fn line_judged(line: &[u8], longest: usize) -> LineJudged
     }
 }
 
+// A line of good length and bytes.
+fn at_place(reader: Reader, line: &[u8], listed: &mut [u32; LISTED]) -> Step
+    requires { ⌜ Sane reader ⌝ }
+    requires { ⌜ length (now listed) ≡ 3 * places ⌝ }
+    ensures { λ r. ⌜ stepGot (now (line .entry)) r ≡ lineIn reader (reader .place) (now (listed .entry)) (now (line .entry)) ⌝ }
+    ensures { λ r. ⌜ KeptAt reader (reader .place) (now (listed .entry)) (now (line .entry)) (now (listed .exit)) ⌝ }
+    ensures { λ r. ⌜ length (now (listed .exit)) ≡ 3 * places ⌝ }
+    ensures { λ r. ⌜ titleIn (now (line .entry)) r ⌝ }
+{
+    let place = reader.place;
+    match place {
+        Place::Header { owed } => at_header(reader, owed, line),
+        Place::Counts => at_counts(reader, line, listed),
+        Place::Atoms { owed } => at_atoms(reader, owed, line),
+        Place::Bonds { owed } => at_bonds(reader, owed, line),
+        Place::Properties => at_properties(reader, line, listed),
+        Place::Over => Step::Refused { no: 18, column: 1 },
+        Place::Items => at_items(reader, line),
+        Place::Values => at_values(reader, line),
+    }
+}
+
 // The first header line.
 fn at_first(reader: Reader, line: &[u8]) -> Step
     ensures { λ r. ⌜ stepGot (now (line .entry)) r ≡ headerIn reader 3 (now (line .entry)) ⌝ }
@@ -222,14 +264,16 @@ fn counted(reader: Reader, counts: Counts) -> Reader
 }
 
 // The counts line. Nothing is listed yet in the record that it begins.
-fn at_counts(reader: Reader, line: &[u8], listed: &mut [u32; 768]) -> Step
+fn at_counts(reader: Reader, line: &[u8], listed: &mut [u32; LISTED]) -> Step
+    requires { ⌜ length (now listed) ≡ 3 * places ⌝ }
     ensures { λ r. ⌜ stepGot (now (line .entry)) r ≡ lineIn reader Place.Counts (now (listed .entry)) (now (line .entry)) ⌝ }
     ensures { λ r. ⌜ KeptAt reader Place.Counts (now (listed .entry)) (now (line .entry)) (now (listed .exit)) ⌝ }
+    ensures { λ r. ⌜ length (now (listed .exit)) ≡ 3 * places ⌝ }
     ensures { λ r. ⌜ titleIn (now (line .entry)) r ⌝ }
 {
     match lines::counts_line(line, LIMIT) {
         CountsRead::Is(counts) => {
-            *listed = [0u32; 768];
+            *listed = [0u32; LISTED];
             Step::Next(counted(reader, counts))
         }
         CountsRead::Bad { no, column } => Step::Refused { no, column },
@@ -270,6 +314,24 @@ fn after_end(sd: bool) -> Place
         return Place::Items;
     }
     Place::Over
+}
+
+// A property line, which is then in the table, or `M  END`.
+fn at_properties(reader: Reader, line: &[u8], listed: &mut [u32; LISTED]) -> Step
+    requires { ⌜ Sane reader ⌝ }
+    requires { ⌜ length (now listed) ≡ 3 * places ⌝ }
+    ensures { λ r. ⌜ stepGot (now (line .entry)) r ≡ lineIn reader Place.Properties (now (listed .entry)) (now (line .entry)) ⌝ }
+    ensures { λ r. ⌜ KeptAt reader Place.Properties (now (listed .entry)) (now (line .entry)) (now (listed .exit)) ⌝ }
+    ensures { λ r. ⌜ length (now (listed .exit)) ≡ 3 * places ⌝ }
+    ensures { λ r. ⌜ titleIn (now (line .entry)) r ⌝ }
+{
+    let sd = reader.sd;
+    let counts = reader.counts;
+    match entries::property_line(line, counts.atoms, listed) {
+        PropertyRead::Listed => Step::Next(reader),
+        PropertyRead::End => Step::Ended(reader.moved(after_end(sd))),
+        PropertyRead::Bad { no, column } => Step::Refused { no, column },
+    }
 }
 
 // Where a data header or `$$$$` must stand.

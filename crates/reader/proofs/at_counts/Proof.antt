@@ -17,10 +17,10 @@ enum-known-no : tie.Need-enum-known-no
 enum-known-no c = search needs
 
 returns : tie.Need-returns
-returns c = search (needs, counts-laws, untitled)
+returns c = (search counts-laws, (search counts-laws, (search counts-laws, search untitled)))
 
 returns-2 : tie.Need-returns-2
-returns-2 c = search (needs, counts-laws, untitled)
+returns-2 c = (search counts-laws, (search counts-laws, (search counts-laws, search untitled)))
 
 pub at-counts-spec : {M : Type 1} → statement M
 at-counts-spec =
