@@ -26,11 +26,13 @@ use Rattle.lines.specs.Judge.{firstHeaderOf, countsOf, atomOf, bondOf, property
 use Rattle.lines.specs.Judge as L
 use Rattle.lines.specs.Answer.{countsIs}
 use Rattle.lines.specs.declared.Counts.{Counts}
-use Rattle.entries.specs.Listed.{Shows, enter, seenOf}
+use Rattle.entries.specs.Listed.{enter, seenOf}
+use Rattle.entries.specs.Proper.{Proper}
+use Rattle.entries.specs.Shown.{shows-none, shows-line, proper-line, seen-same}
 use Rattle.tables.specs.Row.{rawRow, rawRows, bondRows, Holds, SmallAtom, SmallBond}
 use Rattle.tables.specs.Held.{atom-held, bond-held}
 use Rattle.tables.specs.Small.{atom-small, bond-small}
-use Rattle.judge.specs.Place.{FileKind, molfile, sdfile, seenIn, toAtoms, toBonds, lineOf, turnOf}
+use Rattle.judge.specs.Place.{FileKind, molfile, sdfile, toAtoms, toBonds, lineOf, turnOf}
 use Rattle.judge.specs.Place as J
 use Rattle.judge.specs.Place.{first, second, third, counts, atoms, bonds, properties, over, items, values, Turn, next}
 use Rattle.judge.specs.WalkText.{afterLines}
@@ -42,7 +44,7 @@ use Rattle.reader.specs.Went.{Went, moved, bondsOwed, atomsOwed, counted, heade
 use Rattle.walk.specs.declared.Notes.{Notes}
 use Rattle.walk.specs.Keys.{keyOf, keysOf, SmallEnds, AllSmall, small-more}
 use Rattle.walk.specs.Took.{headedAt, endedAt, atomMore, bondMore}
-use Rattle.walk.specs.Stands.{isSd, placeOf, Rows, Counted, Headed, Marks, Stands, atomsIn, bondsIn, moleculeLines}
+use Rattle.walk.specs.Stands.{isSd, placeOf, Rows, Listing, Counted, Headed, Marks, Stands, atomsIn, bondsIn, moleculeLines}
 
 -- ---- Two readings of one line, by the same judge of the line
 
@@ -102,7 +104,7 @@ pub record Pending (kind : FileKind) (s : Bytes) (i : ℕ) (keys : List ℕ) (tb
 -- the record is done: the tables hold it
 pub record Closed (s : Bytes) (r : Reader) (m : Notes) (t : List ℕ) (ta tb : List ℤ) (x : Raw) : Type 0 where
   pub counts : countsIs (r .counts) ≡ x .molecule .counts
-  pub listed : Shows (x .molecule .counts .atoms) t (x .molecule .properties)
+  pub listed : Listing (x .molecule .counts .atoms) t (x .molecule .properties)
   pub atom-rows : Holds ta (rawRows (x .molecule .atoms))
   pub bond-rows : Holds tb (bondRows (x .molecule .bonds))
   pub headed : Headed s m
@@ -127,7 +129,7 @@ module _ (kind : FileKind) (s : Bytes) (hs : Headers) (d : Counts) (m : Notes) (
   abbrev at : Place → Reader
   at p = record { sd = isSd kind; place = p; counts = d }
 
-  to-bonds : (xs : List Atom) (k : ℕ) (bs : List Bond) → d .atoms ≤ limit → d .bonds ≤ limit → Shows (d .atoms) t [] → length bs + k ≡ d .bonds →
+  to-bonds : (xs : List Atom) (k : ℕ) (bs : List Bond) → d .atoms ≤ limit → d .bonds ≤ limit → Listing (d .atoms) t [] → length bs + k ≡ d .bonds →
       Rows m keys ta tb xs bs → i ≡ 5 + length xs + length bs → Headed s m → Stands kind s (at (bondsOwed k)) m t keys ta tb i (toBonds hs (countsIs d) xs k bs)
   unfolding toBonds bondsOwed
   to-bonds xs zero bs na nb sh n rows line head =
@@ -151,7 +153,7 @@ module _ (kind : FileKind) (s : Bytes) (hs : Headers) (d : Counts) (m : Notes) (
         marks = (line, head);
       }
 
-  to-atoms : (k : ℕ) (xs : List Atom) → d .atoms ≤ limit → d .bonds ≤ limit → Shows (d .atoms) t [] → length xs + k ≡ d .atoms →
+  to-atoms : (k : ℕ) (xs : List Atom) → d .atoms ≤ limit → d .bonds ≤ limit → Listing (d .atoms) t [] → length xs + k ≡ d .atoms →
       Rows m keys ta tb xs [] → i ≡ 5 + length xs → Headed s m → Stands kind s (at (atomsOwed k (d .bonds))) m t keys ta tb i (toAtoms hs (countsIs d) k xs)
   unfolding toAtoms atomsOwed
   to-atoms zero xs na nb sh n rows line head = to-bonds xs (d .bonds) [] na nb sh (omega arith) rows (omega arith) head
@@ -168,11 +170,14 @@ module _ (kind : FileKind) (s : Bytes) (hs : Headers) (d : Counts) (m : Notes) (
 
 -- ---- The table of listed numbers
 
-pub record Shown : Type 0 where
-  pub none : (n : ℕ) → Shows n (replicate 768 0) []
-  pub more : (n : ℕ) (t : List ℕ) (ps : List Property) (l : Line) (p : Property) → n ≤ limit → Within 80 l → Shows n t ps →
-      propertyOf n (seenOf n t) l ≡ got (L.property p) → Shows n (enter (p .kind) t (p .entries)) (ps ++ (p ∷ []))
-  pub same : (n : ℕ) (t : List ℕ) (ps : List Property) (l : Line) → n ≤ limit → Shows n t ps → propertyOf n (seenOf n t) l ≡ propertyOf n (seenIn ps) l
+none-listed : (n : ℕ) → Listing n (replicate 768 0) []
+unfolding Proper
+none-listed n = record { shows = shows-none n; proper = tt }
+
+line-listed : (n : ℕ) (t : List ℕ) (ps : List Property) (l : Line) (p : Property) → n ≤ limit → Within 80 l → Listing n t ps →
+    propertyOf n (seenOf n t) l ≡ got (L.property p) → Listing n (enter (p .kind) t (p .entries)) (ps ++ (p ∷ []))
+line-listed n t ps l p most w g e =
+    record { shows = shows-line n t ps p most (g .shows) (g .proper) l w e; proper = proper-line n t ps p most (g .shows) (g .proper) l w e }
 
 abbrev made : Counts → Bool → Place → Reader
 made d sd p = record { sd = sd; place = p; counts = d }
@@ -182,7 +187,7 @@ one-less k = omega arith
 
 -- ---- Every place
 
-module _ (shown : Shown) (kind : FileKind) (s : Bytes) (m : Notes) (t keys : List ℕ) (ta tb : List ℤ) (i n : ℕ) (l : Line) where
+module _ (kind : FileKind) (s : Bytes) (m : Notes) (t keys : List ℕ) (ta tb : List ℤ) (i n : ℕ) (l : Line) where
   abbrev readerAt : J.Place → Counts → Reader
   readerAt p d = record { sd = isSd kind; place = placeOf p; counts = d }
 
@@ -236,7 +241,7 @@ module _ (shown : Shown) (kind : FileKind) (s : Bytes) (m : Notes) (t keys : Lis
       let d′ : Counts = record { atoms = c .atoms; bonds = c .bonds; chiral = c .chiral } in (
         toAtoms hs c (c .atoms) [],
         refl,
-        to-atoms kind s hs d′ m (replicate 768 0) keys ta tb (suc i) (c .atoms) [] (good .atoms .high) (good .bonds .high) (shown .none (c .atoms)) (omega arith) rows
+        to-atoms kind s hs d′ m (replicate 768 0) keys ta tb (suc i) (c .atoms) [] (good .atoms .high) (good .bonds .high) (none-listed (c .atoms)) (omega arith) rows
             (omega (arith, line .0)) (line .1),
       ))
 
@@ -332,7 +337,7 @@ module _ (shown : Shown) (kind : FileKind) (s : Bytes) (m : Notes) (t keys : Lis
 
   -- the molecule after its `M  END`
   after-end : (hs : Headers) (d : Counts) (xs : List Atom) (bs : List Bond) (ps : List Property) → n ≡ afterLines s 0 i → d .atoms ≤ limit → d .bonds ≤ limit →
-      Shows (d .atoms) t ps → Rows m keys ta tb xs bs → i ≡ 5 + length xs + length bs + length ps → Headed s m → (k : FileKind) →
+      Listing (d .atoms) t ps → Rows m keys ta tb xs bs → i ≡ 5 + length xs + length bs + length ps → Headed s m → (k : FileKind) →
       let mol : Molecule = record { headers = hs; counts = countsIs d; atoms = xs; bonds = bs; properties = ps } in
       Stands k s (record { sd = isSd k; place = W.afterEnd (isSd k); counts = d }) (endedAt m n) t keys ta tb (suc i) (J.afterEnd k mol)
   after-end hs d xs bs ps after na nb sh rows line head molfile =
@@ -364,7 +369,7 @@ module _ (shown : Shown) (kind : FileKind) (s : Bytes) (m : Notes) (t keys : Lis
       (λ (g : Got L.PropertyOrEnd).
       G p d (within 80 l (then (propertyOf (d .atoms) (seenOf (d .atoms) t) l) λ v. got (W.afterProperty (readerAt p d) v)))
       (within 80 l (then g λ v. got (J.afterProperty kind hs (countsIs d) xs bs ps v))))
-      (shown .same (d .atoms) t ps l na (counted .1))
+      (seen-same (d .atoms) t ps (counted .1 .shows) (counted .1 .proper) l)
       (both-then 80 l (G p d) (λ e c. refl) (propertyOf (d .atoms) (seenOf (d .atoms) t) l) (λ v. got (W.afterProperty (readerAt p d) v))
       (λ v. got (J.afterProperty kind hs (countsIs d) xs bs ps v)) (λ w v e. go w v e))
     where
@@ -383,7 +388,7 @@ module _ (shown : Shown) (kind : FileKind) (s : Bytes) (m : Notes) (t keys : Lis
                   place = refl;
                   few-atoms = na;
                   few-bonds = nb;
-                  counted = (refl, shown .more (d .atoms) t ps l q na w (counted .1) e);
+                  counted = (refl, line-listed (d .atoms) t ps l q na w (counted .1) e);
                   rows = rows;
                   marks = (omega (arith, line .0), line .1);
                 }),

@@ -8,3 +8,4 @@ pub mod Walking
 pub mod Pairing
 pub mod AtEnd
 pub mod Promise
+pub mod Checking

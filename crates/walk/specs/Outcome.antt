@@ -81,15 +81,15 @@ module _ (kind : FileKind) where
 
 -- ---- It is the same
 
-one-next : (p q : Place) (i : ℕ) (l : Line) (t : List Line) → turnOf sdfile limit p l ≡ got (next q) → oneFrom limit p i (l ∷ t) ≡ oneFrom limit q (suc i) t
+pub one-next : (p q : Place) (i : ℕ) (l : Line) (t : List Line) → turnOf sdfile limit p l ≡ got (next q) → oneFrom limit p i (l ∷ t) ≡ oneFrom limit q (suc i) t
 unfolding oneFrom
 one-next p q i l t e = rw (e, oneFrom)
 
-one-done : (p : Place) (x : Raw) (i : ℕ) (l : Line) (t : List Line) → turnOf sdfile limit p l ≡ got (done x) → oneFrom limit p i (l ∷ t) ≡ One.whole x i t
+pub one-done : (p : Place) (x : Raw) (i : ℕ) (l : Line) (t : List Line) → turnOf sdfile limit p l ≡ got (done x) → oneFrom limit p i (l ∷ t) ≡ One.whole x i t
 unfolding oneFrom
 one-done p x i l t e = rw (e, oneFrom)
 
-one-bad : (p : Place) (i : ℕ) (l : Line) (t : List Line) (e c : ℕ) → turnOf sdfile limit p l ≡ bad e c → oneFrom limit p i (l ∷ t) ≡ One.refused e i c
+pub one-bad : (p : Place) (i : ℕ) (l : Line) (t : List Line) (e c : ℕ) → turnOf sdfile limit p l ≡ bad e c → oneFrom limit p i (l ∷ t) ≡ One.refused e i c
 unfolding oneFrom
 one-bad p i l t e c h = rw (h, oneFrom)
 

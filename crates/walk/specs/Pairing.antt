@@ -26,7 +26,6 @@ use Rattle.walk.specs.Keys.{pairKey, keyOf, Searching, searching-start, 
 use Rattle.walk.specs.Outcome.{refused, outcomeOf}
 use Rattle.walk.specs.Took.{bondMore, takenBy, atomsBy}
 use Rattle.walk.specs.Stands.{kindOf}
-use Rattle.walk.specs.Follow.{Shown}
 use Rattle.walk.specs.Walked.{walkedBy, walkOf, Beside, HeldBy, Left}
 use Rattle.walk.specs.Walking.{Walking, Bonding, part, bonding}
 
@@ -37,12 +36,12 @@ pub record Pairing (sd : Bool) (s : Bytes) (r : Reader) (m : Notes) (n i : ℕ) 
   pub before : count ≡ m .bonds
   pub searching : Searching keys key count j
 
-pub pairing-start : (shown : Shown) (sd : Bool) (s : Bytes) (ta₀ tb₀ : List ℤ) (r : Reader) (m : Notes) (at i : ℕ) (t keys : List ℕ) (ta tb : List ℤ)
+pub pairing-start : (sd : Bool) (s : Bytes) (ta₀ tb₀ : List ℤ) (r : Reader) (m : Notes) (at i : ℕ) (t keys : List ℕ) (ta tb : List ℤ)
     (g : Walking sd s ta₀ tb₀ r m at i t keys ta tb) (e n : ℕ) (l : lineAt s at ≡ LineAt.Line e n) (x : Taken) (r′ : Reader) (b : Bond) (t′ : List ℕ) (ta′ : List ℤ) →
     x ≡ takenBy m n (wentOf r t (part s at e)) → Kept r t (part s at e) t′ → ta′ ≡ atomsBy m (wentOf r t (part s at e)) ta → x ≡ Taken.Bond r′ b → (key : ℕ) →
     key ≡ pairKey (b .first) (b .second) → Pairing sd s r′ m n i t′ keys ta′ tb b key (m .bonds) 0
-pairing-start shown sd s ta₀ tb₀ r m at i t keys ta tb g e n l x r′ b t′ ta′ ex kept ea q key ek =
-    let h = bonding shown sd s ta₀ tb₀ r m at i t keys ta tb g e n l x r′ b t′ ta′ ex kept ea q in
+pairing-start sd s ta₀ tb₀ r m at i t keys ta tb g e n l x r′ b t′ ta′ ex kept ea q key ek =
+    let h = bonding sd s ta₀ tb₀ r m at i t keys ta tb g e n l x r′ b t′ ta′ ex kept ea q in
     record { bond = h; key-of = ek; before = refl; searching = searching-start keys key (m .bonds) (omega (arith, h .few, h .key-room)) }
 
 module _ (sd : Bool) (s : Bytes) (r : Reader) (m : Notes) (n i : ℕ) (t keys : List ℕ) (ta tb : List ℤ) (b : Bond) (key count j : ℕ)

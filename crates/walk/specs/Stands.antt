@@ -12,6 +12,7 @@ use Rattle.rules.specs.Record.{Molecule, limit}
 use Rattle.lines.specs.Answer.{countsIs}
 use Rattle.lines.specs.declared.Counts.{Counts}
 use Rattle.entries.specs.Listed.{Shows}
+use Rattle.entries.specs.Proper.{Proper}
 use Rattle.tables.specs.Row.{rawRows, bondRows, Holds}
 use Rattle.judge.specs.Place.{FileKind, molfile, sdfile}
 use Rattle.judge.specs.Place as J
@@ -83,18 +84,23 @@ pub record Rows (m : Notes) (keys : List ℕ) (ta tb : List ℤ) (xs : List Atom
   pub bond-keys : take (length bs) keys ≡ keysOf bs
   pub small : AllSmall bs
 
+-- the table of listed numbers shows these property lines of a record of n atoms
+pub record Listing (n : ℕ) (t : List ℕ) (ps : List Property) : Type 0 where
+  pub shows : Shows n t ps
+  pub proper : Proper n ps
+
 -- the counts of the counts line, the atoms or bonds that are owed, and the property lines in the table of listed numbers
 abbrev pub Counted : Counts → List ℕ → J.Place → Type 0
 Counted d listed first = Unit {0}
 Counted d listed (second h₁) = Unit {0}
 Counted d listed (third h₁ h₂) = Unit {0}
 Counted d listed (counts hs) = Unit {0}
-Counted d listed (atoms hs c k xs) = (countsIs d ≡ c) × Shows (c .atoms) listed [] × (length xs + suc k ≡ c .atoms)
-Counted d listed (bonds hs c xs k bs) = (countsIs d ≡ c) × Shows (c .atoms) listed [] × (length bs + suc k ≡ c .bonds)
-Counted d listed (properties hs c xs bs ps) = (countsIs d ≡ c) × Shows (c .atoms) listed ps
-Counted d listed (over m) = (countsIs d ≡ m .counts) × Shows (m .counts .atoms) listed (m .properties)
-Counted d listed (items m is) = (countsIs d ≡ m .counts) × Shows (m .counts .atoms) listed (m .properties)
-Counted d listed (values m is name vs) = (countsIs d ≡ m .counts) × Shows (m .counts .atoms) listed (m .properties)
+Counted d listed (atoms hs c k xs) = (countsIs d ≡ c) × Listing (c .atoms) listed [] × (length xs + suc k ≡ c .atoms)
+Counted d listed (bonds hs c xs k bs) = (countsIs d ≡ c) × Listing (c .atoms) listed [] × (length bs + suc k ≡ c .bonds)
+Counted d listed (properties hs c xs bs ps) = (countsIs d ≡ c) × Listing (c .atoms) listed ps
+Counted d listed (over m) = (countsIs d ≡ m .counts) × Listing (m .counts .atoms) listed (m .properties)
+Counted d listed (items m is) = (countsIs d ≡ m .counts) × Listing (m .counts .atoms) listed (m .properties)
+Counted d listed (values m is name vs) = (countsIs d ≡ m .counts) × Listing (m .counts .atoms) listed (m .properties)
 
 -- ---- What is noted of the lines
 

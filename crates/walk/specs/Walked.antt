@@ -6,14 +6,13 @@ use lib.ListN.{length, drop}
 use lib.IntN.{ℤ}
 use Rattle.text.specs.Text.{Bytes}
 use Rattle.rules.specs.Record.{Molecule, Raw}
-use Rattle.entries.specs.Listed.{Shows}
 use Rattle.tables.specs.Row.{rawRows, bondRows, Holds}
 use Rattle.judge.specs.Place.{FileKind, molfile, sdfile}
 use Rattle.judge.specs.WalkText.{afterLines}
 use Rattle.walk.specs.declared.Walked.{Walked}
 use Rattle.walk.specs.Outcome.{Outcome, whole, refused, outcomeOf}
 use Rattle.walk.specs.Took.{countsBack}
-use Rattle.walk.specs.Stands.{moleculeLines}
+use Rattle.walk.specs.Stands.{Listing, moleculeLines}
 
 -- where the items of a record of k lines end: before the `$$$$` line; a molfile has none
 abbrev pub itemsEnd : FileKind → Bytes → Molecule → ℕ → ℕ
@@ -41,7 +40,7 @@ pub record Beside (k : ℕ) (t₀ t : List ℤ) : Type 0 where
 pub record Held (ta tb : List ℤ) (t : List ℕ) (m : Molecule) : Type 0 where
   pub atom-rows : Holds ta (rawRows (m .atoms))
   pub bond-rows : Holds tb (bondRows (m .bonds))
-  pub listed : Shows (m .counts .atoms) t (m .properties)
+  pub listed : Listing (m .counts .atoms) t (m .properties)
 
 -- after a refusal the first places may hold anything
 abbrev pub HeldBy : List ℤ → List ℤ → List ℕ → Outcome → Type 0

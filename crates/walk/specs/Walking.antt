@@ -25,7 +25,6 @@ use Rattle.lines.specs.Field.{elem}
 use Rattle.lines.specs.Answer.{countsIs, bondIs}
 use Rattle.lines.specs.declared.Counts.{Counts}
 use Rattle.lines.specs.declared.Bond.{Bond}
-use Rattle.entries.specs.Listed.{Shows}
 use Rattle.tables.specs.Row.{rawRow, rawRows, bondRows, Holds, SmallAtom, SmallBond}
 use Rattle.tables.specs.Held.{drop-sets}
 use Rattle.judge.specs.Place.{FileKind, molfile, sdfile, turnOf}
@@ -47,7 +46,7 @@ use Rattle.walk.specs.Keys.{pairKey, keyOf, keysOf, AllSmall, Searching,
 use Rattle.walk.specs.Outcome.{Outcome, whole, refused, outcomeOf, endAt, recordFrom, from-next, from-done, from-bad, outcome-from, mol-open}
 use Rattle.walk.specs.Took.{bondBack, countsBack, headedAt, endedAt, atomMore, bondMore, takenBy, atomsBy, Ready}
 use Rattle.walk.specs.Stands.{isSd, kindOf, placeOf, Rows, Counted, Headed, Marks, Stands, moleculeLines}
-use Rattle.walk.specs.Follow.{Onto, Stored, Pending, Closed, Goes, Shown, follow}
+use Rattle.walk.specs.Follow.{Onto, Stored, Pending, Closed, Goes, follow}
 use Rattle.walk.specs.Walked.{itemsEnd, walkedBy, walkOf, Beside, Held, HeldBy, Left}
 
 -- ---- Positions: one line more
@@ -160,7 +159,7 @@ pub record Bonding (sd : Bool) (s : Bytes) (r : Reader) (m : Notes) (n i : ℕ) 
 abbrev pub part : Bytes → ℕ → ℕ → Line
 part s at e = take (e - at) (drop at s)
 
-module _ (shown : Shown) (sd : Bool) (s : Bytes) (ta₀ tb₀ : List ℤ) (r : Reader) (m : Notes) (at i : ℕ) (t keys : List ℕ) (ta tb : List ℤ)
+module _ (sd : Bool) (s : Bytes) (ta₀ tb₀ : List ℤ) (r : Reader) (m : Notes) (at i : ℕ) (t keys : List ℕ) (ta tb : List ℤ)
     (g : Walking sd s ta₀ tb₀ r m at i t keys ta tb) (e n : ℕ) (l : lineAt s at ≡ LineAt.Line e n) where
   after : n ≡ afterLines s 0 i
   after = sym (ap (afterLines s 0) (g .line) ∙ after-more s 0 (g .k) at e n (g .start) l)
@@ -171,7 +170,7 @@ module _ (shown : Shown) (sd : Bool) (s : Bytes) (ta₀ tb₀ : List ℤ) (r : R
   goes : Goes (kindOf sd) s i n r m (tableAt r (r .place) t (part s at e)) keys ta tb
       (wentOf r t (part s at e)) (turnOf (kindOf sd) limit (g .p) (part s at e))
   goes =
-      follow shown (kindOf sd) s m t keys ta tb i n (part s at e) r (g .p) (g .stands)
+      follow (kindOf sd) s m t keys ta tb i n (part s at e) r (g .p) (g .stands)
       (omega (arith, g .atoms-beside .room, g .atoms-beside .size)) (omega (arith, g .bonds-beside .room, g .bonds-beside .size)) (g .key-room) after
 
   -- the line is taken, and another follows
