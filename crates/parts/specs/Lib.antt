@@ -7,3 +7,4 @@ pub mod AnyPart
 pub mod PartFrom
 pub mod PartAgree
 pub mod PartText
+pub mod Samples
