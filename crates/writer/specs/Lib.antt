@@ -1,0 +1,5 @@
+-- What the contracts cite
+pub mod Write
+pub mod Promise
+-- Laws for the proofs
+pub mod Measure
