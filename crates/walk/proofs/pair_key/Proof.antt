@@ -1,31 +1,24 @@
+-- `walk::pair_key` meets its contract.
 use Rattle.walk.proofs.Taking.{key-laws}
 use borrow.Author.Needs.{needs}
 use Rattle.walk.proofs.pair_key.Statement.{statement}
 use Rattle.walk.proofs.pair_key.Tie as tie
-use Rattle.walk.proofs.pair_key.Reads as reads
-use Rattle.walk.proofs.pair_key.Lts as lts
 
--- src/lib.rt:136:16
 mul-result : tie.Need-mul-result
 mul-result c = search needs
 
--- src/lib.rt:136:16
 add-result : tie.Need-add-result
 add-result c = search needs
 
--- src/lib.rt:136:9
 returns : tie.Need-returns
 returns c = search (needs, key-laws)
 
--- src/lib.rt:138:5
 mul-result-2 : tie.Need-mul-result-2
 mul-result-2 c = search needs
 
--- src/lib.rt:138:5
 add-result-2 : tie.Need-add-result-2
 add-result-2 c = search needs
 
--- src/lib.rt:131:1
 returns-2 : tie.Need-returns-2
 returns-2 c = search (needs, key-laws)
 

@@ -1,116 +1,84 @@
+-- `walk::take_line` meets its contract.
 use Rattle.walk.proofs.Taking.{taking-laws}
 use borrow.Author.Needs.{needs}
 use Rattle.walk.proofs.take_line.Statement.{statement}
 use Rattle.walk.proofs.take_line.Tie as tie
-use Rattle.walk.proofs.take_line.Reads as reads
-use Rattle.walk.proofs.take_line.Lts as lts
-use Rattle.reader.proofs.Reader.step.Reads as step-reads
-use Rattle.tables.proofs.put_atom.Reads as put-atom-reads
-use Rattle.walk.proofs.Notes.atom_more.Reads as atom-more-reads
-use Rattle.walk.proofs.Notes.ended.Reads as ended-reads
-use Rattle.walk.proofs.Notes.headed.Reads as headed-reads
 
--- src/lib.rt:160:11
 step-requires : tie.Need-step-requires
 step-requires c κs = search needs
 
--- src/lib.rt:161:20
 enum-known-r : tie.Need-enum-known-r
 enum-known-r c = search needs
 
--- src/lib.rt:162:22
 enum-known-r-2 : tie.Need-enum-known-r-2
 enum-known-r-2 c = search needs
 
--- src/lib.rt:162:43
 headed-requires : tie.Need-headed-requires
 headed-requires c κs = search needs
 
--- src/lib.rt:163:20
 enum-known-r-3 : tie.Need-enum-known-r-3
 enum-known-r-3 c = search needs
 
--- src/lib.rt:164:13
 put-atom-requires : tie.Need-put-atom-requires
 put-atom-requires c κs = search (needs, taking-laws)
 
--- src/lib.rt:165:28
 atom-more-requires : tie.Need-atom-more-requires
 atom-more-requires c κs = search (needs, taking-laws)
 
--- src/lib.rt:167:20
 enum-known-r-4 : tie.Need-enum-known-r-4
 enum-known-r-4 c = search needs
 
--- src/lib.rt:168:21
 enum-known-r-5 : tie.Need-enum-known-r-5
 enum-known-r-5 c = search needs
 
--- src/lib.rt:168:42
 ended-requires : tie.Need-ended-requires
 ended-requires c κs = search needs
 
--- src/lib.rt:169:31
 enum-known-r-6 : tie.Need-enum-known-r-6
 enum-known-r-6 c = search needs
 
--- src/lib.rt:170:21
 enum-known-r-7 : tie.Need-enum-known-r-7
 enum-known-r-7 c = search needs
 
--- src/lib.rt:171:21
 enum-known-r-8 : tie.Need-enum-known-r-8
 enum-known-r-8 c = search needs
 
--- src/lib.rt:172:23
 enum-told : tie.Need-enum-told
 enum-told c = search needs
 
--- src/lib.rt:173:25
 enum-known-no : tie.Need-enum-known-no
 enum-known-no c = search needs
 
--- src/lib.rt:155:1
 returns : tie.Need-returns
 returns c = search (needs, taking-laws)
 
--- src/lib.rt:155:1
 returns-2 : tie.Need-returns-2
 returns-2 c = search (needs, taking-laws)
 
--- src/lib.rt:155:1
 same-length : tie.Need-same-length
 same-length c = search needs
 
--- src/lib.rt:155:1
 returns-3 : tie.Need-returns-3
 returns-3 c = search (needs, taking-laws)
 
--- src/lib.rt:155:1
 returns-4 : tie.Need-returns-4
 returns-4 c = search (needs, taking-laws)
 
--- src/lib.rt:155:1
 returns-5 : tie.Need-returns-5
 returns-5 c = search (needs, taking-laws)
 
--- src/lib.rt:155:1
 returns-6 : tie.Need-returns-6
 returns-6 c = search (needs, taking-laws)
 
--- src/lib.rt:155:1
 returns-7 : tie.Need-returns-7
 returns-7 c = search (needs, taking-laws)
 
--- src/lib.rt:155:1
 returns-8 : tie.Need-returns-8
 returns-8 c = search (needs, taking-laws)
 
--- src/lib.rt:155:1
 returns-9 : tie.Need-returns-9
 returns-9 c = search (needs, taking-laws)
 
--- src/lib.rt:155:1
 returns-10 : tie.Need-returns-10
 returns-10 c = search (needs, taking-laws)
 
