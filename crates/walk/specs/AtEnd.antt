@@ -93,4 +93,6 @@ module _ (sd : Bool) (s : Bytes) (ta₀ tb₀ : List ℤ) (r : Reader) (m : Note
   walking-end y e = e ∙ ends .0 ∙ ap (walkedBy (kindOf sd) s) (sym end-is)
 
   pub end-left : Left ta₀ ta tb₀ tb t (outcomeOf (kindOf sd) s)
-  end-left = record { atoms = g .atoms-beside; bonds = g .bonds-beside; held = subst (HeldBy ta tb t) (sym end-is) (ends .1) }
+  end-left = record { atoms = g .atoms-beside; bonds = g .bonds-beside; size = g .listed-size; held = subst (HeldBy ta tb t) (sym end-is) (ends .1) }
+
+pub ruleset at-end-laws = (walking-end, end-left)

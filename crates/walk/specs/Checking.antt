@@ -7,12 +7,14 @@ use mathlib.Core.Bool.{Bool, true, false, cond}
 use lib.Dec.{eqb}
 use lib.ListN.{length, take, drop, length-drop, length-append, drop-of-length-le}
 use lib.Seq.{drop-drop, take-all}
+use lib.IntN.{ℤ}
 use mir.Syntax.{w64}
 use mir.Val.{Fits}
 use Rattle.text.specs.Text.{Bytes, Line}
 use Rattle.text.specs.Cut.{cut}
 use Rattle.rules.specs.Record.{Raw, limit}
 use Rattle.rules.specs.Viable.{FirstDead}
+use Rattle.entries.specs.Listed.{places}
 use Rattle.lines.specs.Got.{Got, got, bad}
 use Rattle.lines.specs.declared.Counts.{Counts}
 use Rattle.judge.specs.Place.{FileKind, molfile, sdfile, Place, first, Turn, next, done, turnOf}
@@ -24,7 +26,7 @@ use Rattle.judge.specs.Promise.{accepted-mol}
 use Rattle.walk.specs.declared.Walked.{Walked}
 use Rattle.walk.specs.declared.Answer.{Answer}
 use Rattle.walk.specs.Outcome.{Outcome, whole, refused, ofOne, ofVerdict, outcomeOf, one-next, one-done, one-bad}
-use Rattle.walk.specs.Walked.{walkedBy, walkOf}
+use Rattle.walk.specs.Walked.{walkedBy, walkOf, Beside, Left}
 use Rattle.walk.specs.Promise.{Said, accepted, numbersOf, saidBy, CheckedAs, verdict-checked}
 
 -- ---- What the check says
@@ -190,14 +192,14 @@ module _ (s : Bytes) (at i c : ℕ) (g : Filing s at i c) (some : at < length s)
     pub filing-less : length s - (at + len) < length s - at
     filing-less = let r = room in omega (arith, r .0, r .1, r .2)
 
-    pub fits-at : length s * 1 < 2 ^ 63 → Fits w64 (at + len)
-    fits-at h = let r = room in record { fits = omega (arith, r .2) }
+    pub filing-at : length s * 1 < 2 ^ 63 → Fits w64 (at + len)
+    filing-at h = let r = room in record { fits = omega (arith, r .2) }
 
-    pub fits-line : length s * 1 < 2 ^ 63 → Fits w64 (i + k)
-    fits-line h = let r = room in record { fits = omega (arith, r .1, r .2, g .lines) }
+    pub filing-line : length s * 1 < 2 ^ 63 → Fits w64 (i + k)
+    filing-line h = let r = room in record { fits = omega (arith, r .1, r .2, g .lines) }
 
-  pub fits-count : length s * 1 < 2 ^ 63 → Fits w64 (c + 1)
-  fits-count h = record { fits = omega (arith, g .few, g .lines, g .inside) }
+  pub filing-count : length s * 1 < 2 ^ 63 → Fits w64 (c + 1)
+  filing-count h = record { fits = omega (arith, g .few, g .lines, g .inside) }
 
   -- ---- A refusal
 
@@ -237,10 +239,110 @@ module _ (s : Bytes) (at i c : ℕ) (g : Filing s at i c) (some : at < length s)
     pub filing-refused : numbersOf (Answer.Refused e (i + k - 1) column) ≡ saidOf sdfile s
     filing-refused = sym (ap saidBy (stopped .said))
 
-    pub fits-sum : length s * 1 < 2 ^ 63 → Fits w64 (i + k)
-    fits-sum h = record { fits = omega (arith, stopped .high, g .lines, g .inside) }
+    pub filing-sum : length s * 1 < 2 ^ 63 → Fits w64 (i + k)
+    filing-sum h = record { fits = omega (arith, stopped .high, g .lines, g .inside) }
 
-    pub sum-some : 1 ≤ i + k
-    sum-some = omega (arith, stopped .low)
+    pub filing-some : 1 ≤ i + k
+    filing-some = omega (arith, stopped .low)
 
-pub ruleset filing-laws = (filing-start, filing-end, filing-next, filing-less, filing-refused, fits-at, fits-line, fits-count, fits-sum, sum-some)
+-- ---- With the tables
+
+-- between two records: the tables have room, and the lengths they had
+pub record Going (s : Bytes) (ta₀ tb₀ ta tb : List ℤ) (t : List ℕ) (at i c : ℕ) : Type 0 where
+  pub filing : Filing s at i c
+  pub bytes : length s * 1 < 2 ^ 63
+  pub atoms : 4080 ≤ length ta
+  pub bonds : 1530 ≤ length tb
+  pub listed : length t ≡ 3 * places
+  pub atoms-size : length ta ≡ length ta₀
+  pub bonds-size : length tb ≡ length tb₀
+
+pub going-start : (s : Bytes) (ta tb : List ℤ) (t : List ℕ) → length s * 1 < 2 ^ 63 → 4080 ≤ length ta → 1530 ≤ length tb → length t ≡ 3 * places → Going s ta tb ta tb t 0 1 0
+going-start s ta tb t few ra rb rt =
+    record { filing = filing-start s; bytes = few; atoms = ra; bonds = rb; listed = rt; atoms-size = refl; bonds-size = refl }
+
+module _ (s : Bytes) (ta₀ tb₀ ta tb : List ℤ) (t : List ℕ) (at i c : ℕ) (g : Going s ta₀ tb₀ ta tb t at i c) where
+  pub going-end : length s ≤ at → numbersOf (Answer.Accepted c) ≡ saidOf sdfile s
+  going-end h = filing-end s at i c (g .filing) h
+
+  pub going-atoms : length ta ≡ length ta₀
+  going-atoms = g .atoms-size
+
+  pub going-bonds : length tb ≡ length tb₀
+  going-bonds = g .bonds-size
+
+  module _ (some : at < length s) (x : Walked) (ex : x ≡ walkOf sdfile (take (length s - at) (drop at s))) (ta′ tb′ : List ℤ) (t′ : List ℕ) (o : Outcome)
+      (left : Left ta ta′ tb tb′ t′ o) where
+    pub left-atoms : length ta′ ≡ length ta₀
+    left-atoms = left .atoms .size ∙ g .atoms-size
+
+    pub left-bonds : length tb′ ≡ length tb₀
+    left-bonds = left .bonds .size ∙ g .bonds-size
+
+    module _ (cs : Counts) (len k h a b : ℕ) (q : x ≡ Walked.Whole cs len k h a b) where
+      pub going-next : Going s ta₀ tb₀ ta′ tb′ t′ (at + len) (i + k) (c + 1)
+      going-next =
+          record {
+            filing = filing-next s at i c (g .filing) some x ex cs len k h a b q;
+            bytes = g .bytes;
+            atoms = omega (arith, left .atoms .size, g .atoms);
+            bonds = omega (arith, left .bonds .size, g .bonds);
+            listed = left .size;
+            atoms-size = left-atoms;
+            bonds-size = left-bonds;
+          }
+
+      pub going-less : length s - (at + len) < length s - at
+      going-less = filing-less s at i c (g .filing) some x ex cs len k h a b q
+
+      pub fits-at : Fits w64 (at + len)
+      fits-at = filing-at s at i c (g .filing) some x ex cs len k h a b q (g .bytes)
+
+      pub fits-line : Fits w64 (i + k)
+      fits-line = filing-line s at i c (g .filing) some x ex cs len k h a b q (g .bytes)
+
+      pub fits-count : Fits w64 (c + 1)
+      fits-count = filing-count s at i c (g .filing) some x ex (g .bytes)
+
+    module _ (e k column : ℕ) (q : x ≡ Walked.Refused e k column) where
+      pub going-refused : numbersOf (Answer.Refused e (i + k - 1) column) ≡ saidOf sdfile s
+      going-refused = filing-refused s at i c (g .filing) some x ex e k column q
+
+      pub fits-sum : Fits w64 (i + k)
+      fits-sum = filing-sum s at i c (g .filing) some x ex e k column q (g .bytes)
+
+      pub sum-some : 1 ≤ i + k
+      sum-some = filing-some s at i c (g .filing) some x ex e k column q
+
+pub ruleset going-laws = (
+  going-start,
+  going-end,
+  going-atoms,
+  going-bonds,
+  left-atoms,
+  left-bonds,
+  going-next,
+  going-less,
+  fits-at,
+  fits-line,
+  fits-count,
+  going-refused,
+  fits-sum,
+  sum-some,
+)
+
+-- ---- A molfile's answer
+
+pub mol-whole : (s : Bytes) (x : Walked) (c : Counts) (len k h a b : ℕ) → x ≡ walkOf molfile s → x ≡ Walked.Whole c len k h a b → numbersOf (Answer.Accepted 1) ≡ saidOf molfile s
+mol-whole s x c len k h a b e q = ap (λ (w : Walked). numbersOf (answerBy w)) (sym q) ∙ mol-said s x e
+
+pub mol-refused : (s : Bytes) (x : Walked) (e i column : ℕ) → x ≡ walkOf molfile s → x ≡ Walked.Refused e i column → numbersOf (Answer.Refused e i column) ≡ saidOf molfile s
+mol-refused s x e i column h q = ap (λ (w : Walked). numbersOf (answerBy w)) (sym q) ∙ mol-said s x h
+
+pub left-length : (ta₀ ta tb₀ tb : List ℤ) (t : List ℕ) (o : Outcome) → Left ta₀ ta tb₀ tb t o → length ta ≡ length ta₀
+left-length ta₀ ta tb₀ tb t o l = l .atoms .size
+
+pub left-length-2 : (ta₀ ta tb₀ tb : List ℤ) (t : List ℕ) (o : Outcome) → Left ta₀ ta tb₀ tb t o → length tb ≡ length tb₀
+left-length-2 ta₀ ta tb₀ tb t o l = l .bonds .size
+
+pub ruleset mol-laws = (mol-whole, mol-refused, left-length, left-length-2)

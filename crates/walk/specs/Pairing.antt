@@ -18,13 +18,12 @@ use Rattle.lines.specs.declared.Bond.{Bond}
 use Rattle.tables.specs.Row.{SmallBond}
 use Rattle.tables.specs.Held.{drop-sets}
 use Rattle.reader.specs.declared.Reader.{Reader}
-use Rattle.reader.specs.Went.{wentOf, Kept}
 use Rattle.walk.specs.declared.Notes.{Notes}
 use Rattle.walk.specs.declared.Taken.{Taken}
 use Rattle.walk.specs.declared.Walked.{Walked}
 use Rattle.walk.specs.Keys.{pairKey, keyOf, Searching, searching-start, searching-next, searching-found, searching-end}
 use Rattle.walk.specs.Outcome.{refused, outcomeOf}
-use Rattle.walk.specs.Took.{bondMore, takenBy, atomsBy}
+use Rattle.walk.specs.Took.{bondMore, Took, Keeping}
 use Rattle.walk.specs.Stands.{kindOf}
 use Rattle.walk.specs.Walked.{walkedBy, walkOf, Beside, HeldBy, Left}
 use Rattle.walk.specs.Walking.{Walking, Bonding, part, bonding}
@@ -37,12 +36,21 @@ pub record Pairing (sd : Bool) (s : Bytes) (r : Reader) (m : Notes) (n i : ℕ) 
   pub searching : Searching keys key count j
 
 pub pairing-start : (sd : Bool) (s : Bytes) (ta₀ tb₀ : List ℤ) (r : Reader) (m : Notes) (at i : ℕ) (t keys : List ℕ) (ta tb : List ℤ)
-    (g : Walking sd s ta₀ tb₀ r m at i t keys ta tb) (e n : ℕ) (l : lineAt s at ≡ LineAt.Line e n) (x : Taken) (r′ : Reader) (b : Bond) (t′ : List ℕ) (ta′ : List ℤ) →
-    x ≡ takenBy m n (wentOf r t (part s at e)) → Kept r t (part s at e) t′ → ta′ ≡ atomsBy m (wentOf r t (part s at e)) ta → x ≡ Taken.Bond r′ b → (key : ℕ) →
+    (g : Walking sd s ta₀ tb₀ r m at i t keys ta tb) (e n : ℕ) (o : LineAt) (found : o ≡ lineAt s at) (is : o ≡ LineAt.Line e n) (x : Taken) (r′ : Reader) (b : Bond) (t′ : List ℕ) (ta′ : List ℤ) →
+    Took r m n t ta (part s at e) x t′ ta′ → x ≡ Taken.Bond r′ b → (key : ℕ) →
     key ≡ pairKey (b .first) (b .second) → Pairing sd s r′ m n i t′ keys ta′ tb b key (m .bonds) 0
-pairing-start sd s ta₀ tb₀ r m at i t keys ta tb g e n l x r′ b t′ ta′ ex kept ea q key ek =
-    let h = bonding sd s ta₀ tb₀ r m at i t keys ta tb g e n l x r′ b t′ ta′ ex kept ea q in
+pairing-start sd s ta₀ tb₀ r m at i t keys ta tb g e n o found is x r′ b t′ ta′ k q key ek =
+    let h = bonding sd s ta₀ tb₀ r m at i t keys ta tb g e n o found is x r′ b t′ ta′ k q in
     record { bond = h; key-of = ek; before = refl; searching = searching-start keys key (m .bonds) (omega (arith, h .few, h .key-room)) }
+
+module _ (sd : Bool) (s : Bytes) (ta₀ tb₀ : List ℤ) (r : Reader) (m : Notes) (at i : ℕ) (t keys : List ℕ) (ta tb : List ℤ)
+    (g : Walking sd s ta₀ tb₀ r m at i t keys ta tb) (e n : ℕ) (o : LineAt) (found : o ≡ lineAt s at) (is : o ≡ LineAt.Line e n) (x : Taken) (r′ : Reader) (b : Bond)
+    (t′ : List ℕ) (ta′ : List ℤ) (k : Took r m n t ta (part s at e) x t′ ta′) (q : x ≡ Taken.Bond r′ b) where
+  pub first-small : b .first ≤ 999
+  first-small = bonding sd s ta₀ tb₀ r m at i t keys ta tb g e n o found is x r′ b t′ ta′ k q .fits .first
+
+  pub second-small : b .second ≤ 999
+  second-small = bonding sd s ta₀ tb₀ r m at i t keys ta tb g e n o found is x r′ b t′ ta′ k q .fits .second
 
 module _ (sd : Bool) (s : Bytes) (r : Reader) (m : Notes) (n i : ℕ) (t keys : List ℕ) (ta tb : List ℤ) (b : Bond) (key count j : ℕ)
     (g : Pairing sd s r m n i t keys ta tb b key count j) where
@@ -69,7 +77,7 @@ module _ (sd : Bool) (s : Bytes) (r : Reader) (m : Notes) (n i : ℕ) (t keys : 
     pairing-found y e = e ∙ sym (ap (walkedBy (kindOf sd) s) twice)
 
     pub found-left : (ta₀ tb₀ : List ℤ) → Beside 4080 ta₀ ta → Beside 1530 tb₀ tb → Left ta₀ ta tb₀ tb t (outcomeOf (kindOf sd) s)
-    found-left ta₀ tb₀ ba bb = record { atoms = ba; bonds = bb; held = subst (HeldBy ta tb t) (sym twice) tt }
+    found-left ta₀ tb₀ ba bb = record { atoms = ba; bonds = bb; size = g .bond .listed-size; held = subst (HeldBy ta tb t) (sym twice) tt }
 
   -- ---- It is not among those before
 
@@ -90,3 +98,8 @@ module _ (sd : Bool) (s : Bytes) (r : Reader) (m : Notes) (n i : ℕ) (t keys : 
         size = length-sets tb (6 * (m .bonds)) (bondNumbers (bondIs b)) ∙ bb .size;
         past = drop-sets (bondNumbers (bondIs b)) tb (6 * (m .bonds)) 1530 (omega (arith, a .few)) ∙ bb .past;
       }))
+
+  pub pairing-keeps : 1530 ≤ length tb → Keeping m b tb keys
+  pairing-keeps h = record { few = g .bond .few; fits = g .bond .fits; room = h; key-room = g .bond .key-room }
+
+pub ruleset pair-laws = (pairing-start, first-small, second-small, pairing-next, pairing-within, pairing-found, found-left, pairing-end, pairing-keeps)

@@ -9,11 +9,13 @@ use Rattle.text.specs.Text.{Line}
 use Rattle.rules.specs.Forms as R
 use Rattle.rules.specs.Record.{limit}
 use Rattle.lines.specs.Got.{Got, got, bad}
+use Rattle.lines.specs.Answer.{bondIs}
 use Rattle.lines.specs.declared.Counts.{Counts}
 use Rattle.lines.specs.declared.Bond.{Bond}
-use Rattle.tables.specs.Row.{rawRow, SmallAtom}
+use Rattle.entries.specs.Listed.{places}
+use Rattle.tables.specs.Row.{rawRow, SmallAtom, SmallBond}
 use Rattle.reader.specs.declared.Reader.{Reader}
-use Rattle.reader.specs.Went.{Went, on, headed, atom, bond, ended, title, value, blank, done, wentOf, Sane}
+use Rattle.reader.specs.Went.{Went, on, headed, atom, bond, ended, title, value, blank, done, wentOf, Kept, Sane}
 use Rattle.walk.specs.declared.Notes.{Notes}
 use Rattle.walk.specs.declared.Taken.{Taken}
 
@@ -69,4 +71,19 @@ atomsBy m (bad e column) t = t
 pub record Ready (r : Reader) (m : Notes) (listed : List ℕ) (t : List ℤ) (l : Line) : Type 0 where
   pub sane : Sane r
   pub room : 4080 ≤ length t
+  pub size : length listed ≡ 3 * places
   pub fits : (r′ : Reader) (a : R.Atom) → wentOf r listed l ≡ got (atom r′ a) → (m .atoms < limit) × SmallAtom a
+
+-- what taking a line answers, and what it leaves in the tables
+pub record Took (r : Reader) (m : Notes) (next : ℕ) (listed : List ℕ) (t : List ℤ) (l : Line) (x : Taken) (listed′ : List ℕ) (t′ : List ℤ) : Type 0 where
+  pub answer : x ≡ takenBy m next (wentOf r listed l)
+  pub rows : t′ ≡ atomsBy m (wentOf r listed l) t
+  pub kept : Kept r listed l listed′
+  pub size : length listed′ ≡ 3 * places
+
+-- what keeping a bond asks: its row and its key fit the tables
+pub record Keeping (m : Notes) (b : Bond) (t : List ℤ) (keys : List ℕ) : Type 0 where
+  pub few : m .bonds < limit
+  pub fits : SmallBond (bondIs b)
+  pub room : 1530 ≤ length t
+  pub key-room : length keys ≡ 256

@@ -1,11 +1,12 @@
 -- What the walk over one record answers, and what it leaves in the lent tables.
-use Prim.Native.Nat.{ℕ, _-_, _≤_}
+use Prim.Native.Nat.{ℕ, _-_, _*_, _≤_}
 use mathlib.Core.Path.{_≡_}
 use mathlib.Core.List.{List}
 use lib.ListN.{length, drop}
 use lib.IntN.{ℤ}
 use Rattle.text.specs.Text.{Bytes}
 use Rattle.rules.specs.Record.{Molecule, Raw}
+use Rattle.entries.specs.Listed.{places}
 use Rattle.tables.specs.Row.{rawRows, bondRows, Holds}
 use Rattle.judge.specs.Place.{FileKind, molfile, sdfile}
 use Rattle.judge.specs.WalkText.{afterLines}
@@ -51,4 +52,5 @@ HeldBy ta tb t (refused e i column) = Unit {0}
 pub record Left (ta₀ ta tb₀ tb : List ℤ) (t : List ℕ) (o : Outcome) : Type 0 where
   pub atoms : Beside 4080 ta₀ ta
   pub bonds : Beside 1530 tb₀ tb
+  pub size : length t ≡ 3 * places
   pub held : HeldBy ta tb t o

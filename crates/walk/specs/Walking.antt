@@ -25,6 +25,7 @@ use Rattle.lines.specs.Field.{elem}
 use Rattle.lines.specs.Answer.{countsIs, bondIs}
 use Rattle.lines.specs.declared.Counts.{Counts}
 use Rattle.lines.specs.declared.Bond.{Bond}
+use Rattle.entries.specs.Listed.{places}
 use Rattle.tables.specs.Row.{rawRow, rawRows, bondRows, Holds, SmallAtom, SmallBond}
 use Rattle.tables.specs.Held.{drop-sets}
 use Rattle.judge.specs.Place.{FileKind, molfile, sdfile, turnOf}
@@ -44,7 +45,7 @@ use Rattle.walk.specs.declared.Taken.{Taken}
 use Rattle.walk.specs.declared.Walked.{Walked}
 use Rattle.walk.specs.Keys.{pairKey, keyOf, keysOf, AllSmall, Searching, searching-found, searching-end, taken-keys}
 use Rattle.walk.specs.Outcome.{Outcome, whole, refused, outcomeOf, endAt, recordFrom, from-next, from-done, from-bad, outcome-from, mol-open}
-use Rattle.walk.specs.Took.{bondBack, countsBack, headedAt, endedAt, atomMore, bondMore, takenBy, atomsBy, Ready}
+use Rattle.walk.specs.Took.{bondBack, countsBack, headedAt, endedAt, atomMore, bondMore, takenBy, atomsBy, Ready, Took}
 use Rattle.walk.specs.Stands.{isSd, kindOf, placeOf, Rows, Counted, Headed, Marks, Stands, moleculeLines}
 use Rattle.walk.specs.Follow.{Onto, Stored, Pending, Closed, Goes, follow}
 use Rattle.walk.specs.Walked.{itemsEnd, walkedBy, walkOf, Beside, Held, HeldBy, Left}
@@ -75,8 +76,10 @@ pub record Walking (sd : Bool) (s : Bytes) (ta₀ tb₀ : List ℤ) (r : Reader)
   pub line : i ≡ suc k
   pub start : afterLines s 0 k ≡ at
   pub inside : at ≤ length s
+  pub bytes : length s * 1 < 2 ^ 63
   pub lines : i ≤ at + 1
   pub key-room : length keys ≡ 256
+  pub listed-size : length t ≡ 3 * places
   pub atoms-beside : Beside 4080 ta₀ ta
   pub bonds-beside : Beside 1530 tb₀ tb
   pub same : outcomeOf (kindOf sd) s ≡ recordFrom (kindOf sd) p i (cut (drop at s) .lines) (cut (drop at s) .rest)
@@ -89,9 +92,9 @@ sd-kind true = refl
 sd-kind false = refl
 
 pub walking-start : (sd : Bool) (s : Bytes) (r : Reader) (t keys : List ℕ) (ta tb : List ℤ) → r ≡ begun sd → 4080 ≤ length ta → 1530 ≤ length tb → length keys ≡ 256 →
-    Walking sd s ta tb r noNotes 0 1 t keys ta tb
+    length t ≡ 3 * places → length s * 1 < 2 ^ 63 → Walking sd s ta tb r noNotes 0 1 t keys ta tb
 unfolding rawRows bondRows AllSmall
-walking-start sd s r t keys ta tb e ra rb rk =
+walking-start sd s r t keys ta tb e ra rb rk rt few =
     subst (λ (x : Reader). Walking sd s ta tb x noNotes 0 1 t keys ta tb) (sym e)
     (record {
       p = first;
@@ -110,8 +113,10 @@ walking-start sd s r t keys ta tb e ra rb rk =
       line = refl;
       start = after-none s 0;
       inside = omega arith;
+      bytes = few;
       lines = omega arith;
       key-room = rk;
+      listed-size = rt;
       atoms-beside = record { room = ra; size = refl; past = refl };
       bonds-beside = record { room = rb; size = refl; past = refl };
       same = outcome-from (kindOf sd) s;
@@ -147,6 +152,7 @@ pub record Bonding (sd : Bool) (s : Bytes) (r : Reader) (m : Notes) (n i : ℕ) 
   pub few : m .bonds < limit
   pub fits : SmallBond (bondIs b)
   pub key-room : length keys ≡ 256
+  pub listed-size : length t ≡ 3 * places
   pub key-is : elem (keyOf (bondIs b)) (take (m .bonds) keys) ≡ pairTaken (bondIs b) bs
   pub lines : i + 1 ≤ n + 1
   pub inside : n ≤ length s
@@ -160,7 +166,10 @@ abbrev pub part : Bytes → ℕ → ℕ → Line
 part s at e = take (e - at) (drop at s)
 
 module _ (sd : Bool) (s : Bytes) (ta₀ tb₀ : List ℤ) (r : Reader) (m : Notes) (at i : ℕ) (t keys : List ℕ) (ta tb : List ℤ)
-    (g : Walking sd s ta₀ tb₀ r m at i t keys ta tb) (e n : ℕ) (l : lineAt s at ≡ LineAt.Line e n) where
+    (g : Walking sd s ta₀ tb₀ r m at i t keys ta tb) (e n : ℕ) (o : LineAt) (found : o ≡ lineAt s at) (is : o ≡ LineAt.Line e n) where
+  l : lineAt s at ≡ LineAt.Line e n
+  l = sym found ∙ is
+
   after : n ≡ afterLines s 0 i
   after = sym (ap (afterLines s 0) (g .line) ∙ after-more s 0 (g .k) at e n (g .start) l)
 
@@ -175,9 +184,9 @@ module _ (sd : Bool) (s : Bytes) (ta₀ tb₀ : List ℤ) (r : Reader) (m : Note
 
   -- the line is taken, and another follows
   onto : (ta₁ tb₁ : List ℤ) (r′ : Reader) (m′ : Notes) (t′ keys′ : List ℕ) (ta′ tb′ : List ℤ) (q : J.Place) →
-      turnOf (kindOf sd) limit (g .p) (part s at e) ≡ got (next q) → Stands (kindOf sd) s r′ m′ t′ keys′ ta′ tb′ (suc i) q → length keys′ ≡ 256 →
+      turnOf (kindOf sd) limit (g .p) (part s at e) ≡ got (next q) → Stands (kindOf sd) s r′ m′ t′ keys′ ta′ tb′ (suc i) q → length keys′ ≡ 256 → length t′ ≡ 3 * places →
       Beside 4080 ta₁ ta′ → Beside 1530 tb₁ tb′ → Walking sd s ta₁ tb₁ r′ m′ n (i + 1) t′ keys′ ta′ tb′
-  onto ta₁ tb₁ r′ m′ t′ keys′ ta′ tb′ q turn st rk ba bb =
+  onto ta₁ tb₁ r′ m′ t′ keys′ ta′ tb′ q turn st rk rt ba bb =
       let w = line-within s at e n l in
       let one : suc i ≡ i + 1 = omega arith in
       record {
@@ -188,8 +197,10 @@ module _ (sd : Bool) (s : Bytes) (ta₀ tb₀ : List ℤ) (r : Reader) (m : Note
         line = sym one;
         start = sym after;
         inside = w .2;
+        bytes = g .bytes;
         lines = omega (arith, w .0, w .1, g .lines);
         key-room = rk;
+        listed-size = rt;
         atoms-beside = ba;
         bonds-beside = bb;
         same =
@@ -199,11 +210,11 @@ module _ (sd : Bool) (s : Bytes) (ta₀ tb₀ : List ℤ) (r : Reader) (m : Note
       }
 
   -- the state and the tables after a line that is not a bond's
-  moved : (r′ r₂ : Reader) (m′ m₂ : Notes) (t′ : List ℕ) (ta′ ta₂ : List ℤ) → r′ ≡ r₂ → m′ ≡ m₂ → t′ ≡ tableAt r (r .place) t (part s at e) → ta′ ≡ ta₂ → Beside 4080 ta₀ ta₂ →
+  moved : (r′ r₂ : Reader) (m′ m₂ : Notes) (t′ : List ℕ) (ta′ ta₂ : List ℤ) → r′ ≡ r₂ → m′ ≡ m₂ → length t′ ≡ 3 * places → t′ ≡ tableAt r (r .place) t (part s at e) → ta′ ≡ ta₂ → Beside 4080 ta₀ ta₂ →
       Onto (kindOf sd) s i keys tb r₂ m₂ (tableAt r (r .place) t (part s at e)) ta₂ (turnOf (kindOf sd) limit (g .p) (part s at e)) →
       Walking sd s ta₀ tb₀ r′ m′ n (i + 1) t′ keys ta′ tb
-  moved r′ r₂ m′ m₂ t′ ta′ ta₂ er em et ea ba o =
-      rw (er, em, et, ea) (onto ta₀ tb₀ r₂ m₂ (tableAt r (r .place) t (part s at e)) keys ta₂ tb (o .0) (o .1) (o .2) (g .key-room) ba (g .bonds-beside))
+  moved r′ r₂ m′ m₂ t′ ta′ ta₂ er em rt et ea ba o =
+      rw (er, em, et, ea) (onto ta₀ tb₀ r₂ m₂ (tableAt r (r .place) t (part s at e)) keys ta₂ tb (o .0) (o .1) (o .2) (g .key-room) (subst (λ (u : List ℕ). length u ≡ 3 * places) et rt) ba (g .bonds-beside))
 
   row-beside : (a : R.Atom) → m .atoms < limit → Beside 4080 ta₀ (sets ta (16 * (m .atoms)) (rawRow a))
   row-beside a few =
@@ -213,22 +224,21 @@ module _ (sd : Bool) (s : Bytes) (ta₀ tb₀ : List ℤ) (r : Reader) (m : Note
         past = drop-sets (rawRow a) ta (16 * (m .atoms)) 4080 (omega arith) ∙ g .atoms-beside .past;
       }
 
-  pub walking-next : (x : Taken) (r′ : Reader) (m′ : Notes) (t′ : List ℕ) (ta′ : List ℤ) → x ≡ takenBy m n (wentOf r t (part s at e)) → Kept r t (part s at e) t′ →
-      ta′ ≡ atomsBy m (wentOf r t (part s at e)) ta → x ≡ Taken.Next r′ m′ → Walking sd s ta₀ tb₀ r′ m′ n (i + 1) t′ keys ta′ tb
-  walking-next x r′ m′ t′ ta′ ex kept ea q = go (wentOf r t (part s at e)) refl (sym q ∙ ex) ea goes
+  pub walking-next : (x : Taken) (r′ : Reader) (m′ : Notes) (t′ : List ℕ) (ta′ : List ℤ) → Took r m n t ta (part s at e) x t′ ta′ → x ≡ Taken.Next r′ m′ → Walking sd s ta₀ tb₀ r′ m′ n (i + 1) t′ keys ta′ tb
+  walking-next x r′ m′ t′ ta′ k q = go (wentOf r t (part s at e)) refl (sym q ∙ k .answer) (k .rows) goes
     where
       go : (w : Got Went) → wentOf r t (part s at e) ≡ w → Taken.Next r′ m′ ≡ takenBy m n w → ta′ ≡ atomsBy m w ta →
           Goes (kindOf sd) s i n r m (tableAt r (r .place) t (part s at e)) keys ta tb w (turnOf (kindOf sd) limit (g .p) (part s at e)) →
           Walking sd s ta₀ tb₀ r′ m′ n (i + 1) t′ keys ta′ tb
-      go (got (W.on r₂)) ew h ea o = moved r′ r₂ m′ m t′ ta′ ta (cc) (cc) (kept .kept (W.on r₂) ew) ea (g .atoms-beside) o
-      go (got (W.headed r₂)) ew h ea o = moved r′ r₂ m′ (headedAt m n) t′ ta′ ta (cc) (cc) (kept .kept (W.headed r₂) ew) ea (g .atoms-beside) o
+      go (got (W.on r₂)) ew h ea o = moved r′ r₂ m′ m t′ ta′ ta (cc) (cc) (k .size) (k .kept .kept (W.on r₂) ew) ea (g .atoms-beside) o
+      go (got (W.headed r₂)) ew h ea o = moved r′ r₂ m′ (headedAt m n) t′ ta′ ta (cc) (cc) (k .size) (k .kept .kept (W.headed r₂) ew) ea (g .atoms-beside) o
       go (got (W.atom r₂ a)) ew h ea o =
-          moved r′ r₂ m′ (atomMore m) t′ ta′ (sets ta (16 * (m .atoms)) (rawRow a)) (cc) (cc) (kept .kept (W.atom r₂ a) ew) ea (row-beside a (o .few)) (o .onto)
+          moved r′ r₂ m′ (atomMore m) t′ ta′ (sets ta (16 * (m .atoms)) (rawRow a)) (cc) (cc) (k .size) (k .kept .kept (W.atom r₂ a) ew) ea (row-beside a (o .few)) (o .onto)
       go (got (W.bond r₂ b)) ew h ea o = absurd (let z : _≡_ {A = ℕ} 0 1 = cc in omega arith)
-      go (got (W.ended r₂)) ew h ea o = moved r′ r₂ m′ (endedAt m n) t′ ta′ ta (cc) (cc) (kept .kept (W.ended r₂) ew) ea (g .atoms-beside) o
-      go (got (W.title r₂ name)) ew h ea o = moved r′ r₂ m′ m t′ ta′ ta (cc) (cc) (kept .kept (W.title r₂ name) ew) ea (g .atoms-beside) o
-      go (got (W.value r₂)) ew h ea o = moved r′ r₂ m′ m t′ ta′ ta (cc) (cc) (kept .kept (W.value r₂) ew) ea (g .atoms-beside) o
-      go (got (W.blank r₂)) ew h ea o = moved r′ r₂ m′ m t′ ta′ ta (cc) (cc) (kept .kept (W.blank r₂) ew) ea (g .atoms-beside) o
+      go (got (W.ended r₂)) ew h ea o = moved r′ r₂ m′ (endedAt m n) t′ ta′ ta (cc) (cc) (k .size) (k .kept .kept (W.ended r₂) ew) ea (g .atoms-beside) o
+      go (got (W.title r₂ name)) ew h ea o = moved r′ r₂ m′ m t′ ta′ ta (cc) (cc) (k .size) (k .kept .kept (W.title r₂ name) ew) ea (g .atoms-beside) o
+      go (got (W.value r₂)) ew h ea o = moved r′ r₂ m′ m t′ ta′ ta (cc) (cc) (k .size) (k .kept .kept (W.value r₂) ew) ea (g .atoms-beside) o
+      go (got (W.blank r₂)) ew h ea o = moved r′ r₂ m′ m t′ ta′ ta (cc) (cc) (k .size) (k .kept .kept (W.blank r₂) ew) ea (g .atoms-beside) o
       go (got W.done) ew h ea o = absurd (let z : _≡_ {A = ℕ} 0 1 = cc in omega arith)
       go (bad c column) ew h ea o = absurd (let z : _≡_ {A = ℕ} 0 1 = cc in omega arith)
 
@@ -237,6 +247,7 @@ module _ (sd : Bool) (s : Bytes) (ta₀ tb₀ : List ℤ) (r : Reader) (m : Note
       record {
         sane = walking-sane sd s ta₀ tb₀ r m at i t keys ta tb g;
         room = omega (arith, g .atoms-beside .room, g .atoms-beside .size);
+        size = g .listed-size;
         fits = λ r′ a q. fits r′ a (subst (λ (w : Got Went). Goes (kindOf sd) s i n r m (tableAt r (r .place) t (part s at e)) keys ta tb w (turnOf (kindOf sd) limit (g .p) (part s at e))) q goes);
       }
     where
@@ -246,9 +257,9 @@ module _ (sd : Bool) (s : Bytes) (ta₀ tb₀ : List ℤ) (r : Reader) (m : Note
 
   -- ---- The line is refused
 
-  module _ (x : Taken) (c column : ℕ) (ex : x ≡ takenBy m n (wentOf r t (part s at e))) (q : x ≡ Taken.Refused c column) where
+  module _ (x : Taken) (t′ : List ℕ) (ta′ : List ℤ) (k : Took r m n t ta (part s at e) x t′ ta′) (c column : ℕ) (q : x ≡ Taken.Refused c column) where
     stopped : outcomeOf (kindOf sd) s ≡ refused c i column
-    stopped = go (wentOf r t (part s at e)) (sym q ∙ ex) goes
+    stopped = go (wentOf r t (part s at e)) (sym q ∙ k .answer) goes
       where
         go : (w : Got Went) → Taken.Refused c column ≡ takenBy m n w →
             Goes (kindOf sd) s i n r m (tableAt r (r .place) t (part s at e)) keys ta tb w (turnOf (kindOf sd) limit (g .p) (part s at e)) → outcomeOf (kindOf sd) s ≡ refused c i column
@@ -270,9 +281,14 @@ module _ (sd : Bool) (s : Bytes) (ta₀ tb₀ : List ℤ) (r : Reader) (m : Note
     unfolding walkOf
     walking-refused = sym (ap (walkedBy (kindOf sd) s) stopped)
 
-    pub refused-left : (t′ : List ℕ) (ta′ : List ℤ) → ta′ ≡ atomsBy m (wentOf r t (part s at e)) ta → Left ta₀ ta′ tb₀ tb t′ (outcomeOf (kindOf sd) s)
-    refused-left t′ ta′ ea =
-        record { atoms = subst (Beside 4080 ta₀) (sym (ea ∙ same-atoms (wentOf r t (part s at e)) (sym q ∙ ex))) (g .atoms-beside); bonds = g .bonds-beside; held = subst (HeldBy ta′ tb t′) (sym stopped) tt }
+    pub refused-left : Left ta₀ ta′ tb₀ tb t′ (outcomeOf (kindOf sd) s)
+    refused-left =
+        record {
+          atoms = subst (Beside 4080 ta₀) (sym (k .rows ∙ same-atoms (wentOf r t (part s at e)) (sym q ∙ k .answer))) (g .atoms-beside);
+          bonds = g .bonds-beside;
+          size = k .size;
+          held = subst (HeldBy ta′ tb t′) (sym stopped) tt;
+        }
       where
         same-atoms : (w : Got Went) → Taken.Refused c column ≡ takenBy m n w → atomsBy m w ta ≡ ta
         same-atoms (got (W.on r₂)) h = refl
@@ -288,8 +304,7 @@ module _ (sd : Bool) (s : Bytes) (ta₀ tb₀ : List ℤ) (r : Reader) (m : Note
 
   -- ---- The line is `$$$$`
 
-  module _ (x : Taken) (t′ : List ℕ) (ta′ : List ℤ) (ex : x ≡ takenBy m n (wentOf r t (part s at e))) (kept : Kept r t (part s at e) t′)
-      (ea : ta′ ≡ atomsBy m (wentOf r t (part s at e)) ta) (q : x ≡ Taken.Done) where
+  module _ (x : Taken) (t′ : List ℕ) (ta′ : List ℤ) (k : Took r m n t ta (part s at e) x t′ ta′) (q : x ≡ Taken.Done) where
     record Over : Type 0 where
       y : Raw
       turn : turnOf (kindOf sd) limit (g .p) (part s at e) ≡ got (J.done y)
@@ -297,7 +312,7 @@ module _ (sd : Bool) (s : Bytes) (ta₀ tb₀ : List ℤ) (r : Reader) (m : Note
       same : ta′ ≡ ta
 
     finished-over : Over
-    finished-over = go (wentOf r t (part s at e)) refl (sym q ∙ ex) ea goes
+    finished-over = go (wentOf r t (part s at e)) refl (sym q ∙ k .answer) (k .rows) goes
       where
         go : (w : Got Went) → wentOf r t (part s at e) ≡ w → Taken.Done ≡ takenBy m n w → ta′ ≡ atomsBy m w ta →
             Goes (kindOf sd) s i n r m (tableAt r (r .place) t (part s at e)) keys ta tb w (turnOf (kindOf sd) limit (g .p) (part s at e)) → Over
@@ -310,7 +325,7 @@ module _ (sd : Bool) (s : Bytes) (ta₀ tb₀ : List ℤ) (r : Reader) (m : Note
         go (got (W.value r₂)) ew h ea o = absurd (let z : _≡_ {A = ℕ} 0 1 = cc in omega arith)
         go (got (W.blank r₂)) ew h ea o = absurd (let z : _≡_ {A = ℕ} 0 1 = cc in omega arith)
         go (got W.done) ew h ea o =
-            record { y = o .0; turn = o .1; closed = subst (λ (u : List ℕ). Closed s r m u ta tb (o .0)) (sym (kept .kept W.done ew)) (o .2); same = ea }
+            record { y = o .0; turn = o .1; closed = subst (λ (u : List ℕ). Closed s r m u ta tb (o .0)) (sym (k .kept .kept W.done ew)) (o .2); same = ea }
         go (bad c₂ column₂) ew h ea o = absurd (let z : _≡_ {A = ℕ} 0 1 = cc in omega arith)
 
     over-is : outcomeOf (kindOf sd) s ≡ whole (finished-over .y) i
@@ -342,19 +357,19 @@ module _ (sd : Bool) (s : Bytes) (ta₀ tb₀ : List ℤ) (r : Reader) (m : Note
         (record {
           atoms = g .atoms-beside;
           bonds = g .bonds-beside;
+          size = k .size;
           held = record { atom-rows = o .closed .atom-rows; bond-rows = o .closed .bond-rows; listed = o .closed .listed };
         })
 
   -- ---- The line is a bond's
 
-  module _ (x : Taken) (r′ : Reader) (b : Bond) (t′ : List ℕ) (ta′ : List ℤ) (ex : x ≡ takenBy m n (wentOf r t (part s at e))) (kept : Kept r t (part s at e) t′)
-      (ea : ta′ ≡ atomsBy m (wentOf r t (part s at e)) ta) (q : x ≡ Taken.Bond r′ b) where
+  module _ (x : Taken) (r′ : Reader) (b : Bond) (t′ : List ℕ) (ta′ : List ℤ) (k : Took r m n t ta (part s at e) x t′ ta′) (q : x ≡ Taken.Bond r′ b) where
     record Pended : Type 0 where
       pending : Pending (kindOf sd) s i keys tb r′ m t′ ta (bondIs b) (turnOf (kindOf sd) limit (g .p) (part s at e))
       same : ta′ ≡ ta
 
     pended : Pended
-    pended = go (wentOf r t (part s at e)) refl (sym q ∙ ex) ea goes
+    pended = go (wentOf r t (part s at e)) refl (sym q ∙ k .answer) (k .rows) goes
       where
         go : (w : Got Went) → wentOf r t (part s at e) ≡ w → Taken.Bond r′ b ≡ takenBy m n w → ta′ ≡ atomsBy m w ta →
             Goes (kindOf sd) s i n r m (tableAt r (r .place) t (part s at e)) keys ta tb w (turnOf (kindOf sd) limit (g .p) (part s at e)) → Pended
@@ -365,7 +380,7 @@ module _ (sd : Bool) (s : Bytes) (ta₀ tb₀ : List ℤ) (r : Reader) (m : Note
             let er : r₂ ≡ r′ = cc in
             let eb : bondBack b₂ ≡ b = cc in
             let eb′ : b₂ ≡ bondIs b = ap bondIs eb in
-            let et : tableAt r (r .place) t (part s at e) ≡ t′ = sym (kept .kept (W.bond r₂ b₂) ew) in
+            let et : tableAt r (r .place) t (part s at e) ≡ t′ = sym (k .kept .kept (W.bond r₂ b₂) ew) in
             record {
               pending = rw (sym er, sym eb′, sym et) o;
               same = ea;
@@ -387,6 +402,7 @@ module _ (sd : Bool) (s : Bytes) (ta₀ tb₀ : List ℤ) (r : Reader) (m : Note
           few = omega (arith, o .count, o .few);
           fits = o .fits;
           key-room = g .key-room;
+          listed-size = k .size;
           key-is =
               ap (λ (j : ℕ). elem (keyOf (bondIs b)) (take j keys)) (o .count)
               ∙ ap (elem (keyOf (bondIs b))) (o .bond-keys)
@@ -397,8 +413,71 @@ module _ (sd : Bool) (s : Bytes) (ta₀ tb₀ : List ℤ) (r : Reader) (m : Note
           free = λ h ta₁ tb₁ ba bb.
               let f = o .free h in
               onto ta₁ tb₁ r′ (bondMore m) t′ (set keys (m .bonds) (keyOf (bondIs b))) ta (sets tb (6 * (m .bonds)) (bondNumbers (bondIs b))) (f .0) (f .1) (f .2)
-              (length-set keys (m .bonds) (keyOf (bondIs b)) ∙ g .key-room) ba bb;
+              (length-set keys (m .bonds) (keyOf (bondIs b)) ∙ g .key-room) (k .size) ba bb;
         })
 
     pub bond-beside : Beside 4080 ta₀ ta′
     bond-beside = subst (Beside 4080 ta₀) (sym (pended .same)) (g .atoms-beside)
+
+-- ---- The facts as the code has them
+
+pub rest-is : (s : Bytes) (at : ℕ) (x : LineAt) → x ≡ lineAt s at → x ≡ LineAt.Unfinished → lineAt s at ≡ LineAt.Unfinished
+rest-is s at x h q = sym h ∙ q
+
+module _ (s : Bytes) (at e n : ℕ) (o : LineAt) (found : o ≡ lineAt s at) (is : o ≡ LineAt.Line e n) where
+  pub part-start : at ≤ e
+  part-start = line-within s at e n (sym found ∙ is) .0
+
+  pub part-end : e ≤ length s
+  part-end = let w = line-within s at e n (sym found ∙ is) in omega (arith, w .1, w .2)
+
+  pub walking-less : length s - n < length s - at
+  walking-less = let w = line-within s at e n (sym found ∙ is) in omega (arith, w .0, w .1, w .2)
+
+atoms-length : (m : Notes) (w : Got Went) (ta : List ℤ) → length (atomsBy m w ta) ≡ length ta
+atoms-length m (got (W.on r)) ta = refl
+atoms-length m (got (W.headed r)) ta = refl
+atoms-length m (got (W.atom r a)) ta = length-sets ta (16 * (m .atoms)) (rawRow a)
+atoms-length m (got (W.bond r b)) ta = refl
+atoms-length m (got (W.ended r)) ta = refl
+atoms-length m (got (W.title r name)) ta = refl
+atoms-length m (got (W.value r)) ta = refl
+atoms-length m (got (W.blank r)) ta = refl
+atoms-length m (got W.done) ta = refl
+atoms-length m (bad e column) ta = refl
+
+module _ (sd : Bool) (s : Bytes) (ta₀ tb₀ : List ℤ) (r : Reader) (m : Notes) (at i : ℕ) (t keys : List ℕ) (ta tb : List ℤ) (g : Walking sd s ta₀ tb₀ r m at i t keys ta tb) where
+  pub atoms-size : length ta ≡ length ta₀
+  atoms-size = g .atoms-beside .size
+
+  pub bonds-room : 1530 ≤ length tb
+  bonds-room = omega (arith, g .bonds-beside .room, g .bonds-beside .size)
+
+  pub bonds-size : length tb ≡ length tb₀
+  bonds-size = g .bonds-beside .size
+
+  pub took-size : (n : ℕ) (l : Line) (x : Taken) (t′ : List ℕ) (ta′ : List ℤ) → Took r m n t ta l x t′ ta′ → length ta′ ≡ length ta₀
+  took-size n l x t′ ta′ k = ap length (k .rows) ∙ atoms-length m (wentOf r t l) ta ∙ g .atoms-beside .size
+
+  pub fits-next : Fits w64 (i + 1)
+  fits-next = record { fits = omega (arith, g .lines, g .inside, g .bytes) }
+
+pub ruleset line-laws = (
+  rest-is,
+  part-start,
+  part-end,
+  walking-start,
+  walking-ready,
+  walking-next,
+  walking-less,
+  walking-refused,
+  refused-left,
+  walking-done,
+  done-left,
+  bond-beside,
+  atoms-size,
+  bonds-room,
+  bonds-size,
+  took-size,
+  fits-next,
+)
