@@ -1,6 +1,6 @@
 -- The code's turns, which keep the text and not the lines, beside the judge's: they find the canonical text of what the judge finds.
 use Prim.Native.Nat.{ℕ, suc}
-use mathlib.Core.Path.{_≡_, refl, sym, ap, ap₂, _∙_}
+use mathlib.Core.Path.{_≡_, refl, sym, ap, _∙_}
 use mathlib.Core.Bool.{Bool, true, false}
 use mathlib.Core.List.{List, [], _∷_, _++_, append-assoc}
 use lib.Dec.{leb}
@@ -10,12 +10,12 @@ use Rattle.text.specs.Find.{badColumn}
 use Rattle.text.specs.Cut.{cut}
 use Rattle.text.specs.Written.{text, text-append}
 use Rattle.text.specs.declared.Found.{Found}
-use Rattle.rules.specs.Record.{Headers, Item}
+use Rattle.rules.specs.Record.{Item}
 use Rattle.rules.specs.Write.{headerText}
 use Rattle.lines.specs.Got.{Got, got, bad, then, need}
 use Rattle.lines.specs.Field.{noneFound, within}
 use Rattle.lines.specs.Judge.{firstHeaderOf, itemOf, ItemOrEnd, title, close, valueOf, ValueOrBlank, value, blank}
-use Rattle.parts.specs.Part.{PartVerdict, good, refused, Run, at, stopped, run, finish, conclude, verdictFrom}
+use Rattle.parts.specs.Part.{PartVerdict, Run, at, stopped, run, conclude, verdictFrom}
 use Rattle.parts.specs.Part.{HeaderPlace, first, second, third, full, headerLine, headerTurn, headersEnd, headersVerdict}
 use Rattle.parts.specs.Part.{ItemPlace, items, values, afterItem, afterValue, itemTurn, itemsEnd, itemsVerdict}
 use Rattle.parts.specs.Written.{headersText, itemLines, itemsText, mapGood, judged, writtenHeaders, writtenItems}

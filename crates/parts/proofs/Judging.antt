@@ -1,26 +1,25 @@
 -- Laws of the loop over a part's lines: what is found from here on is what is found of the whole part, and the text grows by no more than the lines passed.
-use Prim.Native.Nat.{ℕ, suc, _+_, _-_, _*_, _≤_, _<_, _^_}
+use Prim.Native.Nat.{ℕ, _+_, _-_, _*_, _≤_, _<_, _^_}
 use native.Mathlib.Omega.{arith}
 use native.Mathlib.Numerals.{add-one}
 use mathlib.Core.Path.{_≡_, refl, sym, ap, ap₂, _∙_, subst}
-use mathlib.Core.List.{List, [], _∷_, _++_}
+use mathlib.Core.List.{[], _∷_, _++_}
 use lib.ListN.{length, take, drop, length-append, length-take, length-drop, drop-of-length-le, length-replicate}
 use mir.Syntax.{w64}
 use mir.Val.{Fits}
 use Rattle.text.specs.Text.{Bytes, Line, LF, bytes}
 use Rattle.text.specs.Columns.{Within, spaces}
 use Rattle.text.specs.Find.{lineAt}
-use Rattle.text.specs.Cut.{Cut, split, cut, line-within, line-cut, line-rest}
+use Rattle.text.specs.Cut.{split, cut, line-within, line-cut, line-rest}
 use Rattle.text.specs.declared.LineAt.{LineAt}
 use Rattle.rules.specs.Forms.{DataHeader}
-use Rattle.rules.specs.Write.{headerText}
 use Rattle.lines.specs.Got.{Got, got, bad, then}
 use Rattle.lines.specs.GotLaws.{got-inj, bad-got, then-got}
 use Rattle.lines.specs.Judge.{firstHeaderOf, itemOf, ItemOrEnd, title, close, valueOf, ValueOrBlank, value, blank}
 use Rattle.lines.specs.Agree.{within-got, header-agrees, title-agrees}
-use Rattle.parts.specs.Part.{PartVerdict, good, refused, finish, verdictFrom}
+use Rattle.parts.specs.Part.{PartVerdict, refused, finish}
 use Rattle.parts.specs.Written.{judged}
-use Rattle.parts.specs.Step.{ended, Taken, taken, itemTaken, valueTaken, lineAs, longest, turnAs, turned, Standing, standingTurn, standingEnd, endsAt, endsAs, writtenFrom}
+use Rattle.parts.specs.Step.{ended, Taken, taken, itemTaken, valueTaken, lineAs, longest, turnAs, turned, standingTurn, standingEnd, endsAt, endsAs, writtenFrom}
 use Rattle.parts.specs.Runs.{fromCut, from-start, from-next, from-stop, from-end}
 use Rattle.parts.specs.declared.Place.{Place}
 use Rattle.parts.specs.declared.Turn.{Turn}

@@ -1,14 +1,12 @@
 -- Laws of writing one line: bytes, lines and data headers laid into the room.
 use Prim.Native.Nat.{ℕ, _+_, _-_, _≤_, _<_}
 use native.Mathlib.Omega.{arith}
-use native.Mathlib.Numerals.{add-one}
 use mathlib.Core.Path.{_≡_, refl, sym, ap, _∙_, subst}
 use mathlib.Core.List.{[], _∷_, _++_, append-assoc}
-use lib.ListN.{length, getD, take, drop, set, length-append, length-set}
-use lib.Seq.{take-suc, take-all}
+use lib.ListN.{length, take, drop, set, length-append, length-set}
 use Rattle.text.specs.Text.{Bytes, Line, LF, bytes}
 use Rattle.rules.specs.Write.{headerText}
-use Rattle.lines.specs.Got.{Got, got, bad, then}
+use Rattle.lines.specs.Got.{Got, bad, then}
 use Rattle.lines.specs.Judge.{firstHeaderOf, itemOf, valueOf}
 use Rattle.items.specs.Answer.{headerGot, itemGot, itemIn, valueGot}
 use Rattle.items.specs.Within.{title-order, title-end}

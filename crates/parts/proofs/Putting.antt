@@ -6,9 +6,9 @@ use mathlib.Core.List.{List, [], _∷_, _++_, append-assoc, append-nil}
 use lib.ListN.{length, take, drop, length-append}
 use Rattle.text.specs.Text.{Bytes, Line}
 use Rattle.text.specs.Find.{lineAt}
-use Rattle.text.specs.Cut.{Cut, cut, line-within}
+use Rattle.text.specs.Cut.{cut, line-within}
 use Rattle.text.specs.declared.LineAt.{LineAt}
-use Rattle.lines.specs.Got.{Got, got, bad, then}
+use Rattle.lines.specs.Got.{Got, got, bad}
 use Rattle.lines.specs.GotLaws.{got-inj, then-got}
 use Rattle.lines.specs.Agree.{within-got}
 use Rattle.parts.specs.Part.{PartVerdict, good, refused, Run, run, conclude}

@@ -1,7 +1,7 @@
 -- Laws on one line of a part: what each of the code's answers says of its turn.
 use Prim.Native.Nat.{ℕ, suc, _+_, _-_, _≤_, _<_}
 use native.Mathlib.Omega.{arith}
-use mathlib.Core.Path.{_≡_, refl, sym, ap, _∙_}
+use mathlib.Core.Path.{_≡_, sym, ap, _∙_}
 use mathlib.Core.List.{[], _∷_, _++_}
 use lib.ListN.{length, take, drop, length-append, length-take, length-drop}
 use mir.Syntax.{w64}
@@ -11,7 +11,7 @@ use Rattle.text.specs.Text.{Bytes, Line, LF, bytes}
 use Rattle.text.specs.Find.{badColumn}
 use Rattle.text.specs.declared.Found.{Found}
 use Rattle.rules.specs.Write.{headerText}
-use Rattle.lines.specs.Got.{Got, got, bad, then, need}
+use Rattle.lines.specs.Got.{then, need}
 use Rattle.lines.specs.Field.{within}
 use Rattle.lines.specs.Judge.{firstHeaderOf, itemOf, valueOf}
 use Rattle.items.specs.Answer.{headerGot, itemGot, itemIn, valueGot}

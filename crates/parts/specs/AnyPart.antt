@@ -7,11 +7,11 @@ use mathlib.Core.Logic.{_↔_}
 use mathlib.Core.List.{List, [], _∷_, _++_, append-assoc, append-nil}
 use lib.ListN.{length}
 use Rattle.text.specs.Text.{Bytes, Line, Lines}
-use Rattle.text.specs.Cut.{Cut, cut, cut-is, lines-cut, lines-same}
+use Rattle.text.specs.Cut.{cut, cut-is, lines-cut, lines-same}
 use Rattle.rules.specs.Viable.{Viable, Dead, FirstDead}
 use Rattle.lines.specs.Got.{Got, got, bad}
 use Rattle.judge.specs.Marked.{Marked, marked-bad}
-use Rattle.parts.specs.Part.{PartVerdict, good, refused, Run, run, finish, conclude, verdictFrom}
+use Rattle.parts.specs.Part.{PartVerdict, good, refused, Run, run, conclude, verdictFrom}
 use Rattle.parts.specs.Runs.{at-place, at-stopped, run-next, run-stop, run-append, stop}
 
 pub good-refused : {A X : Type 0} {a : A} {e i c : ℕ} → _≡_ {A = PartVerdict A} (good a) (refused e i c) → X

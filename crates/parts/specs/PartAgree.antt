@@ -8,7 +8,7 @@ use Rattle.rules.specs.Record.{Headers, Item}
 use Rattle.rules.specs.Canon.{HeaderPart, ItemPart}
 use Rattle.parts.specs.Part.{good, refused, first, headerTurn, headersEnd, headersVerdict, items, itemTurn, itemsEnd, itemsVerdict}
 use Rattle.parts.specs.AnyPart.{PartRefusal, accepted, refusal}
-use Rattle.parts.specs.PartFrom.{FromHeaders, fitting-headers, FromItems, FromItemPlace, fitting-items}
+use Rattle.parts.specs.PartFrom.{FromHeaders, fitting-headers, FromItemPlace, fitting-items}
 
 -- ---- The two languages
 

@@ -1,7 +1,7 @@
 -- What may follow each place of the two parts by the rules, and that the judge's turns fit it.
-use Prim.Native.Nat.{ℕ, suc, _≤_}
+use Prim.Native.Nat.{ℕ, suc}
 use native.Mathlib.Omega.{arith}
-use mathlib.Core.Path.{_≡_, refl, sym, ap, ap₂, _∙_, subst}
+use mathlib.Core.Path.{_≡_, refl, sym, ap, _∙_, subst}
 use mathlib.Core.Bool.{Bool, true, false, cond, not}
 use mathlib.Core.List.{List, [], _∷_, _++_, append-assoc, append-nil}
 use lib.Dec.{leb}
@@ -22,7 +22,7 @@ use Rattle.lines.specs.Judge.{notHeader, valueOf, ValueOrBlank, value, blank}
 use Rattle.lines.specs.Agree.{within-got, within-is, header-agrees, title-agrees, value-agrees, blank-agrees}
 use Rattle.judge.specs.Marked.{Marked}
 use Rattle.judge.specs.Witness.{empty-header, blank-line}
-use Rattle.parts.specs.Part.{PartVerdict, good, refused}
+use Rattle.parts.specs.Part.{good}
 use Rattle.parts.specs.Part.{HeaderPlace, first, second, third, full, headerLine, headerTurn, headersEnd}
 use Rattle.parts.specs.Part.{ItemPlace, items, values, afterItem, afterValue, itemTurn, itemsEnd}
 use Rattle.parts.specs.AnyPart.{good-refused, good-inj, Ends, Fitting}

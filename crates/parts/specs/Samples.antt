@@ -1,5 +1,4 @@
 -- Parts as a writer may be handed them: their canonical text or their refusal, in one table, checked by one computation.
-use Prim.Native.Nat.{ℕ}
 use Prim.Native.String.{String}
 use mathlib.Core.Path.{_≡_, refl}
 use mathlib.Core.List.{List, [], _∷_, _++_, map}

@@ -1,6 +1,6 @@
 -- The turns of the code, which holds no lines: at each place the next one, and the canonical text of the line.
-use Prim.Native.Nat.{ℕ, suc}
-use mathlib.Core.List.{List, [], _∷_, _++_}
+use Prim.Native.Nat.{ℕ}
+use mathlib.Core.List.{[], _∷_, _++_}
 use lib.ListN.{length}
 use Rattle.text.specs.Text.{Bytes, Line, LF}
 use Rattle.rules.specs.Write.{headerText}

@@ -1,5 +1,4 @@
 -- The canonical text of the two parts, and what the code answers: its length, or the refusal.
-use Prim.Native.Nat.{ℕ}
 use mathlib.Core.List.{List, [], _∷_, _++_}
 use lib.ListN.{length}
 use Rattle.text.specs.Text.{Bytes, Line}

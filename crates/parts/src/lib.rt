@@ -248,6 +248,7 @@ fn put_title(line: &[u8], from: usize, to: usize, room: &mut [u8], at: usize) ->
     put_line(b">", room, b)
 }
 
+// The first header line keeps its bytes. For a line that is refused nothing is written, here and below.
 fn put_first(line: &[u8], room: &mut [u8], at: usize) -> Put
     requires { ⌜ at + length (textIn (lineAs Place.First (now line))) ≤ length (now room) ⌝ }
     ensures { λ r. ⌜ PutAs Place.First (lineAs Place.First (now (line .entry))) (now (room .entry)) (now (room .exit)) at r ⌝ }
@@ -264,6 +265,7 @@ fn put_first(line: &[u8], room: &mut [u8], at: usize) -> Put
     }
 }
 
+// A data header is made anew.
 fn put_item(line: &[u8], room: &mut [u8], at: usize) -> Put
     requires { ⌜ at + length (textIn (lineAs Place.Items (now line))) ≤ length (now room) ⌝ }
     ensures { λ r. ⌜ PutAs Place.Items (lineAs Place.Items (now (line .entry))) (now (room .entry)) (now (room .exit)) at r ⌝ }
@@ -284,6 +286,7 @@ fn put_item(line: &[u8], room: &mut [u8], at: usize) -> Put
     }
 }
 
+// A value line keeps its bytes, and the blank line after the values is written empty.
 fn put_value(line: &[u8], room: &mut [u8], at: usize) -> Put
     requires { ⌜ at + length (textIn (lineAs Place.Values (now line))) ≤ length (now room) ⌝ }
     ensures { λ r. ⌜ PutAs Place.Values (lineAs Place.Values (now (line .entry))) (now (room .entry)) (now (room .exit)) at r ⌝ }
