@@ -2,7 +2,7 @@
 use Prim.Native.Nat.{ℕ, suc, _+_, _-_, _*_, _≤_, _<_}
 use native.Mathlib.Numerals.{add-one}
 use native.Mathlib.Omega.{arith}
-use mathlib.Core.Path.{_≡_, _∙_}
+use mathlib.Core.Path.{_≡_, refl, sym, ap, _∙_}
 use mathlib.Core.List.{List}
 use mathlib.Core.Bool.{Bool, true, false, _&&_, _||_}
 use lib.Dec.{eqb}
@@ -12,12 +12,23 @@ use mir.Syntax.{w32}
 use mir.Val.{SFits, ofZ}
 use Rattle.lines.specs.Field.{sameInteger}
 use Rattle.writable.specs.Tables.{sameEnds, sameAt, against, walkFrom, firstRepeat}
+use Rattle.writable.specs.AgreeNumber.{same-refl, same-is}
 use Rattle.writable.specs.declared.Repeat.the-variants.{Pair, Nothing}
 use Rattle.writable.proofs.Steps.{bits-same, bits-apart, bits-test}
 use Rattle.writable.proofs.Loops.{row-get}
 
 abbrev end : List ℤ → ℕ → ℤ
 end t k = getD t k (pos 0)
+
+-- where the first ends are the same, the other direction asks for no more
+alike : (a b c d : ℤ) → a ≡ c → sameInteger b d ≡ (sameInteger b d || (sameInteger a d && sameInteger b c))
+alike a b c d e = go (sameInteger b d) (sameInteger a d) (sameInteger b c) refl refl refl
+  where
+    go : (s t u : Bool) → sameInteger b d ≡ s → sameInteger a d ≡ t → sameInteger b c ≡ u → s ≡ (s || (t && u))
+    go true t u p q r = refl
+    go false true true p q r = sym p ∙ ap (λ (z : ℤ). sameInteger z d) (same-is b c r ∙ sym e ∙ same-is a d q) ∙ same-refl d
+    go false true false p q r = refl
+    go false false u p q r = refl
 
 module _ (t : List ℤ) (i j : ℕ) (fa : SFits w32 (end t (6 * i))) (fb : SFits w32 (end t (6 * i + 1))) (fc : SFits w32 (end t (6 * j))) (fd : SFits w32 (end t (6 * j + 1))) where
   ends : sameAt t i j ≡ ((sameInteger (end t (6 * i)) (end t (6 * j)) && sameInteger (end t (6 * i + 1)) (end t (6 * j + 1))) || (sameInteger (end t (6 * i)) (end t (6 * j + 1)) && sameInteger (end t (6 * i + 1)) (end t (6 * j))))
@@ -27,16 +38,10 @@ module _ (t : List ℤ) (i j : ℕ) (fa : SFits w32 (end t (6 * i))) (fb : SFits
       let f : 6 * j + 0 ≡ 6 * j = omega arith in
       rw (row-get 6 t i 0 (omega arith), row-get 6 t i 1 (omega arith), row-get 6 t j 0 (omega arith), row-get 6 t j 1 (omega arith), e, f)
 
-  pub along-ends : ofZ w32 (end t (6 * i)) ≡ ofZ w32 (end t (6 * j)) → ofZ w32 (end t (6 * i + 1)) ≡ ofZ w32 (end t (6 * j + 1)) → true ≡ sameAt t i j
-  along-ends a b = rw (ends, bits-same _ _ fa fc a, bits-same _ _ fb fd b)
-
-  pub first-only : ofZ w32 (end t (6 * i)) ≡ ofZ w32 (end t (6 * j)) → (ofZ w32 (end t (6 * i + 1)) ≡ ofZ w32 (end t (6 * j + 1)) → ⊥) →
-      ofZ w32 (end t (6 * i)) ≡ ofZ w32 (end t (6 * j + 1)) → eqb (ofZ w32 (end t (6 * i + 1))) (ofZ w32 (end t (6 * j))) ≡ sameAt t i j
-  first-only a b c = rw (ends, bits-same _ _ fa fc a, bits-apart _ _ fb fd b, bits-same _ _ fa fd c, bits-test _ _ fb fc)
-
-  pub first-alone : ofZ w32 (end t (6 * i)) ≡ ofZ w32 (end t (6 * j)) → (ofZ w32 (end t (6 * i + 1)) ≡ ofZ w32 (end t (6 * j + 1)) → ⊥) →
-      (ofZ w32 (end t (6 * i)) ≡ ofZ w32 (end t (6 * j + 1)) → ⊥) → false ≡ sameAt t i j
-  first-alone a b c = rw (ends, bits-same _ _ fa fc a, bits-apart _ _ fb fd b, bits-apart _ _ fa fd c)
+  pub first-alike : ofZ w32 (end t (6 * i)) ≡ ofZ w32 (end t (6 * j)) → eqb (ofZ w32 (end t (6 * i + 1))) (ofZ w32 (end t (6 * j + 1))) ≡ sameAt t i j
+  first-alike a =
+      let e : sameInteger (end t (6 * i)) (end t (6 * j)) ≡ true = bits-same _ _ fa fc a in
+      rw (ends, e, bits-test _ _ fb fd) (alike (end t (6 * i)) (end t (6 * i + 1)) (end t (6 * j)) (end t (6 * j + 1)) (same-is _ _ e))
 
   pub other-way : (ofZ w32 (end t (6 * i)) ≡ ofZ w32 (end t (6 * j)) → ⊥) →
       ofZ w32 (end t (6 * i)) ≡ ofZ w32 (end t (6 * j + 1)) → eqb (ofZ w32 (end t (6 * i + 1))) (ofZ w32 (end t (6 * j))) ≡ sameAt t i j
@@ -46,7 +51,7 @@ module _ (t : List ℤ) (i j : ℕ) (fa : SFits w32 (end t (6 * i))) (fb : SFits
       (ofZ w32 (end t (6 * i)) ≡ ofZ w32 (end t (6 * j + 1)) → ⊥) → false ≡ sameAt t i j
   neither-way a c = rw (ends, bits-apart _ _ fa fc a, bits-apart _ _ fa fd c)
 
-pub ruleset two-bonds = (along-ends, first-only, first-alone, other-way, neither-way)
+pub ruleset two-bonds = (first-alike, other-way, neither-way)
 
 -- ---- The walk, and the search among earlier bonds
 

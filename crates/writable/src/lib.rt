@@ -129,12 +129,12 @@ fn atoms_hold(atoms: &[i32], n: u32) -> bool
     requires { ⌜ (16 * limit ≤ length (now atoms)) × (n ≤ limit) ⌝ }
     ensures { λ r. ⌜ r ≡ atomsHold n (rowsOf 16 n (now (atoms .entry))) ⌝ }
 {
-    let mut i = 0;
-    while i < n {
-        if !atom_at(atoms, i, n) {
+    let mut atom = 0;
+    while atom < n {
+        if !atom_at(atoms, atom, n) {
             return false;
         }
-        i += 1;
+        atom += 1;
     }
     true
 }
@@ -236,12 +236,12 @@ fn bonds_hold(bonds: &[i32], n: u32, m: u32) -> bool
     requires { ⌜ (6 * limit ≤ length (now bonds)) × ((n ≤ limit) × (m ≤ limit)) ⌝ }
     ensures { λ r. ⌜ r ≡ bondsHold n (rowsOf 6 m (now (bonds .entry))) ⌝ }
 {
-    let mut i = 0;
-    while i < m {
-        if !bond_at(bonds, i, n) {
+    let mut bond = 0;
+    while bond < m {
+        if !bond_at(bonds, bond, n) {
             return false;
         }
-        i += 1;
+        bond += 1;
     }
     true
 }
@@ -256,13 +256,7 @@ fn same_at(bonds: &[i32], i: usize, j: usize) -> bool
     let c = bonds[6 * j];
     let d = bonds[6 * j + 1];
     if a == c {
-        if b == d {
-            return true;
-        }
-        if a == d {
-            return b == c;
-        }
-        return false;
+        return b == d;
     }
     if a == d {
         return b == c;

@@ -10,10 +10,10 @@ use Rattle.writable.proofs.atoms_hold.Statement.{statement}
 use Rattle.writable.proofs.atoms_hold.Tie as tie
 
 abbrev Inv-loop : tie.InvT-loop
-Inv-loop atoms n i₀ i = Walking (λ (t : List ℤ). atomHolds n (atomRow t)) 16 atoms n i
+Inv-loop atoms n atom₀ atom = Walking (λ (t : List ℤ). atomHolds n (atomRow t)) 16 atoms n atom
 
 abbrev μ-loop : tie.MeasureT-loop
-μ-loop atoms n i₀ i = n - i
+μ-loop atoms n atom₀ atom = n - atom
 
 loop-holds : tie.Need-loop-holds Inv-loop μ-loop
 loop-holds c = search (needs, walking)
@@ -24,8 +24,8 @@ atom-at-requires c κs = search (needs, walking)
 returns : tie.Need-returns Inv-loop μ-loop
 returns c = search (needs, walking)
 
-add-i : tie.Need-add-i Inv-loop μ-loop
-add-i c = search (needs, walking)
+add-atom : tie.Need-add-atom Inv-loop μ-loop
+add-atom c = search (needs, walking)
 
 loop-less : tie.Need-loop-less Inv-loop μ-loop
 loop-less c = search (needs, walking)
@@ -45,7 +45,7 @@ atoms-hold-spec =
     loop-holds
     atom-at-requires
     returns
-    add-i
+    add-atom
     loop-less
     loop-again
     returns-2)

@@ -10,10 +10,10 @@ use Rattle.writable.proofs.bonds_hold.Statement.{statement}
 use Rattle.writable.proofs.bonds_hold.Tie as tie
 
 abbrev Inv-loop : tie.InvT-loop
-Inv-loop bonds n m i₀ i = Walking (λ (t : List ℤ). bondHolds n (bondRow t)) 6 bonds m i
+Inv-loop bonds n m bond₀ bond = Walking (λ (t : List ℤ). bondHolds n (bondRow t)) 6 bonds m bond
 
 abbrev μ-loop : tie.MeasureT-loop
-μ-loop bonds n m i₀ i = m - i
+μ-loop bonds n m bond₀ bond = m - bond
 
 loop-holds : tie.Need-loop-holds Inv-loop μ-loop
 loop-holds c = search (needs, walking)
@@ -24,8 +24,8 @@ bond-at-requires c κs = search (needs, walking)
 returns : tie.Need-returns Inv-loop μ-loop
 returns c = search (needs, walking)
 
-add-i : tie.Need-add-i Inv-loop μ-loop
-add-i c = search (needs, walking)
+add-bond : tie.Need-add-bond Inv-loop μ-loop
+add-bond c = search (needs, walking)
 
 loop-less : tie.Need-loop-less Inv-loop μ-loop
 loop-less c = search (needs, walking)
@@ -45,7 +45,7 @@ bonds-hold-spec =
     loop-holds
     bond-at-requires
     returns
-    add-i
+    add-bond
     loop-less
     loop-again
     returns-2)

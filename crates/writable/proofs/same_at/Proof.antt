@@ -55,12 +55,6 @@ returns-2 c = search (needs, two-bonds)
 returns-3 : tie.Need-returns-3
 returns-3 c = search (needs, two-bonds)
 
-returns-4 : tie.Need-returns-4
-returns-4 c = search (needs, two-bonds)
-
-returns-5 : tie.Need-returns-5
-returns-5 c = search (needs, two-bonds)
-
 pub same-at-spec : {M : Type 1} → statement M
 same-at-spec =
     tie.close
@@ -81,6 +75,4 @@ same-at-spec =
     shared-slice-copy-out-d
     returns
     returns-2
-    returns-3
-    returns-4
-    returns-5)
+    returns-3)
