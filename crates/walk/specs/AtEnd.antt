@@ -1,5 +1,5 @@
 -- The end of the lines: an SDfile's record is cut short there, a molfile may end after its `M  END`.
-use Prim.Native.Nat.{ℕ, suc, _-_, _≤_}
+use Prim.Native.Nat.{ℕ, suc, _-_}
 use native.Mathlib.Omega.{arith}
 use mathlib.Core.Path.{_≡_, refl, sym, ap, ap₂, _∙_, subst}
 use mathlib.Core.List.{List, [], _∷_}
@@ -12,10 +12,9 @@ use Rattle.text.specs.Text.{Bytes}
 use Rattle.text.specs.Find.{lineAt}
 use Rattle.text.specs.Cut.{Cut, line-rest}
 use Rattle.text.specs.declared.LineAt.{LineAt}
-use Rattle.rules.specs.Record.{Molecule}
 use Rattle.lines.specs.declared.Counts.{Counts}
 use Rattle.judge.specs.Place as J
-use Rattle.judge.specs.Place.{FileKind, molfile, sdfile}
+use Rattle.judge.specs.Place.{molfile}
 use Rattle.judge.specs.Place.{first, second, third, counts, atoms, bonds, properties, over, items, values}
 use Rattle.judge.specs.WalkText.{afterLines}
 use Rattle.reader.specs.declared.Reader.{Reader}
@@ -24,10 +23,10 @@ use Rattle.reader.specs.declared.Place.{Place}
 use Rattle.reader.specs.Parts.{finished, finishedAt}
 use Rattle.walk.specs.declared.Notes.{Notes}
 use Rattle.walk.specs.declared.Walked.{Walked}
-use Rattle.walk.specs.Outcome.{Outcome, refused, outcomeOf, endAt, recordFrom}
+use Rattle.walk.specs.Outcome.{Outcome, outcomeOf, endAt, recordFrom}
 use Rattle.walk.specs.Took.{countsBack}
 use Rattle.walk.specs.Stands.{isSd, kindOf, placeOf, Rows, Counted, Marks, atomsIn, bondsIn, moleculeLines}
-use Rattle.walk.specs.Walked.{walkedBy, walkOf, Beside, HeldBy, Left}
+use Rattle.walk.specs.Walked.{walkedBy, walkOf, HeldBy, Left}
 use Rattle.walk.specs.Walking.{Walking}
 
 -- before line i, at position `at`, by what the state says of an end there

@@ -1,10 +1,8 @@
 -- The check of a whole text: a molfile is one record, an SDfile is walked record by record, each from the tail where it starts.
 use Prim.Native.Nat.{ℕ, zero, suc, _+_, _-_, _*_, _≤_, _<_, _^_}
 use native.Mathlib.Omega.{arith}
-use mathlib.Core.Path.{_≡_, refl, sym, ap, ap₂, _∙_, subst}
+use mathlib.Core.Path.{_≡_, refl, sym, ap, _∙_, subst}
 use mathlib.Core.List.{List, [], _∷_, _++_}
-use mathlib.Core.Bool.{Bool, true, false, cond}
-use lib.Dec.{eqb}
 use lib.ListN.{length, take, drop, length-drop, length-append, drop-of-length-le}
 use lib.Seq.{drop-drop, take-all}
 use lib.IntN.{ℤ}
@@ -13,7 +11,6 @@ use mir.Val.{Fits}
 use Rattle.text.specs.Text.{Bytes, Line}
 use Rattle.text.specs.Cut.{cut}
 use Rattle.rules.specs.Record.{Raw, limit}
-use Rattle.rules.specs.Viable.{FirstDead}
 use Rattle.entries.specs.Listed.{places}
 use Rattle.lines.specs.Got.{Got, got, bad}
 use Rattle.lines.specs.declared.Counts.{Counts}
@@ -26,7 +23,7 @@ use Rattle.judge.specs.Promise.{accepted-mol}
 use Rattle.walk.specs.declared.Walked.{Walked}
 use Rattle.walk.specs.declared.Answer.{Answer}
 use Rattle.walk.specs.Outcome.{Outcome, whole, refused, ofOne, ofVerdict, outcomeOf, one-next, one-done, one-bad}
-use Rattle.walk.specs.Walked.{walkedBy, walkOf, Beside, Left}
+use Rattle.walk.specs.Walked.{walkedBy, walkOf, Left}
 use Rattle.walk.specs.Promise.{Said, accepted, numbersOf, saidBy, CheckedAs, verdict-checked}
 
 -- ---- What the check says

@@ -1,12 +1,11 @@
 -- The reader's step goes with the judge's turn: where the state stands for a place, the same lines are taken, and the state after them stands for the place after them.
 use Prim.Native.Nat.{ℕ, zero, suc, _+_, _-_, _*_, _≤_, _<_}
 use native.Mathlib.Omega.{arith}
-use native.Mathlib.Numerals.{add-one}
 use mathlib.Core.Path.{_≡_, refl, sym, ap, ap₂, _∙_, subst}
-use mathlib.Core.List.{List, [], _∷_, _++_, map}
-use mathlib.Core.Bool.{Bool, true, false, cond, not}
-use lib.Dec.{eqb, leb}
-use lib.ListN.{length, take, drop, set, replicate, length-append, length-set}
+use mathlib.Core.List.{List, [], _∷_, _++_}
+use mathlib.Core.Bool.{Bool, true, false, not}
+use lib.Dec.{leb}
+use lib.ListN.{length, take, set, replicate, length-append}
 use lib.Seq.{sets, take-suc-set}
 use lib.IntN.{ℤ}
 use borrow.Author.Tests.{ne-eqb}
@@ -14,13 +13,13 @@ use Rattle.text.specs.Text.{Bytes, Line}
 use Rattle.text.specs.Columns.{Within}
 use Rattle.text.specs.Find.{badColumn}
 use Rattle.text.specs.declared.Found.{Found}
-use Rattle.rules.specs.Forms.{Atom, Bond, BondLine, Property}
+use Rattle.rules.specs.Forms.{Atom, Bond, Property}
 use Rattle.rules.specs.Record.{Headers, Molecule, Item, Raw, listed, limit}
 use Rattle.rules.specs.Meaning.{bondNumbers}
 use Rattle.pairs.specs.Taken.{pairTaken}
 use Rattle.lines.specs.Got.{Got, got, bad, then, need}
 use Rattle.lines.specs.Field.{within, noneFound}
-use Rattle.lines.specs.Agree.{within-got, within-is}
+use Rattle.lines.specs.Agree.{within-got}
 use Rattle.lines.specs.AgreeLine.{counts-got, atom-got, bond-got}
 use Rattle.lines.specs.Judge.{firstHeaderOf, countsOf, atomOf, bondOf, propertyOf, itemOf, valueOf}
 use Rattle.lines.specs.Judge as L

@@ -1,22 +1,21 @@
 -- One record from the front of a text, by the judge: for an SDfile the first record, up to its `$$$$` line; for a molfile the whole text.
 use Prim.Native.Nat.{ℕ, suc, _+_, _-_}
 use native.Mathlib.Omega.{arith}
-use mathlib.Core.Path.{_≡_, refl, sym, ap, _∙_, subst}
-use mathlib.Core.List.{List, [], _∷_, _++_}
-use mathlib.Core.Bool.{Bool, true, false}
+use mathlib.Core.Path.{_≡_, refl, sym, ap, _∙_}
+use mathlib.Core.List.{List, [], _∷_}
 use lib.ListN.{length}
 use Rattle.text.specs.Text.{Bytes, Line}
 use Rattle.text.specs.Cut.{cut}
-use Rattle.rules.specs.Record.{Molecule, Raw, limit}
+use Rattle.rules.specs.Record.{Raw, limit}
 use Rattle.lines.specs.Got.{Got, got, bad}
 use Rattle.judge.specs.Place.{FileKind, molfile, sdfile, turnOf}
 use Rattle.judge.specs.Place.{Place, first, second, third, counts, atoms, bonds, properties, over, items, values, Turn, next, done}
-use Rattle.judge.specs.Verdict.{Run, at, stopped, run, Verdict, accepted, finish, conclude, verdict}
+use Rattle.judge.specs.Verdict.{Run, at, run, Verdict, accepted, finish, conclude, verdict}
 use Rattle.judge.specs.One.{One, oneFrom, oneRecord}
 use Rattle.judge.specs.From.{alone}
 use Rattle.judge.specs.Runs.{run-next, run-stop}
 use Rattle.judge.specs.Takes.{Takes, turn-takes}
-use Rattle.judge.specs.Sound.{Sound, SoundTurn, sound-takes}
+use Rattle.judge.specs.Sound.{Sound, sound-takes}
 
 pub data Outcome : Type 0 where
   whole : Raw → ℕ → Outcome  -- the record, and how many lines it takes

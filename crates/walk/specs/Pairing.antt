@@ -1,27 +1,25 @@
 -- The search for a bond's pair among the pairs before it, within the walk: a repeat ends the walk with 11, else the bond is stored and the walk goes on.
-use Prim.Native.Nat.{ℕ, suc, _+_, _-_, _*_, _≤_, _<_}
+use Prim.Native.Nat.{ℕ, _+_, _-_, _*_, _≤_, _<_}
 use native.Mathlib.Omega.{arith}
 use mathlib.Core.Path.{_≡_, refl, sym, ap, _∙_, subst}
 use mathlib.Core.List.{List}
-use mathlib.Core.Bool.{Bool, true, false}
-use lib.ListN.{length, getD, take, drop, set}
+use mathlib.Core.Bool.{Bool}
+use lib.ListN.{length, getD, take, set}
 use lib.Seq.{sets, length-sets}
 use lib.IntN.{ℤ}
 use Rattle.text.specs.Text.{Bytes}
 use Rattle.text.specs.Find.{lineAt}
 use Rattle.text.specs.declared.LineAt.{LineAt}
-use Rattle.rules.specs.Record.{limit}
 use Rattle.rules.specs.Meaning.{bondNumbers}
 use Rattle.lines.specs.Field.{elem}
 use Rattle.lines.specs.Answer.{bondIs}
 use Rattle.lines.specs.declared.Bond.{Bond}
-use Rattle.tables.specs.Row.{SmallBond}
 use Rattle.tables.specs.Held.{drop-sets}
 use Rattle.reader.specs.declared.Reader.{Reader}
 use Rattle.walk.specs.declared.Notes.{Notes}
 use Rattle.walk.specs.declared.Taken.{Taken}
 use Rattle.walk.specs.declared.Walked.{Walked}
-use Rattle.walk.specs.Keys.{pairKey, keyOf, Searching, searching-start, searching-next, searching-found, searching-end}
+use Rattle.walk.specs.Keys.{pairKey, Searching, searching-start, searching-next, searching-found, searching-end}
 use Rattle.walk.specs.Outcome.{refused, outcomeOf}
 use Rattle.walk.specs.Took.{bondMore, Took, Keeping}
 use Rattle.walk.specs.Stands.{kindOf}

@@ -3,14 +3,14 @@ use Prim.Native.Nat.{ℕ, zero, suc, _+_, _≤_}
 use native.Mathlib.Omega.{arith}
 use mathlib.Core.Path.{_≡_, refl, sym, ap, _∙_, subst}
 use mathlib.Core.Logic.{_↔_}
-use mathlib.Core.List.{List, [], _∷_, _++_, append-nil}
+use mathlib.Core.List.{List, [], _∷_}
 use lib.ListN.{length}
 use Rattle.text.specs.Text.{Bytes, Line, Lines}
 use Rattle.text.specs.Cut.{lines-same}
 use Rattle.rules.specs.Record.{Raw, GoodMolfile, GoodSDfile, limit}
 use Rattle.rules.specs.Viable.{Viable, FirstDead, first-dead}
 use Rattle.judge.specs.Place.{FileKind, molfile, sdfile, first}
-use Rattle.judge.specs.Verdict.{Run, stopped, run, Verdict, verdict}
+use Rattle.judge.specs.Verdict.{stopped, run, Verdict, verdict}
 use Rattle.judge.specs.Runs.{Stop, stop, run-append, run-stop}
 use Rattle.judge.specs.Refuse.{AFile, refuses}
 use Rattle.judge.specs.Marked.{refused-marked}

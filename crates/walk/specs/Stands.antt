@@ -1,12 +1,11 @@
 -- When the reader's state, the notes and the lent tables stand for a place of the judge.
-use Prim.Native.Nat.{ℕ, suc, _+_, _*_, _≤_}
+use Prim.Native.Nat.{ℕ, suc, _+_, _≤_}
 use mathlib.Core.Path.{_≡_}
-use mathlib.Core.List.{List, [], _∷_}
+use mathlib.Core.List.{List, []}
 use mathlib.Core.Bool.{Bool, true, false}
-use lib.ListN.{length, take, drop}
+use lib.ListN.{length, take}
 use lib.IntN.{ℤ}
 use Rattle.text.specs.Text.{Bytes}
-use Rattle.rules.specs.Forms as R
 use Rattle.rules.specs.Forms.{Atom, Bond, Property}
 use Rattle.rules.specs.Record.{Molecule, limit}
 use Rattle.lines.specs.Answer.{countsIs}

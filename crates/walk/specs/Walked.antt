@@ -5,7 +5,7 @@ use mathlib.Core.List.{List}
 use lib.ListN.{length, drop}
 use lib.IntN.{ℤ}
 use Rattle.text.specs.Text.{Bytes}
-use Rattle.rules.specs.Record.{Molecule, Raw}
+use Rattle.rules.specs.Record.{Molecule}
 use Rattle.entries.specs.Listed.{places}
 use Rattle.tables.specs.Row.{rawRows, bondRows, Holds}
 use Rattle.judge.specs.Place.{FileKind, molfile, sdfile}

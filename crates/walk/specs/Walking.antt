@@ -1,54 +1,49 @@
 -- What holds between two lines of the walk over one record, and how each line carries it on or ends the walk.
 use Prim.Native.Nat.{ℕ, zero, suc, _+_, _-_, _*_, _≤_, _<_, _^_}
 use native.Mathlib.Omega.{arith}
-use native.Mathlib.Numerals.{add-one}
 use mathlib.Core.Path.{_≡_, refl, sym, ap, ap₂, _∙_, subst}
-use mathlib.Core.List.{List, [], _∷_, _++_}
-use mathlib.Core.Bool.{Bool, true, false, cond}
-use lib.Dec.{ltb}
-use lib.ListN.{length, take, drop, set, length-drop, length-set, drop-of-length-le}
+use mathlib.Core.List.{List, _∷_}
+use mathlib.Core.Bool.{Bool, true, false}
+use lib.ListN.{length, take, drop, set, length-set}
 use lib.Seq.{sets, length-sets}
 use lib.IntN.{ℤ}
 use mir.Syntax.{w64}
 use mir.Val.{Fits}
-use borrow.Author.Tests.{lt-ltb, le-ltb}
 use Rattle.text.specs.Text.{Bytes, Line}
 use Rattle.text.specs.Find.{lineAt}
-use Rattle.text.specs.Cut.{Cut, cut, line-within, line-cut, line-rest}
+use Rattle.text.specs.Cut.{Cut, cut, line-within, line-cut}
 use Rattle.text.specs.declared.LineAt.{LineAt}
 use Rattle.rules.specs.Forms as R
-use Rattle.rules.specs.Record.{Molecule, Raw, limit}
+use Rattle.rules.specs.Record.{Raw, limit}
 use Rattle.rules.specs.Meaning.{bondNumbers}
 use Rattle.pairs.specs.Taken.{pairTaken}
 use Rattle.lines.specs.Got.{Got, got, bad}
 use Rattle.lines.specs.Field.{elem}
-use Rattle.lines.specs.Answer.{countsIs, bondIs}
+use Rattle.lines.specs.Answer.{bondIs}
 use Rattle.lines.specs.declared.Counts.{Counts}
 use Rattle.lines.specs.declared.Bond.{Bond}
 use Rattle.entries.specs.Listed.{places}
-use Rattle.tables.specs.Row.{rawRow, rawRows, bondRows, Holds, SmallAtom, SmallBond}
+use Rattle.tables.specs.Row.{rawRow, rawRows, bondRows, SmallAtom, SmallBond}
 use Rattle.tables.specs.Held.{drop-sets}
-use Rattle.judge.specs.Place.{FileKind, molfile, sdfile, turnOf}
+use Rattle.judge.specs.Place.{molfile, turnOf}
 use Rattle.judge.specs.Place as J
-use Rattle.judge.specs.Place.{first, second, third, counts, atoms, bonds, properties, over, items, values, Turn, next}
-use Rattle.judge.specs.From.{alone}
+use Rattle.judge.specs.Place.{first, second, third, counts, atoms, bonds, properties, over, items, values, next}
 use Rattle.judge.specs.Sound.{Sound, sound-takes}
 use Rattle.judge.specs.Takes.{turn-takes}
 use Rattle.judge.specs.WalkText.{afterLines, after-none, after-next, after-last}
 use Rattle.reader.specs.declared.Reader.{Reader}
-use Rattle.reader.specs.declared.Finish.{Finish}
 use Rattle.reader.specs.Went as W
-use Rattle.reader.specs.Went.{Went, wentOf, tableAt, Kept, Sane}
-use Rattle.reader.specs.Parts.{begun, finished}
+use Rattle.reader.specs.Went.{Went, wentOf, tableAt, Sane}
+use Rattle.reader.specs.Parts.{begun}
 use Rattle.walk.specs.declared.Notes.{Notes}
 use Rattle.walk.specs.declared.Taken.{Taken}
 use Rattle.walk.specs.declared.Walked.{Walked}
-use Rattle.walk.specs.Keys.{pairKey, keyOf, keysOf, AllSmall, Searching, searching-found, searching-end, taken-keys}
-use Rattle.walk.specs.Outcome.{Outcome, whole, refused, outcomeOf, endAt, recordFrom, from-next, from-done, from-bad, outcome-from, mol-open}
+use Rattle.walk.specs.Keys.{keyOf, AllSmall, taken-keys}
+use Rattle.walk.specs.Outcome.{whole, refused, outcomeOf, recordFrom, from-next, from-done, from-bad, outcome-from, mol-open}
 use Rattle.walk.specs.Took.{bondBack, countsBack, headedAt, endedAt, atomMore, bondMore, takenBy, atomsBy, Ready, Took}
-use Rattle.walk.specs.Stands.{isSd, kindOf, placeOf, Rows, Counted, Headed, Marks, Stands, moleculeLines}
+use Rattle.walk.specs.Stands.{isSd, kindOf, placeOf, Counted, Stands}
 use Rattle.walk.specs.Follow.{Onto, Stored, Pending, Closed, Goes, follow}
-use Rattle.walk.specs.Walked.{itemsEnd, walkedBy, walkOf, Beside, Held, HeldBy, Left}
+use Rattle.walk.specs.Walked.{itemsEnd, walkedBy, walkOf, Beside, HeldBy, Left}
 
 -- ---- Positions: one line more
 
