@@ -4,8 +4,8 @@ use Prim.Native.Nat.{ℕ}
 use mathlib.Core.Path.{_≡_, refl}
 use mathlib.Core.List.{List, [], _∷_, _++_, map}
 use lib.ListN.{length, replicate}
-use lib.IntN.{ℤ, pos, negsuc}
-use Rattle.text.specs.Text.{Bytes, LF, bytes}
+use lib.IntN.{pos, negsuc}
+use Rattle.text.specs.Text.{Bytes}
 use Rattle.text.specs.Columns.{columnsFor}
 use Rattle.text.specs.Find.{firstFrom, badColumn}
 use Rattle.text.specs.Cut.{ended, split, cut}
