@@ -3,3 +3,5 @@ pub mod Write
 pub mod Promise
 -- Laws for the proofs
 pub mod Measure
+-- Samples
+pub mod Samples

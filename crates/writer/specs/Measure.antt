@@ -3,7 +3,7 @@ use Prim.Native.Nat.{ℕ, zero, suc, _+_, _*_, _≤_, _<_}
 use native.Mathlib.Omega.{arith}
 use mathlib.Core.Path.{_≡_, refl, sym, ap, ap₂, _∙_}
 use mathlib.Core.Logic.{_↔_}
-use mathlib.Core.Bool.{Bool, true, false, cond, _&&_}
+use mathlib.Core.Bool.{Bool, true, false, cond}
 use mathlib.Core.List.{List, [], _∷_, _++_, append-assoc}
 use lib.Dec.{leb}
 use lib.ListN.{length, take, drop, set, length-append}
@@ -13,8 +13,7 @@ use borrow.Author.Tests.{leb-true, le-leb, lt-leb}
 use Rattle.text.specs.Text.{Bytes, LF}
 use Rattle.text.specs.Written.{text, text-append}
 use Rattle.rules.specs.Record.{Headers, Item, limit}
-use Rattle.rules.specs.Meaning.{Reading}
-use Rattle.rules.specs.Write.{headerText, closeText, itemsLines, moleculeLines, recordLines}
+use Rattle.rules.specs.Write.{closeText, itemsLines, moleculeLines, recordLines}
 use Rattle.rules.specs.Canon.{canon, Writable}
 use Rattle.put.specs.Laid.{Laid, laid-sets, laid-join}
 use Rattle.put.specs.Rows as P

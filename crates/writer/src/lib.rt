@@ -1,11 +1,8 @@
 // The canonical text of a record, written into lent room.
 use parts::PartJudged;
 ghost use mathlib.Core.Path.{_≡_};
-ghost use mathlib.Core.List.{[], _∷_, _++_};
 ghost use Prim.Native.Nat.{_+_, _*_, _≤_};
 ghost use lib.ListN.{length};
-ghost use Rattle.text.specs.Text.{LF};
-ghost use Rattle.rules.specs.Write.{closeText};
 ghost use Rattle.rules.specs.Record.{limit};
 ghost use Rattle.put.specs.Laid.{Laid};
 ghost use Rattle.put.specs.Body.{bodySize};
