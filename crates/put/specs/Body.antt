@@ -10,7 +10,7 @@ use Rattle.rules.specs.Record.{Headers, Molecule, Item}
 use Rattle.rules.specs.Meaning.{Reading}
 use Rattle.rules.specs.Write.{countsText, atomText, bondText, propertyText, endText, moleculeLines}
 use Rattle.rules.specs.Canon.{canon}
-use Rattle.put.specs.Rows.{rowsOf}
+use Rattle.rules.specs.Rows.{rowsOf}
 use Rattle.put.specs.Properties.{propertiesText}
 
 unfoldable pub bodyLines : Molecule → List Line

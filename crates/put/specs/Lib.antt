@@ -1,6 +1,5 @@
 -- What the contracts cite
 pub mod Laid
-pub mod Rows
 pub mod Lines
 pub mod Properties
 pub mod Body

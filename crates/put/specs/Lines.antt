@@ -9,7 +9,7 @@ use Rattle.coordinates.specs.Write.{coordinateText}
 use Rattle.symbols.specs.Write.{symbolText}
 use Rattle.rules.specs.Write.{atomText, bondText}
 use Rattle.rules.specs.Canon.{atomRow, atomOf, bondRow, bondOf, chargeCode, Rows, WritableAtom}
-use Rattle.put.specs.Rows.{rowsOf}
+use Rattle.rules.specs.Rows.{rowsOf}
 
 abbrev pub atomLine : List ℤ → Line
 atomLine t = atomText (atomOf (atomRow t))

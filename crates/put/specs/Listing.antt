@@ -21,7 +21,7 @@ use Rattle.rules.specs.Forms.{CHG, RAD, ISO, tag, Entry}
 use Rattle.rules.specs.Write.{joined, entryFields, propertyText}
 use Rattle.rules.specs.Canon.{atomRow, numberOf, isZero, entriesFrom, eights, linesOf}
 use Rattle.put.specs.Laid.{Laid, Field, field-join, Owes, owes-start, owes-next, owes-end}
-use Rattle.put.specs.Rows.{rowsOf, rowAt, rows-length, rows-next}
+use Rattle.rules.specs.Rows.{rowsOf, rowAt, rows-length, rows-next}
 use Rattle.put.specs.Signs.{zero-is, zero-not}
 use Rattle.put.specs.Properties.{kindOf, numberAt, entryAt, entriesAt, entriesText, linesText, Next, Eight, Entered}
 

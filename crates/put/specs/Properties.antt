@@ -12,7 +12,7 @@ use Rattle.rules.specs.Forms.{Kind, CHG, RAD, ISO, Entry}
 use Rattle.rules.specs.Write.{joined, entryFields, propertyText}
 use Rattle.rules.specs.Canon.{entriesFrom, linesOf}
 use Rattle.put.specs.Laid.{Field}
-use Rattle.put.specs.Rows.{rowsOf}
+use Rattle.rules.specs.Rows.{rowsOf}
 
 -- 0 charges, 1 radicals, 2 isotopes
 abbrev pub kindOf : ℕ → Kind

@@ -15,7 +15,7 @@ use Rattle.rules.specs.Record.{Headers, Item}
 use Rattle.rules.specs.Write.{moleculeLines, countsText, propertyText, endText}
 use Rattle.rules.specs.Canon.{atomRow, numberOf, isZero, entriesFrom, eights, propertiesOf, canon, Writable}
 use Rattle.put.specs.Laid.{Laid, Field, laid-join}
-use Rattle.put.specs.Rows.{rowsOf, rows-length}
+use Rattle.rules.specs.Rows.{rowsOf, rows-length}
 use Rattle.put.specs.Lines.{atomLine, bondLine, WritableAtoms}
 use Rattle.put.specs.Properties.{kindOf, entriesAt, linesText, propertiesText, Eight}
 use Rattle.put.specs.Walks.{atom-long, bond-long, lines-length}

@@ -16,7 +16,7 @@ use Rattle.rules.specs.Write.{joined, atomText, bondText}
 use Rattle.rules.specs.Canon.{atomRow, atomOf, bondOf, FromTo, WritableAtom}
 use Rattle.rules.specs.Canon as R
 use Rattle.put.specs.Laid.{Laid, Field, Owes, owes-start, owes-next, owes-end}
-use Rattle.put.specs.Rows.{rowsOf, rowAt, rows-length, rows-at, rows-next}
+use Rattle.rules.specs.Rows.{rowsOf, rowAt, rows-length, rows-at, rows-next}
 use Rattle.put.specs.Lines.{atomLine, bondLine, WritableAtoms}
 
 -- ---- Every line is as long as the others, its LF included

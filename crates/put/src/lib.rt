@@ -14,7 +14,7 @@ ghost use Rattle.rules.specs.Write.{countsText, propertyText};
 ghost use Rattle.rules.specs.Forms.{tag};
 ghost use Rattle.rules.specs.Canon.{codeOfCharge, chargeCode, isZero};
 ghost use Rattle.put.specs.Laid.{Laid, Field};
-ghost use Rattle.put.specs.Rows.{rowsOf};
+ghost use Rattle.rules.specs.Rows.{rowsOf};
 ghost use Rattle.put.specs.Lines.{atomLine, bondLine, WritableAtoms, columnsFrom, codeText, positionText, elementText};
 ghost use Rattle.put.specs.Properties.{kindOf, numberAt, entryAt, entriesAt, entriesText, propertiesText, Next, Eight, Entered};
 ghost use Rattle.put.specs.Body.{bodyText, restText, restSize, bodySize};

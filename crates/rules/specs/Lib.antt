@@ -19,5 +19,7 @@ pub mod CanonBack
 pub mod CanonGood
 pub mod Rewritten
 pub mod Handed
+-- flat tables as their rows
+pub mod Rows
 -- the samples hold
 pub mod SamplesHold

@@ -12,7 +12,7 @@ use mir.Syntax.{w32}
 use mir.Val.{SFits, ofZ}
 use borrow.Author.Tests.{not-true, not-false}
 use Rattle.rules.specs.Canon.{isZero}
-use Rattle.writable.specs.Rows.{rowAt, rowsOf, rows-length, rows-next}
+use Rattle.rules.specs.Rows.{rowAt, rowsOf, rows-length, rows-next}
 use Rattle.writable.specs.Tables.{allRows}
 use Rattle.writable.proofs.Steps.{bits-test}
 

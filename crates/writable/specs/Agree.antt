@@ -11,7 +11,7 @@ use Rattle.rules.specs.Forms.{ISO}
 use Rattle.rules.specs.Record.{limit, NoPairTwice}
 use Rattle.rules.specs.Meaning.{Reading}
 use Rattle.rules.specs.Canon.{atomRow, bondRow, bondOf, canon, entriesFrom, WritableAtom, WritableBond, Rows, Writable}
-use Rattle.writable.specs.Rows.{rowsOf, rows-length}
+use Rattle.rules.specs.Rows.{rowsOf, rows-length}
 use Rattle.writable.specs.Tables.{atomsHold, bondsHold, massesHold, firstRepeat, isNothing, countsHold, tablesHold, writableTables}
 use Rattle.writable.specs.AgreeNumber.{left-true, right-true, and-agrees, up-agrees}
 use Rattle.writable.specs.AgreeRow.{atom-agrees, bond-agrees, rows-agree, masses-agree}

@@ -14,7 +14,7 @@ use Rattle.rules.specs.Canon.{bondRow, bondOf, WritableBond, Rows}
 use Rattle.pairs.specs.Taken.{samePair, pairTaken}
 use Rattle.pairs.specs.Agree.{true-false, taken-no}
 use Rattle.pairs.specs.Append.{pair-once}
-use Rattle.writable.specs.Rows.{rowAt, rowsOf, rows-length, rows-at}
+use Rattle.rules.specs.Rows.{rowAt, rowsOf, rows-length, rows-at}
 use Rattle.writable.specs.Tables.{sameEnds, sameAt, against, walkFrom, firstRepeat, isNothing}
 use Rattle.writable.specs.AgreeNumber.{same-size}
 use Rattle.writable.specs.declared.Repeat.{Repeat}

@@ -1,4 +1,3 @@
-pub mod Rows
 pub mod Tables
 pub mod AgreeNumber
 pub mod AgreeRow

@@ -11,7 +11,7 @@ use Rattle.rules.specs.Record.{limit}
 use Rattle.rules.specs.Canon.{AtomRow, atomRow, BondRow, bondRow, isZero}
 use Rattle.lines.specs.Field.{sameInteger, elemSigned}
 use Rattle.symbols.specs.Symbol.{names}
-use Rattle.writable.specs.Rows.{rowAt, rowsOf}
+use Rattle.rules.specs.Rows.{rowAt, rowsOf}
 use Rattle.writable.specs.declared.Repeat.{Repeat}
 use Rattle.writable.specs.declared.Repeat.the-variants.{Pair, Nothing}
 

@@ -16,7 +16,6 @@ use Rattle.rules.specs.Record.{Headers, Item, limit}
 use Rattle.rules.specs.Write.{closeText, itemsLines, moleculeLines, recordLines}
 use Rattle.rules.specs.Canon.{canon, Writable}
 use Rattle.put.specs.Laid.{Laid, laid-sets, laid-join}
-use Rattle.put.specs.Rows as P
 use Rattle.put.specs.Lines.{WritableAtoms}
 use Rattle.put.specs.Body.{bodyLines, molecule-lines, bodyText, body-any, bodySize}
 use Rattle.put.specs.Sizes.{body-length}
@@ -24,7 +23,6 @@ use Rattle.parts.specs.Part.{PartVerdict, good, refused, headersVerdict, itemsV
 use Rattle.parts.specs.Written.{headersText, itemLines, itemsText, mapGood, judged, textOf, writtenHeaders, writtenItems}
 use Rattle.parts.specs.declared.PartJudged.{PartJudged}
 use Rattle.parts.specs.Put.{Room}
-use Rattle.writable.specs.Rows as W
 use Rattle.writable.specs.Tables.{writableTables}
 use Rattle.writable.specs.Agree.{writable-agrees}
 use Rattle.writable.specs.AgreeNumber.{and-agrees, up-agrees}
@@ -96,15 +94,10 @@ roomy-agrees g =
     let e = and-agrees (up-agrees (16 * limit) (length (g .atoms))) (up-agrees (6 * limit) (length (g .bonds))) in
     ((λ h. record { atoms = e .0 h .0; bonds = e .0 h .1 }), (λ r. e .1 (r .atoms, r .bonds)))
 
-rows-same : (width n : ℕ) (t : List ℤ) → P.rowsOf width n t ≡ W.rowsOf width n t
-unfolding P.rowsOf W.rowsOf
-rows-same width zero t = refl
-rows-same width (suc n) t = ap (λ (ts : List (List ℤ)). take width t ∷ ts) (rows-same width n (drop width t))
-
 -- header lines and items have no part in it
 pub tables-agree : (g : Given) (h : Headers) (is : List Item) → Roomy g →
     (writableTables (g .n) (g .m) (g .chiral) (g .atoms) (g .bonds) ≡ true) ↔ Writable limit (handed g h is)
-tables-agree g h is r = writable-agrees (handed g h is) (g .atoms) (g .bonds) (rows-same 16 (g .n) (g .atoms)) (rows-same 6 (g .m) (g .bonds)) (r .atoms) (r .bonds)
+tables-agree g h is r = writable-agrees (handed g h is) (g .atoms) (g .bonds) refl refl (r .atoms) (r .bonds)
 
 -- all that the parts need to be laid
 pub record Ready (g : Given) (k : ℕ) : Type 0 where

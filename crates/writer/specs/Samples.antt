@@ -20,10 +20,9 @@ use Rattle.rules.specs.Samples.{atom, bond, drumLines}
 use Rattle.lines.specs.Got.{then, need}
 use Rattle.lines.specs.Field.{within, elemSigned}
 use Rattle.lines.specs.Judge.{begins, contains, firstHeaderOf, blankb, nameOn, opened, spaced, arrowed, headerOf, itemOf, valueOf}
-use Rattle.put.specs.Rows as P
+use Rattle.rules.specs.Rows.{rowsOf}
 use Rattle.parts.specs.Part.{run, verdictFrom, headerLine, headerTurn, headersVerdict, itemTurn, itemsVerdict}
 use Rattle.parts.specs.Samples.{lines}
-use Rattle.writable.specs.Rows as W
 use Rattle.writable.specs.Tables.{inRange, marks, placeHolds, numbersHold, codesHold, changesHold, atomHolds, kindHolds, bondHolds, allRows, massesHold}
 use Rattle.writable.specs.Tables.{sameEnds, sameAt, against, walkFrom, countsHold, tablesHold, writableTables}
 use Rattle.writer.specs.Write.{Given, roomy, recordFor, textFor, writeOf, roomAfter}
@@ -90,7 +89,7 @@ done s = record { given = s .given; room = s .room; answer = writeOf (s .given) 
 pub samples-written : map done samples ≡ samples
 unfolding firstFrom badColumn ended split cut text afterSpaces headerText then need within begins contains firstHeaderOf blankb nameOn opened spaced arrowed
     headerOf itemOf valueOf run verdictFrom headerLine headerTurn headersVerdict itemTurn itemsVerdict joined countsText atomText bondText entryFields propertyText
-    itemsLines moleculeLines recordLines textBy columnsFor pointText symbolText chargeCode atomOf bondOf entriesFrom eights propertiesOf canon P.rowsOf W.rowsOf
+    itemsLines moleculeLines recordLines textBy columnsFor pointText symbolText chargeCode atomOf bondOf entriesFrom eights propertiesOf canon rowsOf
     elemSigned inRange marks placeHolds numbersHold codesHold changesHold atomHolds kindHolds bondHolds allRows massesHold sameEnds sameAt against
     walkFrom countsHold tablesHold writableTables roomy recordFor textFor writeOf roomAfter
 samples-written = refl
