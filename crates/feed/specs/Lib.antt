@@ -2,7 +2,10 @@ pub mod Fed
 pub mod Feeding
 pub mod Stays
 pub mod Says
+pub mod TooLong
 pub mod Calls
 pub mod Asks
 pub mod Goes
 pub mod Promise
+pub mod Filled
+pub mod Samples

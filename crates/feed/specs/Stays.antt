@@ -4,7 +4,7 @@ use native.Mathlib.Omega.{arith}
 use mathlib.Core.Path.{_≡_, refl, sym, ap, _∙_, subst}
 use mathlib.Core.List.{List, [], _∷_, _++_, append-assoc}
 use mathlib.Core.Bool.{Bool, true, false, cond}
-use lib.ListN.{length, drop, length-drop, length-append, List·getD-append}
+use lib.ListN.{length, drop, length-drop, List·getD-append}
 use lib.Seq.{drop-append-le}
 use Rattle.text.specs.Text.{Bytes, Line, LF, Lines}
 use Rattle.text.specs.Find.{firstFrom, isLf, lineTo, lineAt}
