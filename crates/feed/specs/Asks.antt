@@ -12,7 +12,8 @@ use Rattle.feed.specs.declared.Counter.{Counter}
 use Rattle.feed.specs.declared.Fed.{Fed}
 use Rattle.feed.specs.declared.Piece.{Piece}
 use Rattle.feed.specs.Fed.{pieceOf, plusOf, counted, waitOf, shortOf, endOf, fedFrom, fedOf}
-use Rattle.feed.specs.Feeding.{piece-room, wait-used, wait-room, wait-none, short-ended, short-waits, end-ended, end-waits}
+use Rattle.feed.specs.Pieces.{piece-room}
+use Rattle.feed.specs.Feeding.{wait-used, wait-room, wait-none, short-ended, short-waits, end-ended, end-waits}
 use Rattle.feed.specs.Feeding.{fed-end, fed-whole, fed-refused, fed-short}
 use Rattle.feed.specs.Says.{Told, accepted, refused, too-long}
 use Rattle.feed.specs.Calls.{fedAs}

@@ -9,109 +9,14 @@ use lib.Seq.{drop-drop, take-all}
 use lib.IntN.{ℤ}
 use mir.Syntax.{w64}
 use mir.Val.{Fits}
-use borrow.Author.Tests.{ne-eqb, eq-eqb, lt-ltb, le-ltb}
-use Rattle.text.specs.Text.{Bytes, Line}
-use Rattle.text.specs.Cut.{cut}
-use Rattle.rules.specs.Record.{Raw, limit}
+use borrow.Author.Tests.{lt-ltb, le-ltb}
+use Rattle.text.specs.Text.{Bytes}
 use Rattle.entries.specs.Listed.{places}
-use Rattle.lines.specs.Got.{Got, got, bad}
-use Rattle.lines.specs.declared.Counts.{Counts}
-use Rattle.judge.specs.Place.{sdfile, Place, first, Turn, next, done, turnOf}
-use Rattle.judge.specs.One.{One, oneFrom, oneRecord}
-use Rattle.judge.specs.OneAgree.{one-refused}
-use Rattle.judge.specs.WalkText.{afterLines, text-room}
-use Rattle.walk.specs.declared.Walked.{Walked}
-use Rattle.walk.specs.Outcome.{Outcome, ofOne, outcomeOf, one-next, one-done, one-bad}
-use Rattle.walk.specs.Stands.{kindOf}
-use Rattle.walk.specs.Walked.{walkedBy, walkOf, Left}
 use Rattle.feed.specs.declared.Counter.{Counter}
 use Rattle.feed.specs.declared.Fed.{Fed}
 use Rattle.feed.specs.declared.Piece.{Piece}
-use Rattle.feed.specs.Fed.{pieceBy, pieceOf, refusedPiece, most, plusOf, counted, waitOf, shortOf, endOf, fedFrom, fedOf}
-
--- ---- Sums
-
-pub plus-most : (a b : ℕ) → 2 ^ 64 - 1 - a < b → 2 ^ 64 - 1 ≡ plusOf a b
-unfolding plusOf most
-plus-most a b h = rw (lt-ltb (2 ^ 64 - 1 - a) b h)
-
-pub plus-sum : (a b : ℕ) → b ≤ 2 ^ 64 - 1 - a → a + b ≡ plusOf a b
-unfolding plusOf most
-plus-sum a b h = rw (le-ltb (2 ^ 64 - 1 - a) b h)
-
-pub ruleset plus-laws = (plus-most, plus-sum)
-
--- ---- The record at the front
-
-pub short-piece : (e k column : ℕ) → e ≡ 19 → Piece.Short k ≡ refusedPiece e k column
-unfolding refusedPiece
-short-piece e k column h = rw (eq-eqb e 19 h)
-
-pub dead-piece : (e k column : ℕ) → (e ≡ 19 → ⊥) → Piece.Refused e k column ≡ refusedPiece e k column
-unfolding refusedPiece
-dead-piece e k column h = rw (ne-eqb e 19 h)
-
-abbrev pub pieceWalked : Walked → Piece
-pieceWalked (Walked.Whole c len k h a b) = Piece.Whole len k
-pieceWalked (Walked.Refused e k column) = refusedPiece e k column
-
-pub piece-walked : (t : Bytes) → pieceWalked (walkOf sdfile t) ≡ pieceOf t
-unfolding walkOf outcomeOf pieceOf
-piece-walked t = go (oneRecord limit (cut t .lines)) refl
-  where
-    go : (o : One) → oneRecord limit (cut t .lines) ≡ o → pieceWalked (walkedBy sdfile t (ofOne o)) ≡ pieceBy t o
-    go (One.whole x k rest) e = refl
-    go (One.refused n k c) e =
-        let m = one-refused limit (omega arith) (cut t .lines) n k c e .0 in
-        sym (dead-piece n k c (λ q. omega (arith, q, m .1)))
-    go (One.short k) e = sym (short-piece 19 k 1 refl)
-
-pub piece-whole : (t : Bytes) (x : Walked) (c : Counts) (len k h a b : ℕ) → x ≡ walkOf (kindOf true) t → x ≡ Walked.Whole c len k h a b → Piece.Whole len k ≡ pieceOf t
-piece-whole t x c len k h a b e q = ap pieceWalked (sym q ∙ e) ∙ piece-walked t
-
-pub piece-refused : (t : Bytes) (x : Walked) (r : Piece) (e k column : ℕ) → x ≡ walkOf (kindOf true) t → x ≡ Walked.Refused e k column → r ≡ refusedPiece e k column → r ≡ pieceOf t
-piece-refused t x r e k column h q z = z ∙ ap pieceWalked (sym q ∙ h) ∙ piece-walked t
-
-pub left-atoms : (ta₀ ta tb₀ tb : List ℤ) (t : List ℕ) (o : Outcome) → Left ta₀ ta tb₀ tb t o → length ta ≡ length ta₀
-left-atoms ta₀ ta tb₀ tb t o l = l .atoms .size
-
-pub left-bonds : (ta₀ ta tb₀ tb : List ℤ) (t : List ℕ) (o : Outcome) → Left ta₀ ta tb₀ tb t o → length tb ≡ length tb₀
-left-bonds ta₀ ta tb₀ tb t o l = l .bonds .size
-
-pub left-listed : (ta₀ ta tb₀ tb : List ℤ) (t : List ℕ) (o : Outcome) → Left ta₀ ta tb₀ tb t o → length t ≡ 3 * places
-left-listed ta₀ ta tb₀ tb t o l = l .size
-
-pub ruleset piece-laws = (short-piece, dead-piece, piece-whole, piece-refused, left-atoms, left-bonds, left-listed)
-
--- a whole record has a line, no more lines than bytes, and lies within its text
-one-later : (p : Place) (i : ℕ) (ls : List Line) (x : Raw) (k : ℕ) (rest : List Line) → oneFrom limit p i ls ≡ One.whole x k rest → i ≤ k
-unfolding oneFrom
-one-later p i [] x k rest h = absurd (let z : _≡_ {A = ℕ} 0 1 = cc in omega arith)
-one-later p i (l ∷ ls) x k rest h = go (λ q g. one-later q (suc i) ls x k rest g) (turnOf sdfile limit p l) refl
-  where
-    go : ((q : Place) → oneFrom limit q (suc i) ls ≡ One.whole x k rest → suc i ≤ k) → (t : Got Turn) → turnOf sdfile limit p l ≡ t → i ≤ k
-    go r (got (next q)) e = omega (arith, r q (sym (one-next p q i l ls e) ∙ h))
-    go r (got (done y)) e =
-        let w : One.whole y i ls ≡ One.whole x k rest = sym (one-done p y i l ls e) ∙ h in
-        let ik : i ≡ k = cc in
-        omega arith
-    go r (bad n c) e =
-        let w : One.refused n i c ≡ One.whole x k rest = sym (one-bad p i l ls n c e) ∙ h in
-        absurd (let z : _≡_ {A = ℕ} 0 1 = cc in omega arith)
-
-pub piece-room : (t : Bytes) (n k : ℕ) → pieceOf t ≡ Piece.Whole n k → (1 ≤ k) × (k ≤ n) × (n ≤ length t)
-unfolding pieceOf oneRecord
-piece-room t n k h = go (oneRecord limit (cut t .lines)) refl h
-  where
-    go : (o : One) → oneRecord limit (cut t .lines) ≡ o → pieceBy t o ≡ Piece.Whole n k → (1 ≤ k) × (k ≤ n) × (n ≤ length t)
-    go (One.whole x j rest) e q =
-        let jk : j ≡ k = cc in
-        let size : afterLines t 0 j ≡ n = cc in
-        let r = text-room limit [] 1 t x j rest e in
-        let l = one-later first 1 (cut t .lines) x j rest e in
-        (omega arith, omega (arith, r .0), omega (arith, r .1))
-    go (One.refused e k c) h q = absurd (let z : _≡_ {A = ℕ} 0 1 = cc in omega arith)
-    go (One.short k) h q = absurd (let z : _≡_ {A = ℕ} 0 1 = cc in omega arith)
+use Rattle.feed.specs.Fed.{pieceOf, plusOf, counted, waitOf, shortOf, endOf, fedFrom, fedOf}
+use Rattle.feed.specs.Pieces.{piece-room}
 
 -- ---- The end of a part
 

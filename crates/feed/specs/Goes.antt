@@ -9,16 +9,16 @@ use lib.ListN.{length, take, drop, length-drop, length-append}
 use lib.Seq.{take-all, take-append-add, take-append-seam, drop-append-le, drop-drop}
 use borrow.Author.Tests.{ltb-true, ltb-false}
 use Rattle.text.specs.Text.{Bytes}
-use Rattle.text.specs.Cut.{cut, split}
+use Rattle.text.specs.Cut.{cut}
 use Rattle.rules.specs.Record.{limit}
-use Rattle.judge.specs.One.{oneFrom, oneRecord}
 use Rattle.judge.specs.OneAgree.{one-refused, one-short}
 use Rattle.judge.specs.WalkText.{after-within}
 use Rattle.feed.specs.declared.Counter.{Counter}
 use Rattle.feed.specs.declared.Fed.{Fed}
 use Rattle.feed.specs.declared.Piece.{Piece}
 use Rattle.feed.specs.Fed.{pieceOf, plusOf, counted, waitOf, shortOf, endOf, fedFrom, fedOf}
-use Rattle.feed.specs.Feeding.{plus-sum, piece-room, wait-used, wait-room, wait-none, short-ended, short-waits, end-ended, end-waits}
+use Rattle.feed.specs.Pieces.{plus-sum, piece-none, piece-room}
+use Rattle.feed.specs.Feeding.{wait-used, wait-room, wait-none, short-ended, short-waits, end-ended, end-waits}
 use Rattle.feed.specs.Feeding.{fed-end, fed-whole, fed-refused, fed-short}
 use Rattle.feed.specs.Stays.{refused-one, short-one, whole-stays, refused-stays}
 use Rattle.feed.specs.Says.{Told, accepted, refused, too-long, saysFrom, says-end, says-whole, says-refused, says-short, says-long}
@@ -51,10 +51,6 @@ refused-lines t e k column h =
 
 short-lines : (t : Bytes) (k : ℕ) → pieceOf t ≡ Piece.Short k → k ≤ length t + 1
 short-lines t k h = omega (arith, one-short limit (omega arith) (cut t .lines) k (short-one t k h) .0, few-lines t)
-
-piece-none : pieceOf [] ≡ Piece.Short 1
-unfolding pieceOf oneRecord oneFrom cut split
-piece-none = refl
 
 abbrev pub says : ℕ → Counter → Bytes → Told
 says room c t = saysFrom room (c .records) (c .lines) 0 t

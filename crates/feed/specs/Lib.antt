@@ -1,4 +1,5 @@
 pub mod Fed
+pub mod Pieces
 pub mod Feeding
 pub mod Stays
 pub mod Says

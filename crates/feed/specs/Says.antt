@@ -17,7 +17,7 @@ use Rattle.walk.specs.Promise.{Said, saidBy}
 use Rattle.walk.specs.Checking.{saidOf}
 use Rattle.feed.specs.declared.Piece.{Piece}
 use Rattle.feed.specs.Fed.{pieceOf}
-use Rattle.feed.specs.Feeding.{piece-room}
+use Rattle.feed.specs.Pieces.{piece-room}
 use Rattle.feed.specs.Stays.{whole-one, refused-one, short-one, whole-stays, refused-stays}
 
 pub data Told : Type 0 where

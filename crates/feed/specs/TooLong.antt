@@ -19,7 +19,7 @@ use Rattle.judge.specs.Front.{record-front}
 use Rattle.judge.specs.WalkText.{afterLines, after-within, after-cut}
 use Rattle.feed.specs.declared.Piece.{Piece}
 use Rattle.feed.specs.Fed.{pieceOf}
-use Rattle.feed.specs.Feeding.{piece-room}
+use Rattle.feed.specs.Pieces.{piece-room}
 use Rattle.feed.specs.Stays.{whole-one, refused-one, short-one, one-piece, whole-stays}
 use Rattle.feed.specs.Says.{accepted, refused, too-long, saysFrom, counterSays, says-end, says-whole, says-refused, says-short, says-long, whole-there}
 

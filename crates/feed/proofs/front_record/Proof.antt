@@ -1,5 +1,5 @@
 -- `feed::front_record` meets its contract.
-use Rattle.feed.specs.Feeding.{piece-laws}
+use Rattle.feed.specs.Pieces.{piece-laws}
 use borrow.Author.Needs.{needs}
 use Rattle.feed.proofs.front_record.Statement.{statement}
 use Rattle.feed.proofs.front_record.Tie as tie

@@ -1,5 +1,5 @@
 -- `feed::plus` meets its contract.
-use Rattle.feed.specs.Feeding.{plus-laws}
+use Rattle.feed.specs.Pieces.{plus-laws}
 use borrow.Author.Needs.{needs}
 use Rattle.feed.proofs.plus.Statement.{statement}
 use Rattle.feed.proofs.plus.Tie as tie

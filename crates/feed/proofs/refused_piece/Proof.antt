@@ -1,6 +1,6 @@
 -- `feed::refused_piece` meets its contract.
 use borrow.Author.Needs.{needs}
-use Rattle.feed.specs.Feeding.{piece-laws}
+use Rattle.feed.specs.Pieces.{piece-laws}
 use Rattle.feed.proofs.refused_piece.Statement.{statement}
 use Rattle.feed.proofs.refused_piece.Tie as tie
 
