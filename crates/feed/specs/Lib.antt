@@ -1,0 +1,12 @@
+pub mod Fed
+pub mod Pieces
+pub mod Feeding
+pub mod Stays
+pub mod Says
+pub mod TooLong
+pub mod Calls
+pub mod Asks
+pub mod Goes
+pub mod Promise
+pub mod Filled
+pub mod Samples
