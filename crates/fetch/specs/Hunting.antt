@@ -148,7 +148,7 @@ many-values (Values.end {l = l} h) = rw (blank-line-is l h)
 many-values (Values.more {l = l} h p) = rw (value-is l h) (ap suc (many-values p))
 
 module _ (name : Bytes) where
-  by-title : (found : Bytes) (vs : List Line) (is : List Item) (j : ℕ) (b : Bool) → sameBytes found name ≡ b →
+  pub by-title : (found : Bytes) (vs : List Line) (is : List Item) (j : ℕ) (b : Bool) → sameBytes found name ≡ b →
       spotOf name j (record { name = found; values = vs } ∷ is) ≡ cond b (after (suc j) (length vs)) (spotOf name (suc j + suc (length vs)) is)
   unfolding spotOf
   by-title found vs is j b h = rw (sym h)
