@@ -1,8 +1,7 @@
 -- A fetch keeps its promise, which any two answers that keep it share; what follows the record does not matter.
-use Prim.Native.Nat.{ℕ, zero, suc, _+_, _-_, _≤_, _<_}
+use Prim.Native.Nat.{ℕ, suc, _+_, _-_, _<_}
 use native.Mathlib.Omega.{arith}
 use mathlib.Core.Path.{_≡_, refl, sym, ap, ap₂, _∙_, subst}
-use mathlib.Core.Logic.{_≢_, _↔_}
 use mathlib.Core.List.{List, [], _∷_, _++_}
 use mathlib.Core.Bool.{Bool, true, false}
 use lib.ListN.{length, take, drop, length-drop, length-append, take-append-drop}
@@ -22,7 +21,7 @@ use Rattle.judge.specs.OneAgree.{one-whole, one-refused, one-short}
 use Rattle.judge.specs.WalkText.{afterLines}
 use Rattle.walk.specs.Outcome.{whole, outcomeOf, ofOne}
 use Rattle.walk.specs.Stands.{moleculeLines}
-use Rattle.fetch.specs.Find.{fromOf, toOf, Said, item, refused, after, nowhere, spotOf, saidBy, foundBy, foundOf, partOf}
+use Rattle.fetch.specs.Find.{toOf, Said, item, refused, after, nowhere, spotOf, saidBy, foundBy, foundOf, partOf}
 use Rattle.fetch.specs.Position.{after-low, stretch-within, Past, past-none, past-more, past-join, past-values, past-molecule}
 use Rattle.fetch.specs.Hunting.{by-title, items-at}
 use Rattle.fetch.specs.Promise.{FirstItem, NoneNamed, ItemIn, Joined, Stretch, FoundAt, RefusedAt, Fetched, Promised, Handed}

@@ -1,9 +1,9 @@
 -- Where the item stands in the record's list of items; and what follows a record does not matter to a fetch from it.
 use Prim.Native.Nat.{ℕ, _-_}
 use native.Mathlib.Omega.{arith}
-use mathlib.Core.Path.{_≡_, refl, sym, ap, ap₂, _∙_, subst}
+use mathlib.Core.Path.{_≡_, refl, sym, ap, _∙_, subst}
 use mathlib.Core.List.{List, [], _∷_, _++_, append-assoc}
-use lib.ListN.{length, take, drop, length-drop, length-append}
+use lib.ListN.{take, drop, length-drop, length-append}
 use lib.Seq.{take-append-le, drop-append-le}
 use Rattle.text.specs.Text.{Bytes, Line, Lines}
 use Rattle.text.specs.Cut.{cut, cut-is, lines-same}
@@ -14,7 +14,7 @@ use Rattle.rules.specs.After.{values-after, parts-after, record-after}
 use Rattle.fetch.specs.Find.{Said, item, refused, foundOf}
 use Rattle.fetch.specs.Promise.{FirstItem, NoneNamed, ItemIn, Joined, Stretch, FoundAt, RefusedAt}
 use Rattle.fetch.specs.Joined.{lines-then}
-use Rattle.fetch.specs.Agree.{the-record, not-refused, is-cut, found-is, is-found, refused-is, is-refused}
+use Rattle.fetch.specs.Agree.{the-record, not-refused, found-is, is-found, refused-is, is-refused}
 
 -- ---- In the list of items
 

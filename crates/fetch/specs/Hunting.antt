@@ -1,5 +1,5 @@
 -- Laws of the two loops: over the value lines of an item, and over the items of a record.
-use Prim.Native.Nat.{ℕ, zero, suc, _+_, _-_, _≤_, _<_}
+use Prim.Native.Nat.{ℕ, suc, _+_, _-_, _≤_, _<_}
 use native.Mathlib.Omega.{arith}
 use mathlib.Core.Path.{_≡_, refl, sym, ap, _∙_, subst}
 use mathlib.Core.List.{List, [], _∷_}
@@ -12,8 +12,8 @@ use Rattle.text.specs.Cut.{Cut, cut, line-within, line-cut, line-rest}
 use Rattle.text.specs.Agree.{same-bytes, columns-whole}
 use Rattle.text.specs.declared.LineAt.{LineAt}
 use Rattle.rules.specs.Record.{Item, Raw, Values, Items, Record, limit}
-use Rattle.lines.specs.Got.{Got, got, bad}
-use Rattle.lines.specs.Judge.{ItemOrEnd, title, close, itemOf, ValueOrBlank, value, blank, valueOf}
+use Rattle.lines.specs.Got.{got}
+use Rattle.lines.specs.Judge.{title, close, itemOf, valueOf}
 use Rattle.lines.specs.AgreeItem.{title-is, close-line-is, value-is, blank-line-is}
 use Rattle.items.specs.Answer.{itemGot, valueGot}
 use Rattle.items.specs.Within.{title-order, title-end}
@@ -22,7 +22,7 @@ use Rattle.items.specs.declared.ValueRead.{ValueRead}
 use Rattle.judge.specs.Place.{sdfile}
 use Rattle.judge.specs.One.{One, oneRecord}
 use Rattle.judge.specs.OneAgree.{one-whole}
-use Rattle.judge.specs.WalkText.{afterLines, after-none, after-next, after-last, after-cut}
+use Rattle.judge.specs.WalkText.{afterLines, after-none, after-last, after-cut}
 use Rattle.walk.specs.Outcome.{Outcome, whole, outcomeOf, ofOne}
 use Rattle.walk.specs.Stands.{moleculeLines}
 use Rattle.walk.specs.Walked.{walkedBy, walkOf}
@@ -34,7 +34,7 @@ use Rattle.fetch.specs.declared.Found.{Found}
 use Rattle.fetch.specs.declared.Title.{Title}
 use Rattle.fetch.specs.declared.Values.{Values as Stretch}
 use Rattle.fetch.specs.Find.{lineEnd, fromOf, toOf, Said, item, refused, numbersOf, Spot, after, nowhere, spotOf, saidBy, foundBy, foundOf, partOf}
-use Rattle.fetch.specs.Find.{titledAs, titleBy, isValue, valuesAhead, valuesBy, valuesAt, ItemsStart}
+use Rattle.fetch.specs.Find.{titledAs, titleBy, isValue, valuesAhead, valuesAt, ItemsStart}
 use Rattle.fetch.specs.Position.{after-join, after-low, end-is, stretch-within, Past, past-values, past-molecule}
 
 -- ---- A name held against another

@@ -2,17 +2,16 @@
 use Prim.Native.Nat.{ℕ, zero, suc, _+_, _-_, _≤_, _<_}
 use native.Mathlib.Omega.{arith}
 use mathlib.Core.Path.{_≡_, refl, sym, ap, ap₂, _∙_, subst}
-use mathlib.Core.Logic.{_≢_}
 use mathlib.Core.List.{List, [], _∷_, _++_, append-assoc}
 use mathlib.Core.Bool.{Bool, true, false}
-use lib.ListN.{length, getD, take, drop, length-take, length-drop, length-append, take-append-drop}
+use lib.ListN.{length, getD, take, drop, length-drop, length-append}
 use lib.Seq.{split-at, drop-drop, take-append-add, take-add, length-take-le}
 use lib.Dec.{leb}
 use borrow.Author.Tests.{eqb-true, eqb-false, leb-true, leb-false}
 use Rattle.text.specs.Text.{Bytes, Line, LF, Each, Without, Ended, Lines}
 use Rattle.text.specs.Find.{firstFrom, isLf, lineTo, lineAt}
 use Rattle.text.specs.First.{each-as, first-within, first-passes, first-before}
-use Rattle.text.specs.Cut.{Cut, cut, ended, ended-is, cut-is, cut-line, lines-cut, lines-same, line-within, line-cut, line-rest}
+use Rattle.text.specs.Cut.{Cut, cut, ended-is, cut-is, cut-line, lines-same, line-within, line-cut, line-rest}
 use Rattle.text.specs.declared.Found.{Found}
 use Rattle.text.specs.declared.LineAt.{LineAt}
 use Rattle.judge.specs.WalkText.{afterLines, after-none, after-next}

@@ -5,3 +5,4 @@ pub mod Promise
 pub mod Joined
 pub mod Agree
 pub mod Beyond
+pub mod Samples
