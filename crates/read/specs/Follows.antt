@@ -6,11 +6,10 @@ use mathlib.Core.List.{List, [], _∷_, _++_}
 use lib.ListN.{length, take, drop}
 use lib.IntN.{ℤ}
 use Rattle.text.specs.Text.{Bytes, Line}
-use Rattle.text.specs.Cut.{Cut, cut, cut-is, split}
-use Rattle.rules.specs.Record.{Raw, limit, Record}
+use Rattle.text.specs.Cut.{Cut, cut, split}
+use Rattle.rules.specs.Record.{Raw, limit}
 use Rattle.lines.specs.Got.{Got, got, bad}
 use Rattle.judge.specs.Place.{sdfile, Place, first, Turn, next, done, turnOf}
-use Rattle.judge.specs.Front.{record-before}
 use Rattle.judge.specs.One.{One, oneFrom, oneRecord}
 use Rattle.judge.specs.WalkText.{afterLines}
 use Rattle.walk.specs.Outcome.{Outcome, refused, ofOne, outcomeOf, one-next, one-done, one-bad}
@@ -21,7 +20,7 @@ use Rattle.read.specs.Read.{answered, readAs, atomsAs, bondsAs, readOf, 
 use Rattle.read.specs.Reading.{enough}
 use Rattle.read.specs.Stretch.{Stretch, stretch-cut, stretch-front, after-order}
 use Rattle.read.specs.Promise.{Reply, accepted, Begins, Told}
-use Rattle.read.specs.Told.{itemLines, linesOf, replyOf, told-reply, begins-told, begins-outcome, record-few}
+use Rattle.read.specs.Told.{itemLines, linesOf, replyOf, told-reply, begins-told, begins-outcome, record-few, told-begins}
 use Rattle.read.specs.Promised.{begins-said, same-read}
 
 -- both texts are read alike, into any tables
@@ -77,16 +76,7 @@ module _ (s : Bytes) (x : Raw) (g : Begins sdfile s x) (u : Bytes) where
       }
 
   begins-still : Begins sdfile t x
-  begins-still =
-      let o = told-still .own in
-      let c = stretch-cut t (o .1) in
-      let more = cut (drop (replyOf sdfile s x .bytes) t) .lines in (
-        cut t .lines,
-        cut t .rest,
-        more,
-        cut-is t,
-        subst (λ (ls : List Line). Record limit ls x more) (sym (ap (λ (c : Cut). c .lines) c)) (record-before (o .2) more),
-      )
+  begins-still = told-begins t x (replyOf sdfile s x) told-still
 
   still : Alike s t
   still =

@@ -13,7 +13,7 @@ use Rattle.rules.specs.Canon.{ItemPart}
 use Rattle.rules.specs.Handed.{items-closed}
 use Rattle.judge.specs.Place.{FileKind, molfile, sdfile}
 use Rattle.judge.specs.Verdict.{Verdict, verdict}
-use Rattle.judge.specs.Front.{parts-front, record-front}
+use Rattle.judge.specs.Front.{parts-front, record-front, record-before}
 use Rattle.judge.specs.One.{One, oneRecord}
 use Rattle.judge.specs.OneAgree.{one-whole, one-refused, one-short}
 use Rattle.judge.specs.WalkText.{afterLines, after-cut}
@@ -22,7 +22,7 @@ use Rattle.walk.specs.Outcome.{whole, refused, ofOne, ofVerdict, outcomeOf}
 use Rattle.walk.specs.Stands.{moleculeLines}
 use Rattle.walk.specs.Promise as W
 use Rattle.walk.specs.Promise.{RefusedAt, saidBy, verdict-checked}
-use Rattle.read.specs.Stretch.{Stretch, stretch-none, stretch-join, stretch-after, stretch-at}
+use Rattle.read.specs.Stretch.{Stretch, stretch-none, stretch-join, stretch-cut, stretch-after, stretch-at}
 use Rattle.read.specs.Promise.{Reply, Begins, Own, Told, NoRecord, Refusal}
 
 -- ---- How many lines a record has
@@ -277,3 +277,10 @@ outcome-refused sdfile s e i column h = go (oneRecord limit (cut s .lines)) refl
     go (One.short j) w q =
         let f = one-short limit (omega arith) (cut s .lines) j w in
         told-as q (short-at j (f .0) (NoRecord.cut-short (cut-is s) (f .1) (f .2)))
+
+-- what is told of a record stands at the front of the text
+pub told-begins : (s : Bytes) (x : Raw) (w : Reply) → Told sdfile s x w → Begins sdfile s x
+told-begins s x w d =
+    let more = cut (drop (w .bytes) s) .lines in
+    let c = ap (λ (c : Cut). c .lines) (stretch-cut s (d .own .1)) in
+    (cut s .lines, cut s .rest, more, cut-is s, subst (λ (ls : List Line). Record limit ls x more) (sym c) (record-before (d .own .2) more))
