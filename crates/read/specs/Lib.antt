@@ -6,3 +6,4 @@ pub mod Told
 pub mod Promised
 pub mod Follows
 pub mod Bounds
+pub mod Samples
