@@ -31,15 +31,12 @@ use Rattle.read.specs.Bounds.{read-small}
 use Rattle.read.specs.Promise as P
 use Rattle.read.specs.Promise.{Reply, Begins}
 use Rattle.read.specs.Told.{linesOf, replyOf, begins-told, begins-outcome, begins-one, told-begins}
-use Rattle.read.specs.Promised.{begins-said, same-read}
+use Rattle.read.specs.Promised.{readBack, begins-said, same-read}
 use Rattle.cursor.specs.declared.Cursor.{Cursor}
 use Rattle.cursor.specs.declared.Next.{Next}
 use Rattle.cursor.specs.Next.{fresh, past, Within, nextBy, nextAt, atomsAt, bondsAt, nextOf}
 use Rattle.cursor.specs.Stepping.{not-left, end-next, read-there, atoms-there, bonds-there, enough, atoms-enough, bonds-enough}
 use Rattle.cursor.specs.Visits.{recordNext, Last, Visit, Visits, Ends, Visited}
-
-abbrev readBack : Reply → RecordRead
-readBack w = RecordRead.Read (w .n) (w .m) (w .chiral) (w .bytes) (w .lines) (w .header-end) (w .items-start) (w .items-end)
 
 -- ---- One record read into tables with room
 

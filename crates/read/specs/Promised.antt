@@ -166,8 +166,11 @@ pub ruleset promise-laws = (promise-mol, promise-sd, promise-none)
 
 -- ---- One answer and one memory
 
+abbrev pub readBack : Reply → RecordRead
+readBack w = RecordRead.Read (w .n) (w .m) (w .chiral) (w .bytes) (w .lines) (w .header-end) (w .items-start) (w .items-end)
+
 backOf : Said → RecordRead
-backOf (accepted w) = RecordRead.Read (w .n) (w .m) (w .chiral) (w .bytes) (w .lines) (w .header-end) (w .items-start) (w .items-end)
+backOf (accepted w) = readBack w
 backOf (P.refused e i column) = RecordRead.Refused e i column
 
 back-is : (r : RecordRead) → backOf (numbersOf r) ≡ r
