@@ -11,16 +11,14 @@ use Rattle.rules.specs.Record.{Raw, limit}
 use Rattle.lines.specs.Got.{Got, got, bad}
 use Rattle.judge.specs.Place.{sdfile, Place, first, Turn, next, done, turnOf}
 use Rattle.judge.specs.One.{One, oneFrom, oneRecord}
-use Rattle.judge.specs.WalkText.{afterLines}
 use Rattle.walk.specs.Outcome.{Outcome, refused, ofOne, outcomeOf, one-next, one-done, one-bad}
-use Rattle.walk.specs.Stands.{moleculeLines}
 use Rattle.walk.specs.Walked.{walkedBy, walkOf}
 use Rattle.read.specs.declared.RecordRead.{RecordRead}
 use Rattle.read.specs.Read.{answered, readAs, atomsAs, bondsAs, readOf, atomsAfter, bondsAfter}
 use Rattle.read.specs.Reading.{enough}
-use Rattle.read.specs.Stretch.{Stretch, stretch-cut, stretch-front, after-order}
+use Rattle.read.specs.Stretch.{Stretch, stretch-cut, stretch-front}
 use Rattle.read.specs.Promise.{Reply, accepted, Begins, Told}
-use Rattle.read.specs.Told.{itemLines, linesOf, replyOf, told-reply, begins-told, begins-outcome, record-few, told-begins}
+use Rattle.read.specs.Told.{replyOf, told-reply, begins-told, begins-outcome, told-begins, told-order}
 use Rattle.read.specs.Promised.{begins-said, same-read}
 
 -- both texts are read alike, into any tables
@@ -50,27 +48,22 @@ module _ (s : Bytes) (x : Raw) (g : Begins sdfile s x) (u : Bytes) where
   told : Told sdfile s x (replyOf sdfile s x)
   told = begins-told sdfile s x g
 
-  few : linesOf sdfile x ≤ length (cut s .lines)
-  few = record-few s x g
-
-  order : (j : ℕ) → j ≤ linesOf sdfile x → afterLines s 0 j ≤ afterLines s 0 (linesOf sdfile x)
-  order j h = after-order s 0 j (linesOf sdfile x) (omega arith) h few
-
   told-still : Told sdfile t x (replyOf sdfile s x)
   unfolding t w
   told-still =
       let d = told in
       let n = d .own .1 .inside in
+      let o = told-order sdfile s x (replyOf sdfile s x) d in
       record {
         n = refl;
         m = refl;
         chiral = refl;
         own = (d .own .0, stretch-front s (w .bytes) n u (d .own .1) (omega arith), d .own .2, d .own .3);
-        headers = stretch-front s (w .bytes) n u (d .headers) (order 3 (omega arith));
-        molecule = (d .molecule .0, stretch-front s (w .bytes) n u (d .molecule .1) (order (moleculeLines (x .molecule)) (omega arith)), d .molecule .2);
+        headers = stretch-front s (w .bytes) n u (d .headers) (omega (arith, o .0, o .1, o .2));
+        molecule = (d .molecule .0, stretch-front s (w .bytes) n u (d .molecule .1) (omega (arith, o .1, o .2)), d .molecule .2);
         items = (
           d .items .0,
-          stretch-front s (w .bytes) n u (d .items .1) (order (moleculeLines (x .molecule) + itemLines (x .items)) (omega arith)),
+          stretch-front s (w .bytes) n u (d .items .1) (o .2),
           d .items .2,
         );
       }

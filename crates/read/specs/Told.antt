@@ -1,11 +1,11 @@
 -- A record at the front of a text: what is told of it, and the judge's outcome.
-use Prim.Native.Nat.{ℕ, suc, _+_, _≤_}
+use Prim.Native.Nat.{ℕ, suc, _+_, _-_, _≤_}
 use native.Mathlib.Omega.{arith}
 use mathlib.Core.Path.{_≡_, refl, sym, ap, _∙_, subst}
 use mathlib.Core.List.{List, [], _∷_, _++_, append-nil}
-use lib.ListN.{length, take, drop, length-append}
-use lib.Seq.{take-append-seam, drop-at}
-use Rattle.text.specs.Text.{Bytes, Line}
+use lib.ListN.{length, take, drop, length-drop, length-append}
+use lib.Seq.{take-all, take-append-seam, drop-at}
+use Rattle.text.specs.Text.{Bytes, Line, Lines}
 use Rattle.text.specs.Cut.{Cut, cut, cut-is, lines-cut}
 use Rattle.rules.specs.Forms.{Atom, Bond, Property}
 use Rattle.rules.specs.Record.{Molecule, Item, Raw, limit, Atoms, Bonds, Properties, Values, Items, Parts1to5, Molfile, Record}
@@ -22,7 +22,7 @@ use Rattle.walk.specs.Outcome.{whole, refused, ofOne, ofVerdict, outcomeOf}
 use Rattle.walk.specs.Stands.{moleculeLines}
 use Rattle.walk.specs.Promise as W
 use Rattle.walk.specs.Promise.{RefusedAt, saidBy, verdict-checked}
-use Rattle.read.specs.Stretch.{Stretch, stretch-none, stretch-join, stretch-cut, stretch-after, stretch-at}
+use Rattle.read.specs.Stretch.{Stretch, stretch-none, stretch-join, stretch-cut, stretch-after, stretch-at, after-order}
 use Rattle.read.specs.Promise.{Reply, Begins, Own, Told, NoRecord, Refusal}
 
 -- ---- How many lines a record has
@@ -65,9 +65,6 @@ linesOf sdfile x = moleculeLines (x .molecule) + itemLines (x .items) + 1
 
 many-record : {t r : List Line} {x : Raw} → Record limit t x r → length t ≡ linesOf sdfile x + length r
 many-record (Record.record-of p i) = omega (arith, many-parts p, many-items i)
-
-pub record-few : (s : Bytes) (x : Raw) → Begins sdfile s x → linesOf sdfile x ≤ length (cut s .lines)
-record-few s x g = omega (arith, many-record (g .4), ap (λ (c : Cut). length (c .lines)) (lines-cut (g .3)))
 
 many-own : (kind : FileKind) (t : List Line) (x : Raw) → Own kind t x → length t ≡ linesOf kind x
 many-own molfile t x (Molfile.molfile p) = omega (arith, many-parts p)
@@ -284,3 +281,36 @@ told-begins s x w d =
     let more = cut (drop (w .bytes) s) .lines in
     let c = ap (λ (c : Cut). c .lines) (stretch-cut s (d .own .1)) in
     (cut s .lines, cut s .rest, more, cut-is s, subst (λ (ls : List Line). Record limit ls x more) (sym c) (record-before (d .own .2) more))
+
+-- ---- The order of its places
+
+ends-between : (kind : FileKind) (x : Raw) → (moleculeLines (x .molecule) ≤ itemsEndOf kind x) × (itemsEndOf kind x ≤ linesOf kind x)
+ends-between molfile x = (omega arith, omega arith)
+ends-between sdfile x = (omega arith, omega arith)
+
+abbrev pub Ordered : Bytes → Reply → Type 0
+Ordered s w = (w .header-end ≤ w .items-start) × (w .items-start ≤ w .items-end) × (w .items-end ≤ w .bytes) × (w .bytes ≤ length s)
+
+pub told-order : (kind : FileKind) (s : Bytes) (x : Raw) (w : Reply) → Told kind s x w → Ordered s w
+told-order kind s x w d =
+    let e = told-reply kind s x w d in
+    let n = many-own kind (d .own .0) x (d .own .2) in
+    let b = ends-between kind x in
+    let c = ap (λ (c : Cut). length (c .lines)) (stretch-cut s (d .own .1)) in
+    let few : linesOf kind x ≤ length (cut (drop 0 s) .lines) = omega (arith, n, c, length-append (d .own .0) (cut (drop (w .bytes) s) .lines)) in
+    let after : (j k : ℕ) → j ≤ k → k ≤ linesOf kind x → afterLines s 0 j ≤ afterLines s 0 k = λ j k h i. after-order s 0 j k (omega arith) h (omega arith) in
+    subst (Ordered s) (sym e) (
+      after 3 (moleculeLines (x .molecule)) (omega arith) (omega arith),
+      after (moleculeLines (x .molecule)) (itemsEndOf kind x) (b .0) (b .1),
+      after (itemsEndOf kind x) (linesOf kind x) (b .1) (omega arith),
+      omega (arith, ap (λ (v : Reply). v .bytes) e, d .own .1 .inside),
+    )
+
+-- a molfile takes all of the text
+pub all-bytes : (s : Bytes) (x : Raw) (w : Reply) → Begins molfile s x → Told molfile s x w → w .bytes ≡ length s
+all-bytes s x w g d =
+    let t : take (length s - 0) (drop 0 s) ≡ s = take-all (length s - 0) (drop 0 s) (omega (arith, length-drop 0 s)) in
+    let all : Stretch s 0 (length s) (g .0) = record { from = omega arith; inside = omega arith; lines = subst (λ (u : Bytes). Lines u (g .0) []) (sym t) (g .1) } in
+    stretch-at s (d .own .1)
+    ∙ ap (afterLines s 0) (many-own molfile (d .own .0) x (d .own .2) ∙ sym (many-own molfile (g .0) x (g .2)))
+    ∙ sym (stretch-at s all)
