@@ -1,35 +1,32 @@
 -- A record walked, its rows settled: the tables are as they are promised.
-use Prim.Native.Nat.{ℕ, zero, suc, _+_, _*_, _≤_, _<_}
+use Prim.Native.Nat.{ℕ, zero, suc, _*_, _≤_, _<_}
 use native.Mathlib.Omega.{arith}
 use mathlib.Core.Path.{_≡_, refl, sym, ap, _∙_, subst}
-use mathlib.Core.List.{List, [], _∷_}
-use mathlib.Core.Bool.{Bool, true, false, cond}
+use mathlib.Core.List.{List, []}
+use mathlib.Core.Bool.{Bool}
 use lib.ListN.{length, drop}
 use lib.IntN.{ℤ}
 use borrow.Author.Tests.{lt-ltb, le-ltb}
 use Rattle.text.specs.Text.{Bytes, Line}
-use Rattle.text.specs.Cut.{cut}
 use Rattle.rules.specs.Forms.{Atom, Bond}
 use Rattle.rules.specs.Record.{Molecule, Raw, limit, Atoms, Bonds, Parts1to5, Molfile, Record}
 use Rattle.rules.specs.Meaning.{meaning, atomsFrom}
 use Rattle.lines.specs.declared.Counts.{Counts}
 use Rattle.tables.specs.Row.{rawRows, bondRows, flat, Holds}
 use Rattle.tables.specs.Held.{bond-rows-flat}
-use Rattle.tables.specs.Filled.{cleared, filled}
+use Rattle.tables.specs.Filled.{cleared}
 use Rattle.tables.specs.Mean.{meant}
 use Rattle.tables.specs.Meant.{shows-kept}
 use Rattle.tables.specs.Cleared.{refused-filled, atoms-filled, bonds-filled}
 use Rattle.judge.specs.Place.{FileKind, molfile, sdfile}
-use Rattle.judge.specs.Verdict.{Verdict, verdict}
-use Rattle.judge.specs.One.{One, oneRecord}
-use Rattle.judge.specs.OneAgree.{one-whole}
-use Rattle.judge.specs.Promise.{accepted-mol}
 use Rattle.walk.specs.declared.Walked.{Walked}
-use Rattle.walk.specs.Outcome.{Outcome, whole, refused, ofOne, ofVerdict, outcomeOf}
+use Rattle.walk.specs.Outcome.{Outcome, whole, refused, outcomeOf}
 use Rattle.walk.specs.Took.{countsBack}
 use Rattle.walk.specs.Stands.{kindOf, Listing}
 use Rattle.walk.specs.Walked.{walkedBy, walkOf, HeldBy, Held, Left}
 use Rattle.read.specs.declared.RecordRead.{RecordRead}
+use Rattle.read.specs.Promise.{Begins}
+use Rattle.read.specs.Told.{outcome-begins}
 use Rattle.read.specs.Read.{byKind, zeroed, rowsIn, answered, atomRows, bondRowsOf, atomsBy, bondsBy, readAs, atomsAs, bondsAs, readOf, atomsAfter, bondsAfter, Settling}
 
 -- ---- What a molecule's counts say
@@ -57,29 +54,9 @@ mol-sized (Molfile.molfile p) = sized p
 record-sized : {t r : List Line} {x : Raw} → Record limit t x r → Sized (x .molecule)
 record-sized (Record.record-of p i) = sized p
 
-whole-same : {x y : Raw} {k j : ℕ} → whole x k ≡ whole y j → x ≡ y
-whole-same e = cc
-
-other : {X : Type 0} {x : Raw} {k e i c : ℕ} → refused e i c ≡ whole x k → X
-other h = absurd (let z : _≡_ {A = ℕ} 0 1 = cc in omega arith)
-
-pub outcome-sized : (kind : FileKind) (s : Bytes) (x : Raw) (k : ℕ) → outcomeOf kind s ≡ whole x k → Sized (x .molecule)
-unfolding outcomeOf
-outcome-sized molfile s x k h = go (verdict molfile limit s) refl h
-  where
-    go : (v : Verdict) → verdict molfile limit s ≡ v → ofVerdict (length (cut s .lines)) v ≡ whole x k → Sized (x .molecule)
-    go (Verdict.accepted []) e q = other q
-    go (Verdict.accepted (y ∷ ys)) e q =
-        let g = accepted-mol limit s (y ∷ ys) .0 e in
-        let same : g .0 ≡ x = (let a = g .1 in let b = whole-same q in cc) in
-        subst (λ (z : Raw). Sized (z .molecule)) same (mol-sized (g .4))
-    go (Verdict.refused e i c) h q = other q
-outcome-sized sdfile s x k h = go (oneRecord limit (cut s .lines)) refl h
-  where
-    go : (o : One) → oneRecord limit (cut s .lines) ≡ o → ofOne o ≡ whole x k → Sized (x .molecule)
-    go (One.whole y j rest) e q = subst (λ (z : Raw). Sized (z .molecule)) (whole-same q) (record-sized (one-whole limit (cut s .lines) y j rest .0 e .0))
-    go (One.refused e i c) h q = other q
-    go (One.short i) h q = other q
+begins-sized : (kind : FileKind) (s : Bytes) (x : Raw) → Begins kind s x → Sized (x .molecule)
+begins-sized molfile s x g = mol-sized (g .2)
+begins-sized sdfile s x g = record-sized (g .4)
 
 -- ---- Rows and zeros, for any limit
 
@@ -134,7 +111,7 @@ module _ (sd : Bool) (s : Bytes) (ta₀ tb₀ ta tb : List ℤ) (t : List ℕ) (
     it = found (kindOf sd) s c len k h a b (sym ew ∙ q)
 
     size : Sized (it .x .molecule)
-    size = outcome-sized (kindOf sd) s (it .x) (it .k) (it .is)
+    size = begins-sized (kindOf sd) s (it .x) (outcome-begins (kindOf sd) s (it .x) (it .k) (it .is))
 
     held : Held ta tb t (it .x .molecule)
     held = subst (HeldBy ta tb t) (it .is) (left .held)
