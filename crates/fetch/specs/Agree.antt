@@ -17,6 +17,7 @@ use Rattle.walk.specs.Outcome.{whole, outcomeOf, ofOne}
 use Rattle.walk.specs.Stands.{moleculeLines}
 use Rattle.fetch.specs.Find.{toOf, Said, item, refused, after, spotOf, saidBy, foundBy, foundOf, partOf}
 use Rattle.fetch.specs.Position.{Past, past-join, past-molecule}
+use Rattle.judge.specs.NoRecord.{NoRecord}
 use Rattle.fetch.specs.Promise.{NoneNamed, ItemIn, Joined, Stretch, FoundAt, RefusedAt, Fetched, Promised, Handed}
 use Rattle.fetch.specs.First.{none-first, item-one, first-lead, Hunted, hunted, stretch, stretch-one}
 
@@ -151,16 +152,16 @@ module _ (s name : Bytes) where
       go : View → RefusedAt s name e i c
       go (View.stop {e = n} {i = k} {c = d} h f) =
           let m = one-refused limit (omega arith) (cut s .lines) n k d h in
-          refused-as (sym f ∙ q) (RefusedAt.line (cut-is s) (m .0) (m .1) (m .2) h)
+          refused-as (sym f ∙ q) (RefusedAt.no-record (NoRecord.line (cut-is s) (m .0) (m .1) (m .2) h))
       go (View.short {i = k} h f) =
           let m = one-short limit (omega arith) (cut s .lines) k h in
-          refused-as (ap (λ (j : ℕ). refused 19 j 1) (sym (m .0)) ∙ sym f ∙ q) (RefusedAt.cut-short (cut-is s) (m .1) (m .2))
+          refused-as (ap (λ (j : ℕ). refused 19 j 1) (sym (m .0)) ∙ sym f ∙ q) (RefusedAt.no-record (NoRecord.cut-short (cut-is s) (m .1) (m .2)))
       go (View.none r n f) = refused-as (sym f ∙ q) (RefusedAt.no-item (cut-is s) r n)
       go (View.found j it past f) = apart (sym f ∙ q)
 
   pub refused-is : {e i c : ℕ} → RefusedAt s name e i c → foundOf s name ≡ refused e i c
-  refused-is (RefusedAt.line {e = e} {i = i} {column = c} h m k d o) = found-by (One.refused e i c) (ap (oneRecord limit) (sym (is-cut h)) ∙ o)
-  refused-is (RefusedAt.cut-short {ls = ls} h v w) = go view
+  refused-is (RefusedAt.no-record (NoRecord.line {e = e} {i = i} {column = c} h m k d o)) = found-by (One.refused e i c) (ap (oneRecord limit) (sym (is-cut h)) ∙ o)
+  refused-is (RefusedAt.no-record (NoRecord.cut-short {ls = ls} h v w)) = go view
     where
       go : View → foundOf s name ≡ refused 19 (suc (length ls)) 1
       go (View.stop {e = e} {i = i} {c = c} o f) =

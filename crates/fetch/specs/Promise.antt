@@ -7,8 +7,7 @@ use lib.ListN.{length, take, drop}
 use Rattle.text.specs.Text.{Bytes, Line, LF, Without, Ended, Lines}
 use Rattle.rules.specs.Forms.{DataHeader}
 use Rattle.rules.specs.Record.{Item, Raw, Values, Items, Parts1to5, Record, limit}
-use Rattle.rules.specs.Viable.{Viable, FirstDead, ARecord}
-use Rattle.judge.specs.One.{One, oneRecord}
+use Rattle.judge.specs.NoRecord.{NoRecord}
 use Rattle.fetch.specs.Find.{Said, item, refused, foundOf, partOf}
 
 -- ---- The first item of a name
@@ -59,13 +58,9 @@ pub data FoundAt (s name : Bytes) : ℕ → ℕ → Type 0 where
   no-values : {ls v : List Line} {rest : Bytes} →
       Lines s ls rest → ItemIn name ls v [] → FoundAt s name 0 0
 
--- Numbers 3 to 18 name the first line after which no further lines make a record; number and column are the judge's for that line where it stands.
--- Number 19 names the line after the complete ones: these can be finished, and do not begin with a record. Number 22 says that the record has no such item.
+-- the record's own refusal, as reading it is refused; number 22 says that the record is good and has no such item
 pub data RefusedAt (s name : Bytes) : ℕ → ℕ → ℕ → Type 0 where
-  line : {ls : List Line} {rest : Bytes} {e i column : ℕ} → Lines s ls rest → (3 ≤ e) × (e ≤ 18) → 1 ≤ column →
-      FirstDead (ARecord limit) ls i → oneRecord limit ls ≡ One.refused e i column → RefusedAt s name e i column
-  cut-short : {ls : List Line} {rest : Bytes} → Lines s ls rest → Viable (ARecord limit) ls → ¬ ((x : Raw) × (more : List Line) × Record limit ls x more) →
-      RefusedAt s name 19 (suc (length ls)) 1
+  no-record : {e i column : ℕ} → NoRecord s e i column → RefusedAt s name e i column
   no-item : {ls more : List Line} {rest : Bytes} {x : Raw} → Lines s ls rest → Record limit ls x more → NoneNamed name (x .items) → RefusedAt s name 22 0 0
 
 pub record Fetched (s name : Bytes) (r : Said) : Type 0 where

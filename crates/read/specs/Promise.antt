@@ -1,6 +1,6 @@
 -- What reading a record promises, in the words of the rules: when it accepts, what the answer then says and what the tables hold, and what each refusal means.
 -- For every text, and whatever the tables held, there is one answer and one table of each kind after it.
-use Prim.Native.Nat.{ℕ, suc, _*_, _≤_}
+use Prim.Native.Nat.{ℕ, _*_, _≤_}
 use mathlib.Core.Path.{_≡_}
 use mathlib.Core.Logic.{_↔_}
 use mathlib.Core.List.{List, [], _∷_}
@@ -10,10 +10,9 @@ use Rattle.text.specs.Text.{Bytes, Line, Lines}
 use Rattle.rules.specs.Record.{Raw, limit, Parts1to5, Molfile, Record, GoodMolfile}
 use Rattle.rules.specs.Meaning.{meaning}
 use Rattle.rules.specs.Canon.{ItemPart}
-use Rattle.rules.specs.Viable.{Viable, FirstDead, ARecord}
 use Rattle.tables.specs.Row.{flat}
 use Rattle.judge.specs.Place.{FileKind, molfile, sdfile}
-use Rattle.judge.specs.One.{One, oneRecord}
+use Rattle.judge.specs.NoRecord.{NoRecord}
 use Rattle.walk.specs.Promise.{RefusedAt}
 use Rattle.read.specs.declared.RecordRead.{RecordRead}
 use Rattle.read.specs.Read.{rowsIn}
@@ -65,15 +64,7 @@ pub record Told (kind : FileKind) (s : Bytes) (x : Raw) (w : Reply) : Type 0 whe
 
 -- ---- A refusal
 
--- Numbers 3 to 18 name the first line after which no further lines make a record; number and column are the judge's for that line where it stands.
--- Number 19 names the line after the complete ones: these can be finished, and do not begin with a record.
-pub data NoRecord (s : Bytes) : ℕ → ℕ → ℕ → Type 0 where
-  line : {ls : List Line} {rest : Bytes} {e i column : ℕ} → Lines s ls rest → (3 ≤ e) × (e ≤ 18) → 1 ≤ column →
-      FirstDead (ARecord limit) ls i → oneRecord limit ls ≡ One.refused e i column → NoRecord s e i column
-  cut-short : {ls : List Line} {rest : Bytes} → Lines s ls rest → Viable (ARecord limit) ls → ¬ ((x : Raw) × (more : List Line) × Record limit ls x more) →
-      NoRecord s 19 (suc (length ls)) 1
-
--- a molfile is refused as the check refuses it
+-- a molfile is refused as the check refuses it; of an SDfile one record is asked for
 abbrev pub Refusal : FileKind → Bytes → ℕ → ℕ → ℕ → Type 0
 Refusal molfile s e i column = RefusedAt molfile s e i column
 Refusal sdfile s e i column = NoRecord s e i column

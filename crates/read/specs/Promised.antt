@@ -14,6 +14,7 @@ use Rattle.rules.specs.Record.{Raw, limit}
 use Rattle.rules.specs.Viable.{Viable, FirstDead, ARecord, first-dead}
 use Rattle.judge.specs.Place.{FileKind, molfile, sdfile}
 use Rattle.judge.specs.One.{One, oneRecord}
+use Rattle.judge.specs.NoRecord.{NoRecord}
 use Rattle.walk.specs.Outcome.{Outcome, whole, refused, outcomeOf}
 use Rattle.walk.specs.Stands.{moleculeLines}
 use Rattle.walk.specs.Walked.{walkedBy, walkOf}
@@ -24,7 +25,7 @@ use Rattle.read.specs.Read.{rowsIn, answered, atomsBy, bondsBy, readAs, 
 use Rattle.read.specs.Reading.{enough, atoms-enough, bonds-enough, short-atoms, short-bonds, atoms-short, atoms-beside, bonds-beside, bonds-short}
 use Rattle.read.specs.Reading.{kind-mol, kind-sd, kind-none, atoms-mol, atoms-sd, atoms-none, bonds-mol, bonds-sd, bonds-none}
 use Rattle.read.specs.Promise as P
-use Rattle.read.specs.Promise.{Reply, Said, accepted, numbersOf, Begins, Told, NoRecord, Refusal, Roomy, Reads, Untouched, kindNumber, ReadPromise}
+use Rattle.read.specs.Promise.{Reply, Said, accepted, numbersOf, Begins, Told, Refusal, Roomy, Reads, Untouched, kindNumber, ReadPromise}
 use Rattle.read.specs.Told.{itemLines, linesOf, replyOf, told-reply, begins-told, begins-outcome, whole-lines, outcome-begins, outcome-refused}
 
 -- ---- Tables with room

@@ -15,6 +15,7 @@ use Rattle.judge.specs.Place.{FileKind, molfile, sdfile}
 use Rattle.judge.specs.Verdict.{Verdict, verdict}
 use Rattle.judge.specs.Front.{parts-front, record-front, record-before}
 use Rattle.judge.specs.One.{One, oneRecord}
+use Rattle.judge.specs.NoRecord.{NoRecord}
 use Rattle.judge.specs.OneAgree.{one-whole, one-refused, one-short}
 use Rattle.judge.specs.WalkText.{afterLines, after-cut}
 use Rattle.judge.specs.Promise.{accepted-mol}
@@ -23,7 +24,7 @@ use Rattle.walk.specs.Stands.{moleculeLines}
 use Rattle.walk.specs.Promise as W
 use Rattle.walk.specs.Promise.{RefusedAt, saidBy, verdict-checked}
 use Rattle.read.specs.Stretch.{Stretch, stretch-none, stretch-join, stretch-cut, stretch-after, stretch-at, after-order}
-use Rattle.read.specs.Promise.{Reply, Begins, Own, Told, NoRecord, Refusal}
+use Rattle.read.specs.Promise.{Reply, Begins, Own, Told, Refusal}
 
 -- ---- How many lines a record has
 
