@@ -1,0 +1,1 @@
+// A whole SDfile in its canonical form, written into lent room.
