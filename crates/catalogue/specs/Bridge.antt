@@ -82,6 +82,15 @@ standing k (Record.record-of p i) e = go p (items-closed i) e
           within = omega arith;
         }
 
+-- a record takes lines
+pub record-shorter : {ls rest : List Line} {x : Raw} → Record limit ls x rest → length rest < length ls
+record-shorter (Record.record-of p i) = go p (items-closed i)
+  where
+    go : {t u r : List Line} {m : Molecule} {is : List Item} → Parts1to5 limit t m u → Closed u is r → length r < length t
+    go {r = r} (Parts1to5.parts f g h l a b w q o) c =
+        let j = took-join (atoms-took a) (took-join (bonds-took b) (properties-took q)) in
+        omega (arith, j .long, ap length (c .lines), length-append (c .part) (c .l ∷ r))
+
 -- ---- The same by positions in the text
 
 module _ (t : Bytes) (x : Raw) (k : ℕ) (rest : List Line) (e : oneRecord limit (cut t .lines) ≡ One.whole x k rest) where

@@ -1,3 +1,9 @@
+-- What the contracts cite
+pub mod Catalogue
 -- Laws for the proofs
 pub mod Stretch
 pub mod Bridge
+pub mod Sizes
+pub mod Measuring
+pub mod Writing
+pub mod Filling
