@@ -1,5 +1,6 @@
 -- What the contracts cite
 pub mod Catalogue
+pub mod Promise
 -- Laws for the proofs
 pub mod Stretch
 pub mod Bridge

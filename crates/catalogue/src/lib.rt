@@ -15,6 +15,7 @@ ghost use Rattle.catalogue.specs.Sizes.{partsSize, Measurable, measuredB
 ghost use Rattle.catalogue.specs.Measuring.{concludeBy};
 ghost use Rattle.catalogue.specs.Writing.{lengthOf, Handed, Put, Next, WroteNext};
 ghost use Rattle.catalogue.specs.Filling.{FileFits, textIn};
+ghost use Rattle.catalogue.specs.Promise.{Promise};
 
 // What is answered: the length of the text and the number of its records, or the first refusal.
 pub enum Catalogue {
@@ -321,4 +322,25 @@ fn write_roomy(s: &[u8], atoms: &mut [i32], bonds: &mut [i32], room: &mut [u8]) 
     empty(atoms, ATOMS);
     empty(bonds, BONDS);
     answer
+}
+
+// A whole SDfile in its canonical form at the front of the room; after a refusal nothing is written.
+pub fn write_catalogue(s: &[u8], atoms: &mut [i32], bonds: &mut [i32], room: &mut [u8]) -> Catalogue
+    ensures { λ r. ⌜ Promise (now (s .entry)) (now (atoms .entry)) (now (bonds .entry)) (now (room .entry)) r (now (atoms .exit)) (now (bonds .exit)) (now (room .exit)) ⌝ }
+{
+    if atoms.len() < ATOMS {
+        return Catalogue::Refused {
+            no: 2,
+            line: 0,
+            column: 0,
+        };
+    }
+    if bonds.len() < BONDS {
+        return Catalogue::Refused {
+            no: 2,
+            line: 0,
+            column: 0,
+        };
+    }
+    write_roomy(s, atoms, bonds, room)
 }
