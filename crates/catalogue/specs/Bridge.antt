@@ -10,19 +10,17 @@ use borrow.Author.Tests.{le-ltb}
 use Rattle.text.specs.Text.{Bytes, Line, Lines}
 use Rattle.text.specs.Cut.{Cut, cut}
 use Rattle.rules.specs.Forms.{Atom, Bond, Property}
-use Rattle.rules.specs.Record.{Molecule, Item, Raw, Atoms, Bonds, Properties, Items, Parts1to5, Record, limit}
-use Rattle.rules.specs.Meaning.{Reading, meaning, atomsFrom}
+use Rattle.rules.specs.Record.{Molecule, Item, Raw, Atoms, Bonds, Properties, Parts1to5, Record, limit}
+use Rattle.rules.specs.Meaning.{meaning}
 use Rattle.rules.specs.Canon.{Rows, Good, HeaderPart, ItemPart}
 use Rattle.rules.specs.Handed.{Closed, items-closed}
 use Rattle.rules.specs.Rewritten.{record-good}
 use Rattle.tables.specs.Row.{flat}
-use Rattle.tables.specs.Filled.{filled}
 use Rattle.tables.specs.Cleared.{length-filled, filled-past}
 use Rattle.judge.specs.Place.{sdfile}
 use Rattle.judge.specs.One.{One, oneRecord}
 use Rattle.judge.specs.OneAgree.{one-whole}
 use Rattle.judge.specs.WalkText.{afterLines, after-cut, after-within}
-use Rattle.walk.specs.declared.Walked.{Walked}
 use Rattle.walk.specs.Outcome.{Outcome, whole, refused, ofOne, outcomeOf}
 use Rattle.walk.specs.Stands.{moleculeLines}
 use Rattle.walk.specs.Walked.{walkedBy, walkOf, Beside}

@@ -8,3 +8,5 @@ pub mod Sizes
 pub mod Measuring
 pub mod Writing
 pub mod Filling
+-- Samples
+pub mod Samples

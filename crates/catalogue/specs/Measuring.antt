@@ -12,7 +12,6 @@ use mir.Syntax.{w64}
 use mir.Val.{Fits}
 use borrow.Author.Tests.{leb-true, leb-false, lt-ltb, le-ltb}
 use Rattle.text.specs.Text.{Bytes, Line}
-use Rattle.text.specs.Written.{text}
 use Rattle.text.specs.Cut.{cut}
 use Rattle.rules.specs.Record.{Raw, limit}
 use Rattle.rules.specs.Meaning.{meaning}

@@ -32,7 +32,7 @@ use Rattle.writer.specs.Write.{canonText}
 use Rattle.writer.specs.Measure.{sized, afterHeaders, text-length}
 use Rattle.catalogue.specs.declared.Measured.{Measured}
 use Rattle.catalogue.specs.Catalogue.{catalogueText, upTo}
-use Rattle.catalogue.specs.Bridge.{Front, front, read-refused, read-atoms, read-bonds}
+use Rattle.catalogue.specs.Bridge.{Front, front, read-refused}
 
 -- ---- Lengths as far as the room goes
 
@@ -199,5 +199,3 @@ module _ (t : Bytes) (ta tb ta′ tb′ : List ℤ) (ra : 4080 ≤ length ta) (r
 
   pub next-refused : (e i c needed k : ℕ) → r ≡ RecordRead.Refused e i c → Measured.Refused e i c ≡ measuredBy t needed k (outcomeOf sdfile t)
   next-refused e i c needed k q = rw (read-refused t ta tb ta′ tb′ ra rb ea eb r er e i c q)
-
-pub ruleset next-laws = (next-headers, next-items, next-items-end, next-measurable, next-whole, next-refused, read-atoms, read-bonds)

@@ -67,7 +67,7 @@ pub record Put (g : Given) (r₀ r : Bytes) (to e : ℕ) : Type 0 where
   pub laid : (x : Reading) → Accepted g x → Laid r₀ r to (canonText x) e
 
 module _ (g : Given) (r : Bytes) (to : ℕ) (h : Handed g r to) where
-  pub put-to : to ≤ length r
+  put-to : to ≤ length r
   put-to = omega (arith, h .enough)
 
   module _ (w : Written) (tail : Bytes) (p : Promise g (take (length r - to) (drop to r)) w tail) where
@@ -98,8 +98,6 @@ module _ (g : Given) (r : Bytes) (to : ℕ) (h : Handed g r to) where
               subst (λ (z : ℕ). Laid r (putMid to (length r - to) r tail) to (canonText x) z) f
               (subst (λ (z : Reading). Laid r (putMid to (length r - to) r tail) to (canonText z) (to + length txt)) (accepted-one g (h .x) x (h .accepted) a) d);
         }
-
-pub ruleset put-laws = (put-to, put-fits, put-laid)
 
 -- ---- One record
 
