@@ -56,7 +56,7 @@ items-front (Items.more {l = l} {t = t} {u = u} {r = r} {vs = vs} {is = is} h v 
     let tail = join-front (λ a s. Values a vs s) (λ a s. Items a is s) (λ a s. (b : List Line) × Values a vs b × Items b is s) t u r (λ a b s x y. (b, x, y)) (values-front v) (items-front p) in
     more-front _ _ l t r (λ a s q. Items.more h (q .1) (q .2)) tail
 
-parts-front : {limit : ℕ} {t : List Line} {m : Molecule} {r : List Line} → Parts1to5 limit t m r → Front (λ a s. Parts1to5 limit a m s) t r
+pub parts-front : {limit : ℕ} {t : List Line} {m : Molecule} {r : List Line} → Parts1to5 limit t m r → Front (λ a s. Parts1to5 limit a m s) t r
 parts-front (Parts1to5.parts {h₁ = h₁} {h₂ = h₂} {h₃ = h₃} {l = l} {c = c} {t = t} {u = u} {v = v} {r = r} {xs = xs} {bs = bs} {ps = ps} f₁ f₂ f₃ k a b pairs p once) =
     let bp = join-front (λ a s. Bonds (c .atoms) (c .bonds) a bs s) (λ a s. Properties (c .atoms) a ps s)
     (λ a s. (b : List Line) × Bonds (c .atoms) (c .bonds) a bs b × Properties (c .atoms) b ps s) u v r (λ a b s x y. (b, x, y)) (bonds-front b) (properties-front p)

@@ -6,6 +6,7 @@ ghost use Rattle.tables.specs.Mean.{meant};
 ghost use Rattle.walk.specs.Stands.{kindOf};
 ghost use Rattle.walk.specs.Walked.{walkOf};
 ghost use Rattle.walk.specs.Outcome.{outcomeOf};
+ghost use Rattle.read.specs.Promise.{ReadPromise};
 ghost use Rattle.read.specs.Read.{zeroed, answered, atomsBy, bondsBy, readAs, atomsAs, bondsAs, readOf, atomsAfter, bondsAfter, Settling};
 use entries::LISTED;
 use lines::Counts;
@@ -130,6 +131,7 @@ pub fn read_record(kind: u8, s: &[u8], atoms: &mut [i32], bonds: &mut [i32]) -> 
     ensures { λ r. ⌜ r ≡ readOf kind (length (now (atoms .entry))) (length (now (bonds .entry))) (now (s .entry)) ⌝ }
     ensures { λ r. ⌜ now (atoms .exit) ≡ atomsAfter kind (length (now (bonds .entry))) (now (s .entry)) (now (atoms .entry)) ⌝ }
     ensures { λ r. ⌜ now (bonds .exit) ≡ bondsAfter kind (length (now (atoms .entry))) (now (s .entry)) (now (bonds .entry)) ⌝ }
+    ensures { λ r. ⌜ ReadPromise kind (now (s .entry)) (now (atoms .entry)) (now (bonds .entry)) r (now (atoms .exit)) (now (bonds .exit)) ⌝ }
 {
     if kind == 0 {
         return read_as(false, s, atoms, bonds);

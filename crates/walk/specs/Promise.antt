@@ -116,7 +116,7 @@ module _ (kind : FileKind) (s : Bytes) where
       ∙ run-stop kind limit (st .q) (st .ys) (1 + length (st .before)) (st .l) (st .after) e column (st .refused)
       ∙ ap (λ (k : ℕ). stopped e k column) (sym (st .line))
 
-  same-refusal : {e i c e′ i′ c′ : ℕ} → RefusedAt kind s e i c → RefusedAt kind s e′ i′ c′ → refused e i c ≡ refused e′ i′ c′
+  pub same-refusal : {e i c e′ i′ c′ : ℕ} → RefusedAt kind s e i c → RefusedAt kind s e′ i′ c′ → refused e i c ≡ refused e′ i′ c′
   same-refusal {e = e} {i = i} {c = c} {e′ = e′} {i′ = i′} {c′ = c′} (RefusedAt.line {ls = ls} h m k f st) (RefusedAt.line {ls = ls′} h′ m′ k′ f′ st′) =
       let same = lines-same h h′ .0 in
       let r : stopped e i c ≡ stopped e′ i′ c′ =

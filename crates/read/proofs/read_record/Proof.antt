@@ -1,4 +1,5 @@
 -- `read::read_record` meets its contract.
+use Rattle.read.specs.Promised.{promise-laws}
 use Rattle.read.specs.Reading.{kind-laws}
 use borrow.Author.Needs.{needs}
 use Rattle.read.proofs.read_record.Statement.{statement}
@@ -14,7 +15,7 @@ same-length-2 : tie.Need-same-length-2
 same-length-2 c = search needs
 
 returns : tie.Need-returns
-returns c = search (needs, kind-laws)
+returns c = (search kind-laws, (search kind-laws, (search kind-laws, search promise-laws)))
 
 read-as-requires-2 : tie.Need-read-as-requires-2
 read-as-requires-2 c κs = search needs
@@ -26,10 +27,10 @@ same-length-4 : tie.Need-same-length-4
 same-length-4 c = search needs
 
 returns-2 : tie.Need-returns-2
-returns-2 c = search (needs, kind-laws)
+returns-2 c = (search kind-laws, (search kind-laws, (search kind-laws, search promise-laws)))
 
 returns-3 : tie.Need-returns-3
-returns-3 c = search (needs, kind-laws)
+returns-3 c = (search kind-laws, (search kind-laws, (search kind-laws, search promise-laws)))
 
 pub read-record-spec : {M : Type 1} → statement M
 read-record-spec =

@@ -1,0 +1,4 @@
+pub mod Next
+pub mod Stepping
+pub mod Visits
+pub mod Visiting
