@@ -3,136 +3,89 @@ use Prim.Native.Nat.{ℕ, zero, suc, _+_, _-_, _*_, _≤_, _<_}
 use native.Mathlib.Omega.{arith}
 use mathlib.Core.Path.{_≡_, refl, sym, ap, ap₂, _∙_, subst}
 use mathlib.Core.List.{List, [], _∷_, _++_, append-assoc}
-use lib.ListN.{length, take, drop, replicate, length-append, length-drop}
-use lib.Seq.{take-at, drop-at, drop-drop}
+use lib.ListN.{length, take, drop, replicate, length-append}
+use lib.Seq.{take-at, drop-at}
 use lib.IntN.{ℤ, pos}
 use borrow.Author.Tests.{le-ltb}
 use Rattle.text.specs.Text.{Bytes, Line, Lines}
-use Rattle.text.specs.Cut.{Cut, cut}
-use Rattle.rules.specs.Forms.{Atom, Bond, Property}
-use Rattle.rules.specs.Record.{Molecule, Item, Raw, Atoms, Bonds, Properties, Parts1to5, Record, limit}
+use Rattle.text.specs.Cut.{cut, cut-is}
+use Rattle.rules.specs.Record.{Raw, Parts1to5, Record, limit}
 use Rattle.rules.specs.Meaning.{meaning}
-use Rattle.rules.specs.Canon.{Rows, Good, HeaderPart, ItemPart}
-use Rattle.rules.specs.Handed.{Closed, items-closed}
+use Rattle.rules.specs.Canon.{Rows, Good, HeaderPart}
 use Rattle.rules.specs.Rewritten.{record-good}
 use Rattle.tables.specs.Row.{flat}
 use Rattle.tables.specs.Cleared.{length-filled, filled-past}
 use Rattle.judge.specs.Place.{sdfile}
 use Rattle.judge.specs.One.{One, oneRecord}
 use Rattle.judge.specs.OneAgree.{one-whole}
-use Rattle.judge.specs.WalkText.{afterLines, after-cut, after-within}
+use Rattle.judge.specs.Front.{record-front}
+use Rattle.judge.specs.WalkText.{afterLines, text-room}
 use Rattle.walk.specs.Outcome.{Outcome, whole, refused, ofOne, outcomeOf}
 use Rattle.walk.specs.Stands.{moleculeLines}
 use Rattle.walk.specs.Walked.{walkedBy, walkOf, Beside}
 use Rattle.put.specs.Rows.{rowsOf}
 use Rattle.read.specs.declared.RecordRead.{RecordRead}
 use Rattle.read.specs.Read.{rowsIn, answered, atomRows, bondRowsOf, atomsBy, bondsBy, readAs, atomsAs, bondsAs, readOf, atomsAfter, bondsAfter}
+use Rattle.read.specs.Promise.{Begins, Told}
+use Rattle.read.specs.Told.{linesOf, itemsEndOf, replyOf, begins-told, begins-outcome, whole-lines}
 use Rattle.writer.specs.Write.{Given}
 use Rattle.writer.specs.Promise.{HeadersIn, ItemsIn, Accepted}
-use Rattle.catalogue.specs.Stretch.{stretch, after-plus}
 
--- ---- The lines of a record, counted
+-- ---- Where header lines and items stand
 
--- these lines are j lines and then the rest
-record Took (t : List Line) (j : ℕ) (r : List Line) : Type 0 where
-  rest : r ≡ drop j t
-  long : length t ≡ j + length r
-
-took-join : {t u r : List Line} {i j : ℕ} → Took t i u → Took u j r → Took t (i + j) r
-took-join {t} {i = i} {j = j} p q = record { rest = q .rest ∙ ap (drop j) (p .rest) ∙ drop-drop j i t; long = omega (arith, p .long, q .long) }
-
-atoms-took : {n k : ℕ} {t r : List Line} {xs : List Atom} → Atoms n k t xs r → Took t (length xs) r
-atoms-took Atoms.none = record { rest = refl; long = omega arith }
-atoms-took (Atoms.more h a) = let p = atoms-took a in record { rest = p .rest; long = omega (arith, p .long) }
-
-bonds-took : {n k : ℕ} {t r : List Line} {bs : List Bond} → Bonds n k t bs r → Took t (length bs) r
-bonds-took Bonds.none = record { rest = refl; long = omega arith }
-bonds-took (Bonds.more h b) = let p = bonds-took b in record { rest = p .rest; long = omega (arith, p .long) }
-
-properties-took : {n : ℕ} {t r : List Line} {ps : List Property} → Properties n t ps r → Took t (suc (length ps)) r
-properties-took (Properties.end h) = record { rest = refl; long = omega arith }
-properties-took (Properties.more h q) = let p = properties-took q in record { rest = p .rest; long = omega (arith, p .long) }
-
--- header lines and items as they stand in the lines of a record of k lines
-record Standing (ls : List Line) (x : Raw) (k : ℕ) : Type 0 where
-  headers : HeaderPart (take 3 ls) (x .molecule .headers)
-  items : ItemPart (take (k - 1 - moleculeLines (x .molecule)) (drop (moleculeLines (x .molecule)) ls)) (x .items)
-  inner : moleculeLines (x .molecule) < k
-  within : k ≤ length ls
-
-standing : {ls rest : List Line} {x : Raw} (k : ℕ) → Record limit ls x rest → k + length rest ≡ length ls → Standing ls x k
-standing k (Record.record-of p i) e = go p (items-closed i) e
-  where
-    go : {t u r : List Line} {m : Molecule} {is : List Item} → Parts1to5 limit t m u → Closed u is r → k + length r ≡ length t →
-        Standing t (record { molecule = m; items = is }) k
-    go {t = t} {u = u} {r = r} {is = is} (Parts1to5.parts {t = t′} {xs = xs} {bs = bs} {ps = ps} f g h l a b w q o) c e =
-        let j = took-join (atoms-took a) (took-join (bonds-took b) (properties-took q)) in
-        let n : 5 + length xs + length bs + length ps ≡ suc (suc (suc (suc (length xs + (length bs + suc (length ps)))))) = omega arith in
-        let u-is : u ≡ drop (5 + length xs + length bs + length ps) t = j .rest ∙ ap (λ (z : ℕ). drop z t) (sym n) in
-        let long : length u ≡ length (c .part) + suc (length r) = ap length (c .lines) ∙ length-append (c .part) (c .l ∷ r) in
-        let size : length (c .part) ≡ k - 1 - (5 + length xs + length bs + length ps) = omega (arith, j .long) in
-        let part : take (k - 1 - (5 + length xs + length bs + length ps)) (drop (5 + length xs + length bs + length ps) t) ≡ c .part =
-        ap (take (k - 1 - (5 + length xs + length bs + length ps))) (sym u-is ∙ c .lines) ∙ take-at (c .part) (c .l ∷ r) _ size in
-        record {
-          headers = HeaderPart.three f g h;
-          items = subst (λ (z : List Line). ItemPart z is) (sym part) (c .items);
-          inner = omega (arith, j .long);
-          within = omega arith;
-        }
+some-line : {ls rest : List Line} {x : Raw} → Record limit ls x rest → 0 < length ls
+some-line (Record.record-of (Parts1to5.parts f g h l a b w q o) i) = omega arith
 
 -- a record takes lines
 pub record-shorter : {ls rest : List Line} {x : Raw} → Record limit ls x rest → length rest < length ls
-record-shorter (Record.record-of p i) = go p (items-closed i)
-  where
-    go : {t u r : List Line} {m : Molecule} {is : List Item} → Parts1to5 limit t m u → Closed u is r → length r < length t
-    go {r = r} (Parts1to5.parts f g h l a b w q o) c =
-        let j = took-join (atoms-took a) (took-join (bonds-took b) (properties-took q)) in
-        omega (arith, j .long, ap length (c .lines), length-append (c .part) (c .l ∷ r))
+record-shorter {rest = rest} r =
+    let f = record-front r in
+    omega (arith, ap length (f .parts), length-append (f .before) rest, some-line (f .any []), length-append (f .before) [])
 
--- ---- The same by positions in the text
+header-part : {ls rest : List Line} {x : Raw} → Record limit ls x rest →
+    HeaderPart (x .molecule .headers .first ∷ x .molecule .headers .second ∷ x .molecule .headers .third ∷ []) (x .molecule .headers)
+header-part (Record.record-of (Parts1to5.parts f g h l a b w q o) i) = HeaderPart.three f g h
 
 module _ (t : Bytes) (x : Raw) (k : ℕ) (rest : List Line) (e : oneRecord limit (cut t .lines) ≡ One.whole x k rest) where
   abbrev mol : ℕ
   mol = moleculeLines (x .molecule)
 
-  stands : Standing (cut t .lines) x k
-  stands = let r = one-whole limit (cut t .lines) x k rest .0 e in standing k (r .0) (r .1)
+  found : Record limit (cut t .lines) x rest
+  found = one-whole limit (cut t .lines) x k rest .0 e .0
+
+  begins : Begins sdfile t x
+  begins = (cut t .lines, cut t .rest, rest, cut-is t, found)
+
+  told : Told sdfile t x (replyOf sdfile t x)
+  told = begins-told sdfile t x begins
+
+  k-is : k ≡ linesOf sdfile x
+  unfolding outcomeOf
+  k-is = whole-lines (sym (ap ofOne e) ∙ begins-outcome sdfile t x begins)
+
+  -- the line before the last ends the items
+  last-is : afterLines t 0 (itemsEndOf sdfile x) ≡ afterLines t 0 (k - 1)
+  last-is = ap (afterLines t 0) (omega (arith, k-is))
 
   pub some-lines : 1 ≤ k
-  some-lines = omega (arith, stands .inner)
+  some-lines = omega (arith, k-is)
 
-  -- where things are, one after the other
   pub in-order : (afterLines t 0 3 ≤ length t) × (afterLines t 0 mol ≤ afterLines t 0 (k - 1)) × (afterLines t 0 (k - 1) ≤ length t) × (k ≤ afterLines t 0 k) × (afterLines t 0 k ≤ length t)
   in-order =
-      let s = stands in
-      let j : k - 1 ≡ mol + (k - 1 - mol) = omega (arith, s .inner) in
-      let a = after-within t 0 mol (omega arith) (omega (arith, s .inner, s .within)) in
-      let c = after-cut t 0 mol (omega (arith, s .inner, s .within)) in
-      let some : k - 1 - mol ≤ length (cut (drop (afterLines t 0 mol) t) .lines) = omega (arith, s .within, ap (λ (z : Cut). length (z .lines)) c, length-drop mol (cut t .lines)) in
-      let b = after-within t (afterLines t 0 mol) (k - 1 - mol) (a .1) some in
-      let same : afterLines t 0 (k - 1) ≡ afterLines t (afterLines t 0 mol) (k - 1 - mol) = ap (afterLines t 0) j ∙ after-plus t 0 mol (k - 1 - mol) (omega (arith, s .inner, s .within)) in
-      let w = after-within t 0 k (omega arith) (s .within) in
-      (after-within t 0 3 (omega arith) (omega (arith, s .inner, s .within)) .1, omega (arith, b .0, same), omega (arith, b .1, same), omega (arith, w .0), w .1)
+      let i = told .items .1 in
+      let r = text-room limit [] 1 t x k rest e in
+      (told .headers .inside, omega (arith, i .from, last-is), omega (arith, i .inside, last-is), r .0, r .1)
 
   headers-in : HeadersIn (take (afterLines t 0 3 - 0) (drop 0 t)) (x .molecule .headers)
-  headers-in = let s = stands in (take 3 (cut t .lines), stretch t 0 3 (omega (arith, s .inner, s .within)), s .headers)
+  headers-in = (_, told .headers .lines, header-part found)
 
   items-in : ItemsIn (take (afterLines t 0 (k - 1) - afterLines t 0 mol) (drop (afterLines t 0 mol) t)) (x .items)
   items-in =
-      let s = stands in
-      let a = afterLines t 0 mol in
-      let j : k - 1 ≡ mol + (k - 1 - mol) = omega (arith, s .inner) in
-      let c = after-cut t 0 mol (omega (arith, s .inner, s .within)) in
-      let some : k - 1 - mol ≤ length (cut (drop a t) .lines) = omega (arith, s .within, ap (λ (z : Cut). length (z .lines)) c, length-drop mol (cut t .lines)) in
-      let same : afterLines t a (k - 1 - mol) ≡ afterLines t 0 (k - 1) = sym (ap (afterLines t 0) j ∙ after-plus t 0 mol (k - 1 - mol) (omega (arith, s .inner, s .within))) in
-      let lines : take (k - 1 - mol) (cut (drop a t) .lines) ≡ take (k - 1 - mol) (drop mol (cut t .lines)) = ap (λ (z : Cut). take (k - 1 - mol) (z .lines)) c in (
-        take (k - 1 - mol) (cut (drop a t) .lines),
-        subst (λ (z : ℕ). Lines (take (z - a) (drop a t)) (take (k - 1 - mol) (cut (drop a t) .lines)) []) same (stretch t a (k - 1 - mol) some),
-        subst (λ (z : List Line). ItemPart z (x .items)) (sym lines) (s .items),
-      )
+      let i = told .items in
+      (i .0, subst (λ (z : ℕ). Lines (take (z - afterLines t 0 mol) (drop (afterLines t 0 mol) t)) (i .0) []) last-is (i .1 .lines), i .2)
 
   good : Good limit (meaning x)
-  good = record-good (one-whole limit (cut t .lines) x k rest .0 e .0)
+  good = record-good found
 
 -- ---- The tables
 

@@ -2,7 +2,6 @@
 pub mod Catalogue
 pub mod Promise
 -- Laws for the proofs
-pub mod Stretch
 pub mod Bridge
 pub mod Sizes
 pub mod Measuring

@@ -24,14 +24,10 @@ use Rattle.judge.specs.Promise as J
 use Rattle.walk.specs.Promise.{Said, RefusedAt, Checked, saidBy, verdict-checked, checked-one}
 use Rattle.parts.specs.Part.{PartVerdict, good, refused}
 use Rattle.read.specs.Read.{rowsIn}
+use Rattle.read.specs.Promise.{Roomy}
 use Rattle.writer.specs.Write.{demand, roomy}
 use Rattle.catalogue.specs.declared.Catalogue.{Catalogue}
 use Rattle.catalogue.specs.Catalogue.{catalogueText, ofFile, fitting, fileFor, catalogueFor, answerBy, roomBy, catalogueOf, roomAfter, atomsAfter, bondsAfter}
-
--- both work tables have room for as many atoms and bonds as a record may have
-pub record Roomy (ta tb : List ℤ) : Type 0 where
-  pub atoms : 16 * limit ≤ length ta
-  pub bonds : 6 * limit ≤ length tb
 
 -- what is wrong, in room of k bytes: the first of these, in this order
 pub data Refusal (s : Bytes) (ta tb : List ℤ) (k : ℕ) : ℕ → ℕ → ℕ → Type 0 where
