@@ -1,0 +1,11 @@
+-- What the contracts cite
+pub mod Catalogue
+pub mod Promise
+-- Laws for the proofs
+pub mod Bridge
+pub mod Sizes
+pub mod Measuring
+pub mod Writing
+pub mod Filling
+-- Samples
+pub mod Samples
