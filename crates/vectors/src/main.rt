@@ -61,7 +61,12 @@ fn read_rows(kind: u32, s: &[u8], a: u32, b: u32, atoms: &mut [i32], bonds: &mut
     if bonds.len() / 6 < b as usize {
         return false;
     }
-    answer_read(kind as u8, s, &mut atoms[0..16 * a as usize], &mut bonds[0..6 * b as usize]);
+    answer_read(
+        kind as u8,
+        s,
+        &mut atoms[0..16 * a as usize],
+        &mut bonds[0..6 * b as usize],
+    );
     true
 }
 
@@ -79,6 +84,24 @@ fn read_case(s: &[u8], at: usize, atoms: &mut [i32], bonds: &mut [i32]) -> Next 
         return Next::At(e);
     }
     Next::Bad
+}
+
+// fetch NAME_SIZE SIZE
+fn fetch_case(s: &[u8], at: usize) -> Next {
+    let mut n = [0u32; 2];
+    let Next::At(from) = cases::head(s, at, &mut n) else {
+        return Next::Bad;
+    };
+    let h = cases::block_end(s, from, n[0]);
+    if h <= from {
+        return Next::Bad;
+    }
+    let e = cases::block_end(s, h, n[1]);
+    if e <= h {
+        return Next::Bad;
+    }
+    print::found(fetch::find_item(&s[h..e - 1], &s[from..h - 1]));
+    Next::At(e)
 }
 
 // What a record is written from, beside the tables: counts, lines of the tables, sizes of the blocks.
@@ -111,7 +134,16 @@ fn write_blocks(
     let headers = &s[from..h - 1];
     let items = &s[h..e - 1];
     cases::fresh_room(room);
-    print::written(writer::write_record(atoms, bonds, given.n, given.m, given.chiral, headers, items, room));
+    print::written(writer::write_record(
+        atoms,
+        bonds,
+        given.n,
+        given.m,
+        given.chiral,
+        headers,
+        items,
+        room,
+    ));
     print::room(room);
     print::line_end();
     Next::At(e)
@@ -174,7 +206,14 @@ fn write_case(s: &[u8], at: usize, atoms: &mut [i32], bonds: &mut [i32], room: &
     if room.len() < r {
         return Next::Bad;
     }
-    write_atoms(s, from, given, &mut atoms[0..16 * a], &mut bonds[0..6 * b], &mut room[0..r])
+    write_atoms(
+        s,
+        from,
+        given,
+        &mut atoms[0..16 * a],
+        &mut bonds[0..6 * b],
+        &mut room[0..r],
+    )
 }
 
 // The case at `at`.
@@ -186,6 +225,10 @@ fn answer_case(s: &[u8], at: usize, atoms: &mut [i32], bonds: &mut [i32], room: 
     let read = cases::word_end(s, at, b"read ");
     if 0 < read {
         return read_case(s, read, atoms, bonds);
+    }
+    let fetch = cases::word_end(s, at, b"fetch ");
+    if 0 < fetch {
+        return fetch_case(s, fetch);
     }
     let write = cases::word_end(s, at, b"write ");
     if 0 < write {

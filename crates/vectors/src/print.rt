@@ -1,4 +1,5 @@
 // The lines that are printed.
+use fetch::Found;
 use read::RecordRead;
 use walk::Answer;
 use writer::Written;
@@ -65,6 +66,21 @@ pub fn was_read(r: RecordRead) {
         }
         RecordRead::Refused { no, line, column } => refused(no, line, column),
     }
+}
+
+pub fn found(f: Found) {
+    match f {
+        Found::Item { from, to } => {
+            say(b"found");
+            place(from);
+            place(to);
+        }
+        Found::Refused { no, line, column } => {
+            refused(no, line, column);
+            say(b" stretch 0 0");
+        }
+    }
+    line_end();
 }
 
 pub fn written(w: Written) {
