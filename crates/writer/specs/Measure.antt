@@ -76,7 +76,7 @@ module _ (g : Given) (h : Headers) (is : List Item) where
       (ap text (items-lines is) ∙ text-append (itemLines is) (closeText ∷ []))
       ∙ append-assoc (headersText h) body (itemsText is ++ closeLine))
 
-  text-length : length (headersText h) + bodySize (g .n) (g .m) (g .atoms) + length (itemsText is) + 5 ≡ length (canonText (handed g h is))
+  pub text-length : length (headersText h) + bodySize (g .n) (g .m) (g .atoms) + length (itemsText is) + 5 ≡ length (canonText (handed g h is))
   text-length =
       sym
       (ap length (sym text-parts)

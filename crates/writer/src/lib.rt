@@ -67,8 +67,15 @@ fn judge_tail(atoms: &[i32], n: u32, m: u32, items: &[u8], headers: usize, room:
     }
 }
 
-// Header lines, items, then the room.
-fn judge_parts(atoms: &[i32], n: u32, m: u32, headers: &[u8], items: &[u8], room: usize) -> Written
+// Header lines, items, then the room, of tables that can be written: a record that was read is measured so.
+pub fn judge_parts(
+    atoms: &[i32],
+    n: u32,
+    m: u32,
+    headers: &[u8],
+    items: &[u8],
+    room: usize,
+) -> Written
     requires { ⌜ (16 * n ≤ length (now atoms)) × ((n ≤ limit) × (m ≤ limit)) ⌝ }
     ensures { λ r. ⌜ r ≡ afterHeaders (bodySize n m (now (atoms .entry))) room (writtenItems (now (items .entry))) (writtenHeaders (now (headers .entry))) ⌝ }
 {
