@@ -1,3 +1,10 @@
 pub mod Find
 pub mod Position
+pub mod Passing
 pub mod Hunting
+pub mod Promise
+pub mod Joined
+pub mod First
+pub mod Agree
+pub mod Beyond
+pub mod Samples

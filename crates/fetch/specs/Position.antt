@@ -1,8 +1,8 @@
 -- Laws on positions of lines, and on what a part of a record takes from the front of some lines.
-use Prim.Native.Nat.{ℕ, zero, suc, _+_, _-_, _≤_, _<_}
+use Prim.Native.Nat.{ℕ, zero, suc, _+_, _≤_}
 use native.Mathlib.Omega.{arith}
 use mathlib.Core.Path.{_≡_, refl, sym, ap, _∙_, subst}
-use mathlib.Core.List.{List, [], _∷_}
+use mathlib.Core.List.{List, _∷_}
 use lib.ListN.{length, drop, length-drop}
 use lib.Seq.{drop-drop}
 use Rattle.text.specs.Text.{Bytes, Line}
@@ -50,7 +50,7 @@ pub end-is : (s : Bytes) (at e n : ℕ) → lineAt s at ≡ LineAt.Line e n → 
 unfolding lineEnd
 end-is s at e n h = rw (h, lineEnd)
 
-end-within : (s : Bytes) (at : ℕ) → at ≤ length s → (at ≤ lineEnd s at) × (lineEnd s at ≤ length s)
+pub end-within : (s : Bytes) (at : ℕ) → at ≤ length s → (at ≤ lineEnd s at) × (lineEnd s at ≤ length s)
 unfolding lineEnd
 end-within s at h = go (lineAt s at) refl
   where
@@ -73,10 +73,10 @@ pub record Past (n : ℕ) (t r : List Line) : Type 0 where
   pub rest : r ≡ drop n t
   pub some : n ≤ length t
 
-past-none : (t : List Line) → Past 0 t t
+pub past-none : (t : List Line) → Past 0 t t
 past-none t = record { rest = refl; some = omega arith }
 
-past-more : (n : ℕ) (l : Line) (t r : List Line) → Past n t r → Past (suc n) (l ∷ t) r
+pub past-more : (n : ℕ) (l : Line) (t r : List Line) → Past n t r → Past (suc n) (l ∷ t) r
 past-more n l t r p = record { rest = p .rest; some = omega (arith, p .some) }
 
 pub past-join : (m n : ℕ) (t u r : List Line) → Past m t u → Past n u r → Past (m + n) t r

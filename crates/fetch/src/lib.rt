@@ -4,7 +4,8 @@ ghost use Prim.Native.Nat.{_*_, _≤_};
 ghost use lib.ListN.{length};
 ghost use Rattle.lines.specs.Judge.{itemOf};
 ghost use Rattle.entries.specs.Listed.{places};
-ghost use Rattle.fetch.specs.Find.{titledAs, titleBy, valuesAt, numbersOf, foundOf, partOf, ItemsStart};
+ghost use Rattle.fetch.specs.Find.{titledAs, titleBy, valuesAt, numbersOf, foundOf, ItemsStart};
+ghost use Rattle.fetch.specs.Promise.{Promised, Handed};
 use entries::LISTED;
 use items::ItemRead;
 use items::ValueRead;
@@ -145,7 +146,7 @@ fn find_with(
 
 // Where the value lines of the first item of a name stand in the record that the bytes begin with.
 pub fn find_item(s: &[u8], name: &[u8]) -> Found
-    ensures { λ r. ⌜ numbersOf r ≡ foundOf (now (s .entry)) (now (name .entry)) ⌝ }
+    ensures { λ r. ⌜ Promised (now (s .entry)) (now (name .entry)) (numbersOf r) ⌝ }
 {
     let mut atoms = [0i32; 4080];
     let mut bonds = [0i32; 1530];
@@ -155,7 +156,7 @@ pub fn find_item(s: &[u8], name: &[u8]) -> Found
 
 // Those value lines themselves, as a part of the caller's bytes: nothing where the fetch is refused.
 pub fn fetch<'a>(s: &'a [u8], name: &[u8]) -> &'a [u8]
-    ensures { λ r. ⌜ now r ≡ partOf (foundOf (now (s .entry)) (now (name .entry))) (now (s .entry)) ⌝ }
+    ensures { λ r. ⌜ Handed (now (s .entry)) (now (name .entry)) (now r) ⌝ }
 {
     match find_item(s, name) {
         Found::Item { from, to } => &s[from..to],

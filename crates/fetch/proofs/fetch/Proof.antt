@@ -1,5 +1,6 @@
 -- `fetch::fetch` meets its contract.
 use Rattle.fetch.specs.Hunting.{part-laws}
+use Rattle.fetch.specs.Agree.{promise-laws}
 use borrow.Author.Needs.{needs}
 use Rattle.fetch.proofs.fetch.Statement.{statement}
 use Rattle.fetch.proofs.fetch.Tie as tie
@@ -32,10 +33,10 @@ part-result-end-2 : tie.Need-part-result-end-2
 part-result-end-2 c = search needs
 
 returns : tie.Need-returns
-returns c = search (needs, part-laws)
+returns c = search (needs, part-laws, promise-laws)
 
 returns-2 : tie.Need-returns-2
-returns-2 c = search (needs, part-laws)
+returns-2 c = search (needs, part-laws, promise-laws)
 
 pub fetch-spec : {M : Type 1} → statement M
 fetch-spec =

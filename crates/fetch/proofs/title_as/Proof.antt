@@ -1,5 +1,5 @@
 -- `fetch::title_as` meets its contract.
-use Rattle.fetch.specs.Hunting.{name-laws}
+use Rattle.fetch.specs.Passing.{name-laws}
 use borrow.Author.Needs.{needs}
 use Rattle.fetch.proofs.title_as.Statement.{statement}
 use Rattle.fetch.proofs.title_as.Tie as tie

@@ -1,5 +1,5 @@
 -- `fetch::title_line` meets its contract.
-use Rattle.fetch.specs.Hunting.{title-laws}
+use Rattle.fetch.specs.Passing.{title-laws}
 use borrow.Author.Needs.{needs}
 use Rattle.fetch.proofs.title_line.Statement.{statement}
 use Rattle.fetch.proofs.title_line.Tie as tie

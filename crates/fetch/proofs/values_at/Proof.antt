@@ -2,7 +2,7 @@
 use borrow.Author.Needs.{needs}
 use Prim.Native.Nat.{_-_}
 use lib.ListN.{length}
-use Rattle.fetch.specs.Hunting.{Passing, passing-laws}
+use Rattle.fetch.specs.Passing.{Passing, passing-laws}
 use Rattle.fetch.proofs.values_at.Statement.{statement}
 use Rattle.fetch.proofs.values_at.Tie as tie
 
