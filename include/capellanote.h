@@ -89,13 +89,23 @@ void capellanote_find(const capellanote_byte *text, capellanote_size text_length
    Judged in this order: 2, 21, header lines, items, 20; a line counts within the part refused.
    Accepted: answer = { 0, length of the text, 0 }: the text stands at the front of the room, and the rest of it is as it was.
    Refused: nothing is written. */
-void capellanote_write(const capellanote_int *atoms, capellanote_size atoms_length,
-                       const capellanote_int *bonds, capellanote_size bonds_length,
-                       capellanote_count atom_count, capellanote_count bond_count, capellanote_count chiral,
-                       const capellanote_byte *headers, capellanote_size headers_length,
-                       const capellanote_byte *items, capellanote_size items_length,
-                       capellanote_byte *room, capellanote_size room_length,
-                       capellanote_size answer[3]);
+void capellanote_write_record(const capellanote_int *atoms, capellanote_size atoms_length,
+                              const capellanote_int *bonds, capellanote_size bonds_length,
+                              capellanote_count atom_count, capellanote_count bond_count, capellanote_count chiral,
+                              const capellanote_byte *headers, capellanote_size headers_length,
+                              const capellanote_byte *items, capellanote_size items_length,
+                              capellanote_byte *room, capellanote_size room_length,
+                              capellanote_size answer[3]);
+
+/* The canonical text of a whole SDfile; the tables are for the work in between.
+   Judged in this order: 2, the file, 20 on the whole text.
+   Accepted: answer = { 0, length of the text, number of records }: the text stands at the front of the room, and the rest of it is as it was.
+   Refused: nothing is written to the room. Except after 2, the first 255 rows of both tables end as zeros. */
+void capellanote_write_catalogue(const capellanote_byte *text, capellanote_size text_length,
+                                 capellanote_int *atoms, capellanote_size atoms_length,
+                                 capellanote_int *bonds, capellanote_size bonds_length,
+                                 capellanote_byte *room, capellanote_size room_length,
+                                 capellanote_size answer[3]);
 
 #ifdef __cplusplus
 }

@@ -101,7 +101,7 @@ static int refused(const size *answer)
 
 static void check_case(void)
 {
-    size answer[3], kind = below(256), length = below(65536);
+    size answer[3], kind = below(256), length = below(MOST);
     capellanote_check(kind, block(length), length, answer);
     if (!refused(answer))
         printf("accepted %lu", answer[1]);
@@ -109,7 +109,7 @@ static void check_case(void)
 
 static void read_case(void)
 {
-    size answer[9], kind = below(256), a = 16 * below(ROWS + 1), b = 6 * below(ROWS + 1), length = below(65536);
+    size answer[9], kind = below(256), a = 16 * below(ROWS + 1), b = 6 * below(ROWS + 1), length = below(MOST);
     fresh(atoms, a);
     fresh(bonds, b);
     capellanote_read(kind, block(length), length, atoms, a, bonds, b, answer);
@@ -120,7 +120,7 @@ static void read_case(void)
 
 static void fetch_case(void)
 {
-    size answer[3], name_length = below(65536), length = below(65536);
+    size answer[3], name_length = below(MOST), length = below(65536);
     unsigned char *name = block(name_length);
     capellanote_find(block(length), length, name, name_length, answer);
     if (refused(answer))
@@ -132,7 +132,7 @@ static void fetch_case(void)
 static void write_case(void)
 {
     size answer[3], n = number(), m = number(), chiral = number(), a = 16 * below(ROWS + 1), b = 6 * below(ROWS + 1);
-    size rows = 16 * below(a / 16 + 1), more = 6 * below(b / 6 + 1), h = below(65536), i = below(65536), r = below(65536);
+    size rows = 16 * below(a / 16 + 1), more = 6 * below(b / 6 + 1), h = below(MOST), i = below(MOST), r = below(sizeof room);
     fresh(atoms, a);
     fresh(bonds, b);
     fresh_room(r);
@@ -141,16 +141,30 @@ static void write_case(void)
     for (size k = 0; k < more; k++)
         bonds[k] = number();
     unsigned char *headers = block(h), *items = block(i);
-    capellanote_write(atoms, a, bonds, b, n, m, chiral, headers, h, items, i, room, r, answer);
+    capellanote_write_record(atoms, a, bonds, b, n, m, chiral, headers, h, items, i, room, r, answer);
     if (!refused(answer))
         printf("accepted %lu", answer[1]);
     print_room(r);
 }
 
+static void catalogue_case(void)
+{
+    size answer[3], a = 16 * below(ROWS + 1), b = 6 * below(ROWS + 1), r = below(sizeof room), length = below(MOST);
+    fresh(atoms, a);
+    fresh(bonds, b);
+    fresh_room(r);
+    capellanote_write_catalogue(block(length), length, atoms, a, bonds, b, room, r, answer);
+    if (!refused(answer))
+        printf("accepted %lu", answer[1]);
+    print_room(r);
+    print_tables(a, b);
+}
+
 static void answer_case(void)
 {
     static const struct { const char *word; size length; void (*answer)(void); } operations[] = {
-        { "check ", 6, check_case }, { "read ", 5, read_case }, { "fetch ", 6, fetch_case }, { "write ", 6, write_case } };
+        { "check ", 6, check_case }, { "read ", 5, read_case }, { "fetch ", 6, fetch_case }, { "write ", 6, write_case },
+        { "catalogue ", 10, catalogue_case } };
     for (size k = 0; k < sizeof operations / sizeof *operations; k++)
         if (strncmp(at, operations[k].word, operations[k].length) == 0) {
             at += operations[k].length;

@@ -232,14 +232,18 @@ MAKERS = [make_check] * 35 + [make_read] * 25 + [make_fetch] * 10 + [make_write]
     make_catalogue] * 8
 
 
-def make_cases(seed, count, operations=tuple(OPERATIONS)):
+def case_list(seed, count, operations):
     rng = random.Random(seed)
     cases = list(fixed_cases(rng)) + list(sweeps(rng, count // 6))
     cases = [case for case in cases if operation_of(case) in operations]
     makers = [make for make in MAKERS if make.__name__[5:] in operations]
     while len(cases) < count:
         cases.append(rng.choice(makers)(rng))
-    return b"".join(cases[:count])
+    return cases[:count]
+
+
+def make_cases(seed, count, operations=tuple(OPERATIONS)):
+    return b"".join(case_list(seed, count, operations))
 
 
 def tally(expected):

@@ -13,6 +13,7 @@ use Rattle.fetch.specs.Find as Fetch
 use Rattle.writer.specs.declared.Written.{Written}
 use Rattle.writer.specs.Write.{Given, writeOf}
 use Rattle.writer.specs.Promise.{Promise}
+use Rattle.catalogue.specs.declared.Catalogue.{Catalogue}
 
 -- 0, records, 0
 unfoldable pub checkNumbers : Check.Said → List ℕ
@@ -33,6 +34,11 @@ foundNumbers (Fetch.refused e i column) = e ∷ (i ∷ (column ∷ []))
 unfoldable pub writtenNumbers : Written → List ℕ
 writtenNumbers (Written.Done length) = 0 ∷ (length ∷ (0 ∷ []))
 writtenNumbers (Written.Refused e i column) = e ∷ (i ∷ (column ∷ []))
+
+-- 0, length, records
+unfoldable pub catalogueNumbers : Catalogue → List ℕ
+catalogueNumbers (Catalogue.Done length records) = 0 ∷ (length ∷ (records ∷ []))
+catalogueNumbers (Catalogue.Refused e i column) = e ∷ (i ∷ (column ∷ []))
 
 -- ---- The arrays say what the functions answer
 
@@ -73,7 +79,16 @@ module _ (x : Written) where
   unfolding writtenNumbers
   written-refused e i column h = ap writtenNumbers (sym h)
 
-pub ruleset array-laws = (check-accepted, check-refused, read-accepted, read-refused, found-item, found-refused, written-done, written-refused)
+module _ (x : Catalogue) where
+  pub catalogue-done : (length records : ℕ) → x ≡ Catalogue.Done length records → 0 ∷ (length ∷ (records ∷ [])) ≡ catalogueNumbers x
+  unfolding catalogueNumbers
+  catalogue-done length records h = ap catalogueNumbers (sym h)
+
+  pub catalogue-refused : (e i column : ℕ) → x ≡ Catalogue.Refused e i column → e ∷ (i ∷ (column ∷ [])) ≡ catalogueNumbers x
+  unfolding catalogueNumbers
+  catalogue-refused e i column h = ap catalogueNumbers (sym h)
+
+pub ruleset array-laws = (check-accepted, check-refused, read-accepted, read-refused, found-item, found-refused, written-done, written-refused, catalogue-done, catalogue-refused)
 
 -- and so what their contracts say
 module _ (out : List ℕ) where

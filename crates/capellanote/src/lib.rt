@@ -7,7 +7,9 @@ ghost use Rattle.read.specs.Read.{readOf, atomsAfter, bondsAfter};
 ghost use Rattle.fetch.specs.Find.{foundOf};
 ghost use Rattle.fetch.specs.Find.{numbersOf as itemOf};
 ghost use Rattle.writer.specs.Write.{writeOf, roomAfter};
-ghost use Rattle.capellanote.specs.Numbers.{checkNumbers, readNumbers, foundNumbers, writtenNumbers};
+ghost use Rattle.catalogue.specs.Catalogue.{catalogueOf, roomAfter as catalogueRoom, atomsAfter as workAtoms, bondsAfter as workBonds};
+ghost use Rattle.capellanote.specs.Numbers.{checkNumbers, readNumbers, foundNumbers, writtenNumbers, catalogueNumbers};
+use catalogue::Catalogue;
 use fetch::Found;
 use read::RecordRead;
 use walk::Answer;
@@ -70,6 +72,15 @@ fn of_written(w: Written) -> [u64; 3]
     }
 }
 
+fn of_catalogue(c: Catalogue) -> [u64; 3]
+    ensures { λ r. ⌜ r ≡ catalogueNumbers c ⌝ }
+{
+    match c {
+        Catalogue::Done { length, records } => [0, length as u64, records as u64],
+        Catalogue::Refused { no, line, column } => [no as u64, line as u64, column as u64],
+    }
+}
+
 // A whole file: kind 0 is a molfile, kind 1 an SDfile.
 #[no_mangle]
 pub extern "C" fn capellanote_check(kind: u8, s: &[u8], answer: &mut [u64; 3])
@@ -104,7 +115,7 @@ pub extern "C" fn capellanote_find(s: &[u8], name: &[u8], answer: &mut [u64; 3])
 
 // The canonical text of a record, at the front of the room.
 #[no_mangle]
-pub extern "C" fn capellanote_write(
+pub extern "C" fn capellanote_write_record(
     atoms: &[i32],
     bonds: &[i32],
     n: u32,
@@ -119,4 +130,21 @@ pub extern "C" fn capellanote_write(
     ensures { λ _. ⌜ now (room .exit) ≡ roomAfter (record { atoms = now (atoms .entry); bonds = now (bonds .entry); n = n; m = m; chiral = chiral; headers = now (headers .entry); items = now (items .entry) }) (now (room .entry)) ⌝ }
 {
     *answer = of_written(writer::write_record(atoms, bonds, n, m, chiral, headers, items, room));
+}
+
+// The canonical text of a whole SDfile, at the front of the room.
+#[no_mangle]
+pub extern "C" fn capellanote_write_catalogue(
+    s: &[u8],
+    atoms: &mut [i32],
+    bonds: &mut [i32],
+    room: &mut [u8],
+    answer: &mut [u64; 3],
+)
+    ensures { λ _. ⌜ now (answer .exit) ≡ catalogueNumbers (catalogueOf (now (atoms .entry)) (now (bonds .entry)) (now (s .entry)) (length (now (room .entry)))) ⌝ }
+    ensures { λ _. ⌜ now (room .exit) ≡ catalogueRoom (now (atoms .entry)) (now (bonds .entry)) (now (s .entry)) (now (room .entry)) ⌝ }
+    ensures { λ _. ⌜ now (atoms .exit) ≡ workAtoms (now (atoms .entry)) (now (bonds .entry)) ⌝ }
+    ensures { λ _. ⌜ now (bonds .exit) ≡ workBonds (now (atoms .entry)) (now (bonds .entry)) ⌝ }
+{
+    *answer = of_catalogue(catalogue::write_catalogue(s, atoms, bonds, room));
 }

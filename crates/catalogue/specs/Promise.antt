@@ -219,9 +219,9 @@ module _ (s : Bytes) (ta₀ tb₀ : List ℤ) (r₀ : Bytes) where
         accepted = λ l c. (
           (λ h. done-by s ta₀ tb₀ k l c (found s ta₀ tb₀ k) (sym e ∙ h)),
           (λ x.
-            e ∙ ap answerBy (by-good s ta₀ tb₀ k (x .1) (x .0) (x .2) (omega (arith, x .3, x .5)))
-            ∙ ap (λ (n : ℕ). Catalogue.Done n (length (x .0))) (sym (x .3))
-            ∙ ap (Catalogue.Done l) (sym (x .4))),
+              e ∙ ap answerBy (by-good s ta₀ tb₀ k (x .1) (x .0) (x .2) (omega (arith, x .3, x .5)))
+              ∙ ap (λ (n : ℕ). Catalogue.Done n (length (x .0))) (sym (x .3))
+              ∙ ap (Catalogue.Done l) (sym (x .4))),
         );
         written = λ xs y g h. f ∙ ap (roomBy r₀) (by-good s ta₀ tb₀ k y xs g h);
         refused = λ n j d. ((λ h. refused-by s ta₀ tb₀ k n j d (found s ta₀ tb₀ k) (sym e ∙ h)), (λ h. e ∙ ap answerBy (by-refusal s ta₀ tb₀ k h)));

@@ -216,6 +216,52 @@ fn write_case(s: &[u8], at: usize, atoms: &mut [i32], bonds: &mut [i32], room: &
     )
 }
 
+fn answer_catalogue(s: &[u8], atoms: &mut [i32], bonds: &mut [i32], room: &mut [u8]) {
+    cases::fresh_table(atoms);
+    cases::fresh_table(bonds);
+    cases::fresh_room(room);
+    print::catalogued(catalogue::write_catalogue(s, atoms, bonds, room));
+    print::room(room);
+    print::tables(atoms, bonds);
+}
+
+// catalogue ATOM_ROOM BOND_ROOM ROOM SIZE
+fn catalogue_case(
+    s: &[u8],
+    at: usize,
+    atoms: &mut [i32],
+    bonds: &mut [i32],
+    room: &mut [u8],
+) -> Next {
+    let mut n = [0u32; 4];
+    let Next::At(from) = cases::head(s, at, &mut n) else {
+        return Next::Bad;
+    };
+    let e = cases::block_end(s, from, n[3]);
+    if e <= from {
+        return Next::Bad;
+    }
+    let a = wide(n[0]);
+    let b = wide(n[1]);
+    let r = wide(n[2]);
+    if atoms.len() / 16 < a {
+        return Next::Bad;
+    }
+    if bonds.len() / 6 < b {
+        return Next::Bad;
+    }
+    if room.len() < r {
+        return Next::Bad;
+    }
+    answer_catalogue(
+        &s[from..e - 1],
+        &mut atoms[0..16 * a],
+        &mut bonds[0..6 * b],
+        &mut room[0..r],
+    );
+    Next::At(e)
+}
+
 // The case at `at`.
 fn answer_case(s: &[u8], at: usize, atoms: &mut [i32], bonds: &mut [i32], room: &mut [u8]) -> Next {
     let check = cases::word_end(s, at, b"check ");
@@ -233,6 +279,10 @@ fn answer_case(s: &[u8], at: usize, atoms: &mut [i32], bonds: &mut [i32], room: 
     let write = cases::word_end(s, at, b"write ");
     if 0 < write {
         return write_case(s, write, atoms, bonds, room);
+    }
+    let catalogue = cases::word_end(s, at, b"catalogue ");
+    if 0 < catalogue {
+        return catalogue_case(s, catalogue, atoms, bonds, room);
     }
     Next::Bad
 }

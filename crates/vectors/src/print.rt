@@ -1,4 +1,5 @@
 // The lines that are printed.
+use catalogue::Catalogue;
 use fetch::Found;
 use read::RecordRead;
 use walk::Answer;
@@ -90,6 +91,16 @@ pub fn written(w: Written) {
             place(length);
         }
         Written::Refused { no, line, column } => refused(no, line, column),
+    }
+}
+
+pub fn catalogued(c: Catalogue) {
+    match c {
+        Catalogue::Done { length, records: _ } => {
+            say(b"accepted");
+            place(length);
+        }
+        Catalogue::Refused { no, line, column } => refused(no, line, column),
     }
 }
 

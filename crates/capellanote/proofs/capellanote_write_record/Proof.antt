@@ -1,8 +1,8 @@
--- `capellanote::capellanote_write` meets its contract.
+-- `capellanote::capellanote_write_record` meets its contract.
 use Rattle.capellanote.specs.Numbers.{told-laws}
 use borrow.Author.Needs.{needs}
-use Rattle.capellanote.proofs.capellanote_write.Statement.{statement}
-use Rattle.capellanote.proofs.capellanote_write.Tie as tie
+use Rattle.capellanote.proofs.capellanote_write_record.Statement.{statement}
+use Rattle.capellanote.proofs.capellanote_write_record.Tie as tie
 
 write-record-requires : tie.Need-write-record-requires
 write-record-requires c κs = search needs
@@ -16,6 +16,6 @@ same-length c = search needs
 returns : tie.Need-returns
 returns c = search (needs, told-laws)
 
-pub capellanote-write-spec : {M : Type 1} → statement M
-capellanote-write-spec =
+pub capellanote-write-record-spec : {M : Type 1} → statement M
+capellanote-write-record-spec =
     tie.close (tie.spec write-record-requires of-written-requires same-length returns)
