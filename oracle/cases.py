@@ -6,6 +6,7 @@ from writer import write_catalogue, write_record
 MODULUS = 4294967291        # the greatest prime below 2**32
 FACTOR = 65599
 OFFSET = 2147483649         # makes every i32 positive, and never 0
+MOST_BYTES = 2_000_000      # of a block; the vectors program takes a file of a little more
 SPLIT_ATOMS, SPLIT_BONDS = 255 * 16, 255 * 6
 
 
@@ -32,7 +33,7 @@ def head(*words):
 
 
 def block(data):
-    assert len(data) < 65536
+    assert len(data) < MOST_BYTES
     return data + b"\n"
 
 

@@ -1,6 +1,6 @@
 """Cases for the gate's vectors program, with the lines it has to print.
 
-    python3 vectors.py SEED N OUT      writes OUT.cases and OUT.expected
+    python3 vectors.py SEED N OUT [OPERATION..]     writes OUT.cases and OUT.expected, of these operations or of all
     python3 vectors.py --check OUT     answers OUT.cases again and compares
 
 The same seed gives the same bytes. The format is in docs/VECTORS.md.
@@ -11,7 +11,7 @@ import re
 import sys
 from collections import Counter
 
-from cases import answers, catalogue_case, check_case, fetch_case, read_case, write_case
+from cases import OPERATIONS, answers, catalogue_case, check_case, fetch_case, read_case, write_case
 from damage import AIMED_NUMBERS, aimed, blind, damaged, surplus, truncated
 from generate import (NAMES, all_symbols, draft_record, file_rows, good_drafts, plain_bytes,
                       record_rows, to_bytes)
@@ -224,16 +224,26 @@ def fixed_cases(rng):
     yield catalogue_case(255, 255, len(catalogue_text(many)) + 9, many)
 
 
+def operation_of(case):
+    return case[:case.index(b" ")].decode()
+
+
 MAKERS = [make_check] * 35 + [make_read] * 25 + [make_fetch] * 10 + [make_write] * 22 + [
     make_catalogue] * 8
 
 
-def make_cases(seed, count):
+def case_list(seed, count, operations):
     rng = random.Random(seed)
     cases = list(fixed_cases(rng)) + list(sweeps(rng, count // 6))
+    cases = [case for case in cases if operation_of(case) in operations]
+    makers = [make for make in MAKERS if make.__name__[5:] in operations]
     while len(cases) < count:
-        cases.append(rng.choice(MAKERS)(rng))
-    return b"".join(cases[:count])
+        cases.append(rng.choice(makers)(rng))
+    return cases[:count]
+
+
+def make_cases(seed, count, operations=tuple(OPERATIONS)):
+    return b"".join(case_list(seed, count, operations))
 
 
 def tally(expected):
@@ -244,8 +254,8 @@ def tally(expected):
     return {number: (times[number], spots[number]) for number in range(1, 23)}
 
 
-def main(seed, count, out):
-    data = make_cases(seed, count)
+def main(seed, count, out, operations):
+    data = make_cases(seed, count, operations or tuple(OPERATIONS))
     expected = answers(data)
     with open(out + ".cases", "wb") as file:
         file.write(data)
@@ -269,4 +279,4 @@ def check_again(out):
 if __name__ == "__main__":
     if sys.argv[1] == "--check":
         sys.exit(check_again(sys.argv[2]))
-    sys.exit(main(int(sys.argv[1]), int(sys.argv[2]), sys.argv[3]))
+    sys.exit(main(int(sys.argv[1]), int(sys.argv[2]), sys.argv[3], sys.argv[4:]))

@@ -1,0 +1,114 @@
+/* Capellanote for C: a proved reader and writer of CTfile V2000 molfiles and SDfiles.
+
+   Build: `rt staticlib capellanote` writes target/staticlib/libcapellanote.a for x86-64 Linux. It needs memset and nothing else.
+
+   Memory
+     The library keeps nothing between calls and asks for no memory of its own but about 30 kB of stack.
+     Memory that is lent to one call must not overlap, and nothing else may write it until the call returns.
+     A pointer is never null, also where its length is 0, and points to memory that is aligned for its type.
+     Lengths count elements: bytes for text, numbers for tables. No length may pass 2^63 - 1 bytes.
+
+   Answers
+     answer[0] is 0, or the number of the refusal; answer[1] and answer[2] are then its line and column,
+     both counted from 1, and 0 where the refusal names no line.
+
+   Refusals
+      1  kind is neither 0 nor 1
+      2  the atom or bond table has room for fewer than 255
+      3  line too long (column 81, or 201 where a value line may stand)
+      4  byte not allowed (allowed are 32 to 126)
+      5  reserved tag in the first header line
+      6  version isn't V2000
+      7  field malformed
+      8  number outside its range or list
+      9  symbol unknown
+     10  bond ends equal
+     11  pair of atoms bonded twice
+     12  more bonds than pairs of atoms
+     13  property line that isn't M  CHG, M  RAD, M  ISO or M  END
+     14  atom listed twice in one property
+     15  a column that has to be a space isn't
+     16  neither a data header nor a $$$$ line where one must stand
+     17  a $$$$ line or a data header where a value line or a blank line must stand
+     18  a line after a molfile's M  END, or after the third header line handed to the writer
+     19  cut short
+     20  the room lent is shorter than the canonical text
+     21  tables not writable
+     22  record good, no item of that name
+
+   Tables
+     An atom is 16 numbers: x, y, z in ten-thousandths, symbol (1 to 118 by atomic number, 119 A, 120 Q, 121 *, 122 LP),
+     mass difference, charge, radical, isotope, parity, hydrogen count, stereo care, valence, H0, map, inversion, exact change.
+     A bond is 6: first atom, second atom (counted from 1), type, stereo, topology, reacting centre.
+     Tables need room for 255 atoms and 255 bonds, whatever the record has. */
+
+#ifndef CAPELLANOTE_H
+#define CAPELLANOTE_H
+
+#ifdef __cplusplus
+extern "C" {
+#endif
+
+typedef unsigned char capellanote_byte;
+typedef int capellanote_int;            /* 32 bits, signed */
+typedef unsigned int capellanote_count; /* 32 bits */
+typedef unsigned long capellanote_size; /* 64 bits */
+typedef char capellanote_widths[sizeof(capellanote_int) == 4 && sizeof(capellanote_size) == 8 ? 1 : -1];
+
+enum { CAPELLANOTE_MOLFILE = 0, CAPELLANOTE_SDFILE = 1 };
+
+/* Places in an atom's and in a bond's row, and what 255 rows take. */
+enum { CAPELLANOTE_ATOM = 16, CAPELLANOTE_BOND = 6, CAPELLANOTE_ATOMS = 255 * 16, CAPELLANOTE_BONDS = 255 * 6 };
+
+/* A whole file.
+   Accepted: answer = { 0, number of records, 0 }. Nothing else is written. */
+void capellanote_check(capellanote_byte kind,
+                       const capellanote_byte *text, capellanote_size text_length,
+                       capellanote_size answer[3]);
+
+/* One record. The text of an SDfile's record begins where the record begins, and what follows its $$$$ line is not looked at;
+   a molfile's record is the whole text.
+   Accepted: answer = { 0, atoms, bonds, chiral, bytes of the record, lines of the record,
+   end of the header lines, start of the items, end of the items }: header lines begin at 0, ends are just past the last byte.
+   The tables hold the rows, and zeros up to 255. Refused: answer[3] to answer[8] are 0; after 1 and 2 the tables are as they were,
+   after any other number their first 255 rows are zeros. Table memory past 255 rows is never written. */
+void capellanote_read(capellanote_byte kind,
+                      const capellanote_byte *text, capellanote_size text_length,
+                      capellanote_int *atoms, capellanote_size atoms_length,
+                      capellanote_int *bonds, capellanote_size bonds_length,
+                      capellanote_size answer[9]);
+
+/* The values of the first item of that name in an SDfile's record.
+   Found: answer = { 0, start, end } in the text, from the first value line's start to the last one's end, with the line ends between;
+   both 0 where the item has no value lines. */
+void capellanote_find(const capellanote_byte *text, capellanote_size text_length,
+                      const capellanote_byte *name, capellanote_size name_length,
+                      capellanote_size answer[3]);
+
+/* The canonical text of a record. Header lines (exactly three) and data items come as they stand in a file.
+   Judged in this order: 2, 21, header lines, items, 20; a line counts within the part refused.
+   Accepted: answer = { 0, length of the text, 0 }: the text stands at the front of the room, and the rest of it is as it was.
+   Refused: nothing is written. */
+void capellanote_write_record(const capellanote_int *atoms, capellanote_size atoms_length,
+                              const capellanote_int *bonds, capellanote_size bonds_length,
+                              capellanote_count atom_count, capellanote_count bond_count, capellanote_count chiral,
+                              const capellanote_byte *headers, capellanote_size headers_length,
+                              const capellanote_byte *items, capellanote_size items_length,
+                              capellanote_byte *room, capellanote_size room_length,
+                              capellanote_size answer[3]);
+
+/* The canonical text of a whole SDfile; the tables are for the work in between.
+   Judged in this order: 2, the file, 20 on the whole text.
+   Accepted: answer = { 0, length of the text, number of records }: the text stands at the front of the room, and the rest of it is as it was.
+   Refused: nothing is written to the room. Except after 2, the first 255 rows of both tables end as zeros. */
+void capellanote_write_catalogue(const capellanote_byte *text, capellanote_size text_length,
+                                 capellanote_int *atoms, capellanote_size atoms_length,
+                                 capellanote_int *bonds, capellanote_size bonds_length,
+                                 capellanote_byte *room, capellanote_size room_length,
+                                 capellanote_size answer[3]);
+
+#ifdef __cplusplus
+}
+#endif
+
+#endif
