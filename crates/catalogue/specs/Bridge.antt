@@ -23,7 +23,7 @@ use Rattle.judge.specs.WalkText.{afterLines, text-room}
 use Rattle.walk.specs.Outcome.{Outcome, whole, refused, ofOne, outcomeOf}
 use Rattle.walk.specs.Stands.{moleculeLines}
 use Rattle.walk.specs.Walked.{walkedBy, walkOf, Beside}
-use Rattle.put.specs.Rows.{rowsOf}
+use Rattle.rules.specs.Rows.{rowsOf}
 use Rattle.read.specs.declared.RecordRead.{RecordRead}
 use Rattle.read.specs.Read.{rowsIn, answered, atomRows, bondRowsOf, atomsBy, bondsBy, readAs, atomsAs, bondsAs, readOf, atomsAfter, bondsAfter}
 use Rattle.read.specs.Promise.{Begins, Told}
