@@ -43,6 +43,22 @@ fn lf_in_block(s: &[u8], at: usize) -> usize
     w
 }
 
+// The first LF of the sixteen bytes from `at` on, or the position after them.
+fn lf_of_block(s: &[u8], at: usize) -> usize
+    requires { ⌜ at + 16 ≤ length (now s) ⌝ }
+    ensures { λ r. ⌜ Passed isLf (now (s .entry)) at r ⌝ }
+{
+    let mut k: usize = 0;
+    while k < 16 {
+        let b = s[at + k];
+        if b == b'\n' {
+            return at + k;
+        }
+        k += 1;
+    }
+    at + 16
+}
+
 // A position from `at` on before which there is no LF: whole blocks without one are passed.
 fn near_lf(s: &[u8], at: usize) -> usize
     requires { ⌜ at ≤ length (now s) ⌝ }
@@ -51,7 +67,7 @@ fn near_lf(s: &[u8], at: usize) -> usize
     let mut i = at;
     while s.len() - i >= 16 {
         if lf_in_block(s, i) != 0 {
-            return i;
+            return lf_of_block(s, i);
         }
         i += 16;
     }
@@ -136,6 +152,20 @@ fn bad_in_block(line: &[u8], at: usize) -> usize
     w
 }
 
+// A position from i on, near the end of the line, before which all bytes are allowed. The last sixteen are asked at once, some of them again.
+fn near_end(line: &[u8], i: usize) -> usize
+    requires { ⌜ (i ≤ length (now line)) × (length (now line) ≤ i + 16) ⌝ }
+    ensures { λ r. ⌜ Passed isBad (now (line .entry)) i r ⌝ }
+{
+    if line.len() < 16 {
+        return i;
+    }
+    if bad_in_block(line, line.len() - 16) != 0 {
+        return i;
+    }
+    line.len()
+}
+
 // A position before which all bytes are allowed: whole blocks of allowed bytes are passed.
 fn near_bad(line: &[u8]) -> usize
     ensures { λ r. ⌜ Passed isBad (now (line .entry)) 0 r ⌝ }
@@ -147,7 +177,7 @@ fn near_bad(line: &[u8]) -> usize
         }
         i += 16;
     }
-    i
+    near_end(line, i)
 }
 
 // The column of the first byte that is not allowed.
