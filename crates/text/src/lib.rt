@@ -27,6 +27,14 @@ pub fn column(line: &[u8], i: usize) -> u8
     if k < line.len() { line[k] } else { b' ' }
 }
 
+// The byte in column i, where the line has one.
+pub fn inner_column(line: &[u8], i: usize) -> u8
+    requires { ⌜ (1 ≤ i) × (i ≤ length (now line)) ⌝ }
+    ensures { λ r. ⌜ r ≡ column (now (line .entry)) i ⌝ }
+{
+    line[i - 1]
+}
+
 // Not 0 where one of the sixteen bytes from `at` on is an LF. A block is never left early: so it compiles to one vector test.
 fn lf_in_block(s: &[u8], at: usize) -> usize
     requires { ⌜ at + 16 ≤ length (now s) ⌝ }
