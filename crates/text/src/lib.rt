@@ -1,5 +1,6 @@
 // Lines of a text and columns of a line.
 ghost use mathlib.Core.Path.{_≡_};
+ghost use mathlib.Core.Bool.{true};
 ghost use Prim.Native.Nat.{_+_, _≤_, _<_};
 ghost use lib.ListN.{length, drop};
 ghost use Rattle.text.specs.Columns.{column};
@@ -240,4 +241,20 @@ pub fn has_text(line: &[u8], i: usize, text: &[u8]) -> bool
         k += 1;
     }
     true
+}
+
+// 0 only where the columns from column i on, which the line has, are this text. They are all compared, which compiles to a few vector tests.
+pub fn text_differs(line: &[u8], i: usize, text: &[u8]) -> usize
+    requires { ⌜ (1 ≤ i) × (i + length (now text) ≤ length (now line) + 1) ⌝ }
+    ensures { λ r. ⌜ (r ≡ 0 → hasText (now (line .entry)) i (now (text .entry)) ≡ true) ⌝ }
+{
+    let mut w: usize = 0;
+    let mut k: usize = 0;
+    while k < text.len() {
+        if inner_column(line, i + k) != text[k] {
+            w = 1;
+        }
+        k += 1;
+    }
+    w
 }
