@@ -293,11 +293,28 @@ pub fn put_sized(out: &mut [u8], at: usize, width: usize, minus: bool, k: u32)
     }
 }
 
-// A number without negatives, right-aligned in `width` columns from position `at` on.
+// Two spaces and a digit.
+fn put_digit(out: &mut [u8], at: usize, k: u32)
+    requires { ⌜ (at + 3 ≤ length (now out)) × (k ≤ 9) ⌝ }
+    ensures { λ _. ⌜ now (out .exit) ≡ sets (now (out .entry)) at (numberText 3 k) ⌝ }
+{
+    let digit = 48 + k as u8;
+    out[at] = 32;
+    out[at + 1] = 32;
+    out[at + 2] = digit;
+}
+
+// A number without negatives, right-aligned in `width` columns from position `at` on: most often a digit in three.
 pub fn put_number(out: &mut [u8], at: usize, width: usize, k: u32)
     requires { ⌜ at + width ≤ length (now out) ⌝ }
     ensures { λ _. ⌜ now (out .exit) ≡ sets (now (out .entry)) at (numberText width k) ⌝ }
 {
+    if width == 3 {
+        if k <= 9 {
+            put_digit(out, at, k);
+            return;
+        }
+    }
     put_sized(out, at, width, false, k);
 }
 

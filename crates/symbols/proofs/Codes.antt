@@ -118,6 +118,21 @@ module _ (x : ℕ) where
 
 pub ruleset usual-laws = (carbon, nitrogen, oxygen)
 
+module _ (k : ℕ) where
+  pub carbon-code : k ≡ 6 → 0x432020 ≡ getD codes (k - 1) 0
+  unfolding codes columnsFor
+  carbon-code e = rw e
+
+  pub nitrogen-code : k ≡ 7 → 0x4e2020 ≡ getD codes (k - 1) 0
+  unfolding codes columnsFor
+  nitrogen-code e = rw e
+
+  pub oxygen-code : k ≡ 8 → 0x4f2020 ≡ getD codes (k - 1) 0
+  unfolding codes columnsFor
+  oxygen-code e = rw e
+
+pub ruleset usual-codes = (carbon-code, nitrogen-code, oxygen-code)
+
 -- ---- A code gives its bytes back
 
 -- below the length the default does not matter

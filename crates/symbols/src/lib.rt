@@ -197,11 +197,28 @@ pub fn symbol(line: &[u8], i: usize) -> SymbolRead
     symbol_of((a as u32) * 65536 + (b as u32) * 256 + (c as u32))
 }
 
-fn code_at(k: u32) -> u32
+fn any_code(k: u32) -> u32
     requires { ⌜ (1 ≤ k) × (k ≤ 122) ⌝ }
     ensures { λ r. ⌜ r ≡ getD codes (k - 1) 0 ⌝ }
 {
     CODES[(k - 1) as usize]
+}
+
+// The code of a number, the usual ones without the table.
+fn code_at(k: u32) -> u32
+    requires { ⌜ (1 ≤ k) × (k ≤ 122) ⌝ }
+    ensures { λ r. ⌜ r ≡ getD codes (k - 1) 0 ⌝ }
+{
+    if k == 6 {
+        return 0x432020;
+    }
+    if k == 7 {
+        return 0x4e2020;
+    }
+    if k == 8 {
+        return 0x4f2020;
+    }
+    any_code(k)
 }
 
 // Writes the three columns of symbol k.
