@@ -11,3 +11,4 @@ pub mod Agree
 pub mod Answer
 pub mod Steps
 pub mod Lists
+pub mod Usual

@@ -1,5 +1,6 @@
 // The lines of a record, judged one at a time: counts, atom and bond lines.
 ghost use mathlib.Core.Path.{_≡_};
+ghost use mathlib.Core.Bool.{true};
 ghost use Prim.Native.Nat.{_+_, _-_, _*_, _≤_};
 ghost use lib.Dec.{leb};
 ghost use Rattle.lines.specs.Field.{numberAt, signedAt, coordinateAt, symbolAt, listedAt, signedListedAt};
@@ -10,6 +11,7 @@ ghost use Rattle.numbers.specs.Number.{Between};
 ghost use Rattle.rules.specs.Forms.{stereos, centres};
 ghost use Rattle.lines.specs.Answer.{nextCentres, exactOf};
 ghost use Rattle.lines.specs.Field.{elem, elemSigned};
+ghost use Rattle.lines.specs.Usual.{AtomZeros, BondZeros, plainAtom, plainBond};
 use coordinates::CoordinateRead;
 use numbers::NumberRead;
 use numbers::SignedRead;
@@ -344,6 +346,39 @@ fn atom_rest(line: &[u8], n: u32, place: AtomPlace, codes: AtomCodes) -> AtomRea
     }
 }
 
+// Whether an atom line has zeros in columns 35 to 69 and nothing after them: most have.
+fn atom_zeros(line: &[u8]) -> bool
+    ensures { λ r. ⌜ (r ≡ true → AtomZeros (now (line .entry))) ⌝ }
+{
+    if line.len() < 69 {
+        return false;
+    }
+    if 69 < line.len() {
+        return false;
+    }
+    text::text_differs(line, 35, b" 0  0  0  0  0  0  0  0  0  0  0  0") == 0
+}
+
+fn plain_atom(place: AtomPlace) -> Atom
+    ensures { λ r. ⌜ r ≡ plainAtom place ⌝ }
+{
+    Atom {
+        place,
+        codes: AtomCodes {
+            mass_difference: 0,
+            charge_code: 0,
+            parity: 0,
+            hydrogen_count: 0,
+            stereo_care: 0,
+        },
+        valence: 0,
+        h0: 0,
+        atom_map: 0,
+        inversion: 0,
+        exact_change: 0,
+    }
+}
+
 // xxxxx.xxxxyyyyy.yyyyzzzzz.zzzz aaaddcccssshhhbbbvvvHHHrrriiimmmnnneee
 pub fn atom_line(line: &[u8], n: u32) -> AtomRead
     ensures { λ r. ⌜ atomGot r ≡ atomOf n (now (line .entry)) ⌝ }
@@ -354,6 +389,9 @@ pub fn atom_line(line: &[u8], n: u32) -> AtomRead
             return AtomRead::Bad { no, column };
         }
     };
+    if atom_zeros(line) {
+        return AtomRead::Is(plain_atom(place));
+    }
     match atom_codes(line) {
         CodesRead::Is(codes) => atom_rest(line, n, place, codes),
         CodesRead::Bad { no, column } => AtomRead::Bad { no, column },
@@ -493,6 +531,35 @@ fn bond_rest(line: &[u8], first: u32, second: u32, order: u32, stereo: u32) -> B
     }
 }
 
+// Whether a bond line has zeros in columns 10 to 21 and nothing after them.
+fn bond_zeros(line: &[u8]) -> bool
+    ensures { λ r. ⌜ (r ≡ true → BondZeros (now (line .entry))) ⌝ }
+{
+    if line.len() < 21 {
+        return false;
+    }
+    if 21 < line.len() {
+        return false;
+    }
+    text::text_differs(line, 10, b"  0  0  0  0") == 0
+}
+
+fn plain_bond(first: u32, second: u32, order: u32) -> BondRead
+    ensures { λ r. ⌜ bondGot r ≡ plainBond first second order ⌝ }
+{
+    if first == second {
+        return BondRead::Bad { no: 10, column: 1 };
+    }
+    BondRead::Is(Bond {
+        first,
+        second,
+        order,
+        stereo: 0,
+        topology: 0,
+        centre: 0,
+    })
+}
+
 // 111222tttsssxxxrrrccc
 pub fn bond_line(line: &[u8], n: u32) -> BondRead
     ensures { λ r. ⌜ bondGot r ≡ bondOf n (now (line .entry)) ⌝ }
@@ -515,6 +582,9 @@ pub fn bond_line(line: &[u8], n: u32) -> BondRead
             return BondRead::Bad { no, column };
         }
     };
+    if bond_zeros(line) {
+        return plain_bond(first, second, order);
+    }
     match stereo_field(line, order) {
         Field::Is(stereo) => bond_rest(line, first, second, order, stereo),
         Field::Bad { no, column } => BondRead::Bad { no, column },

@@ -6,6 +6,7 @@ use mathlib.Core.Path.{_≡_, refl, sym, ap, _∙_}
 use mathlib.Core.Bool.{Bool, true, false}
 use mathlib.Core.List.{[], _∷_, _++_}
 use lib.Dec.{ltb}
+use borrow.Author.Tests.{le-ltb}
 use lib.ListN.{length, set, length-set}
 use lib.Seq.{sets, set-comm}
 use Rattle.text.specs.Text.{Bytes}
@@ -65,5 +66,21 @@ module _ (out₀ : Bytes) (at width : ℕ) (minus : Bool) (k : ℕ) (out : Bytes
   writing-end h =
       let e : i - at ≡ 0 = omega arith in
       sym (w .same ∙ rw e)
+
+-- a digit in three columns
+digit-text : (k : ℕ) → k ≤ 9 → sizedText 3 false k ≡ 32 ∷ 32 ∷ (48 + k) ∷ []
+unfolding textBy
+digit-text k h =
+    let e : k % 10 ≡ k = omega arith in
+    rw (le-ltb 9 k h, e)
+
+pub digit-written : (out : Bytes) (at k : ℕ) → k ≤ 9 → set (set (set out at 32) (at + 1) 32) (at + 2) (48 + k) ≡ sets out at (sizedText 3 false k)
+digit-written out at k h =
+    let a : at + 1 ≡ suc at = omega arith in
+    let b : at + 2 ≡ suc (suc at) = omega arith in
+    rw (digit-text k h, a, b)
+
+pub three-columns : (out out₀ : Bytes) (at width k : ℕ) → width ≡ 3 → out ≡ sets out₀ at (sizedText 3 false k) → out ≡ sets out₀ at (sizedText width false k)
+three-columns out out₀ at width k w e = rw w e
 
 pub ruleset writing-laws = (writing-start, writing-digit, writing-sign, writing-space, writing-end)

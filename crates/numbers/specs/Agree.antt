@@ -19,7 +19,7 @@ pub and-true : (a b : Bool) → (a && b) ≡ true → (a ≡ true) × (b ≡ tru
 and-true true b h = (refl, h)
 and-true false b h = absurd (let z : _≡_ {A = ℕ} 0 1 = cc in omega arith)
 
-and-false : (a : Bool) → (a && false) ≡ false
+pub and-false : (a : Bool) → (a && false) ≡ false
 and-false true = refl
 and-false false = refl
 

@@ -53,6 +53,22 @@ pub fn spaces_end(line: &[u8], i: usize, e: usize) -> usize
     e
 }
 
+// The same in columns that the line has.
+pub fn inner_spaces_end(line: &[u8], i: usize, e: usize) -> usize
+    requires { ⌜ (1 ≤ i) × (i ≤ e) × (e ≤ length (now line) + 1) ⌝ }
+    ensures { λ r. ⌜ afterSpaces (columnsFor (now (line .entry)) i (e - i)) ≡ columnsFor (now (line .entry)) r (e - r) ⌝ }
+    ensures { λ r. ⌜ (i ≤ r) × (r ≤ e) ⌝ }
+{
+    let mut a = i;
+    while a < e {
+        if text::inner_column(line, a) != 32 {
+            return a;
+        }
+        a += 1;
+    }
+    e
+}
+
 // The digits in columns i to e - 1.
 pub fn digits(line: &[u8], i: usize, e: usize) -> Size
     requires { ⌜ (1 ≤ i) × (i ≤ e) × (e ≤ i + 9) ⌝ }
@@ -72,6 +88,30 @@ pub fn digits(line: &[u8], i: usize, e: usize) -> Size
             return Size::Malformed;
         }
         k = k * 10 + ((b - 48) as u32);
+        a += 1;
+    }
+    Size::Is(k)
+}
+
+// The same in columns that the line has.
+pub fn inner_digits(line: &[u8], i: usize, e: usize) -> Size
+    requires { ⌜ (1 ≤ i) × (i ≤ e) × (e ≤ i + 9) × (e ≤ length (now line) + 1) ⌝ }
+    ensures { λ r. ⌜ r ≡ sizeIn (columnsFor (now (line .entry)) i (e - i)) ⌝ }
+{
+    if e <= i {
+        return Size::Malformed;
+    }
+    let mut k: u32 = 0;
+    let mut a = i;
+    while a < e {
+        let d = text::inner_column(line, a);
+        if d < 48 {
+            return Size::Malformed;
+        }
+        if 57 < d {
+            return Size::Malformed;
+        }
+        k = k * 10 + ((d - 48) as u32);
         a += 1;
     }
     Size::Is(k)
@@ -253,11 +293,28 @@ pub fn put_sized(out: &mut [u8], at: usize, width: usize, minus: bool, k: u32)
     }
 }
 
-// A number without negatives, right-aligned in `width` columns from position `at` on.
+// Two spaces and a digit.
+fn put_digit(out: &mut [u8], at: usize, k: u32)
+    requires { ⌜ (at + 3 ≤ length (now out)) × (k ≤ 9) ⌝ }
+    ensures { λ _. ⌜ now (out .exit) ≡ sets (now (out .entry)) at (numberText 3 k) ⌝ }
+{
+    let digit = 48 + k as u8;
+    out[at] = 32;
+    out[at + 1] = 32;
+    out[at + 2] = digit;
+}
+
+// A number without negatives, right-aligned in `width` columns from position `at` on: most often a digit in three.
 pub fn put_number(out: &mut [u8], at: usize, width: usize, k: u32)
     requires { ⌜ at + width ≤ length (now out) ⌝ }
     ensures { λ _. ⌜ now (out .exit) ≡ sets (now (out .entry)) at (numberText width k) ⌝ }
 {
+    if width == 3 {
+        if k <= 9 {
+            put_digit(out, at, k);
+            return;
+        }
+    }
     put_sized(out, at, width, false, k);
 }
 

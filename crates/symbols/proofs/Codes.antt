@@ -101,6 +101,38 @@ symbol-found l i a b c p q r a< b< c< =
     let e : a ∷ b ∷ c ∷ [] ≡ column l i ∷ column l (i + 1) ∷ column l (i + 2) ∷ [] = cc in
     ap symbolIn (three-columns l i ∙ sym e) ∙ symbol-code a b c a< b< c<
 
+-- ---- The usual symbols
+
+module _ (x : ℕ) where
+  pub carbon : x ≡ 0x432020 → Is 6 ≡ numberOf x 1 codes
+  unfolding numberOf codes columnsFor
+  carbon e = rw e
+
+  pub nitrogen : x ≡ 0x4e2020 → Is 7 ≡ numberOf x 1 codes
+  unfolding numberOf codes columnsFor
+  nitrogen e = rw e
+
+  pub oxygen : x ≡ 0x4f2020 → Is 8 ≡ numberOf x 1 codes
+  unfolding numberOf codes columnsFor
+  oxygen e = rw e
+
+pub ruleset usual-laws = (carbon, nitrogen, oxygen)
+
+module _ (k : ℕ) where
+  pub carbon-code : k ≡ 6 → 0x432020 ≡ getD codes (k - 1) 0
+  unfolding codes columnsFor
+  carbon-code e = rw e
+
+  pub nitrogen-code : k ≡ 7 → 0x4e2020 ≡ getD codes (k - 1) 0
+  unfolding codes columnsFor
+  nitrogen-code e = rw e
+
+  pub oxygen-code : k ≡ 8 → 0x4f2020 ≡ getD codes (k - 1) 0
+  unfolding codes columnsFor
+  oxygen-code e = rw e
+
+pub ruleset usual-codes = (carbon-code, nitrogen-code, oxygen-code)
+
 -- ---- A code gives its bytes back
 
 -- below the length the default does not matter

@@ -163,6 +163,29 @@ fn find_code(table: &[u32], code: u32) -> SymbolRead
     SymbolRead::Unknown
 }
 
+// The number of a code. Each use lays the table out anew.
+fn any_symbol(code: u32) -> SymbolRead
+    ensures { λ r. ⌜ r ≡ numberOf code 1 codes ⌝ }
+{
+    find_code(&CODES, code)
+}
+
+// The usual ones, C, N and O, without the table.
+fn symbol_of(code: u32) -> SymbolRead
+    ensures { λ r. ⌜ r ≡ numberOf code 1 codes ⌝ }
+{
+    if code == 0x432020 {
+        return SymbolRead::Is(6);
+    }
+    if code == 0x4e2020 {
+        return SymbolRead::Is(7);
+    }
+    if code == 0x4f2020 {
+        return SymbolRead::Is(8);
+    }
+    any_symbol(code)
+}
+
 // The symbol in columns i to i + 2.
 pub fn symbol(line: &[u8], i: usize) -> SymbolRead
     requires { ⌜ (1 ≤ i) × (i ≤ 1000) ⌝ }
@@ -171,14 +194,31 @@ pub fn symbol(line: &[u8], i: usize) -> SymbolRead
     let a = column_at(line, i);
     let b = column_at(line, i + 1);
     let c = column_at(line, i + 2);
-    find_code(&CODES, (a as u32) * 65536 + (b as u32) * 256 + (c as u32))
+    symbol_of((a as u32) * 65536 + (b as u32) * 256 + (c as u32))
 }
 
-fn code_at(k: u32) -> u32
+fn any_code(k: u32) -> u32
     requires { ⌜ (1 ≤ k) × (k ≤ 122) ⌝ }
     ensures { λ r. ⌜ r ≡ getD codes (k - 1) 0 ⌝ }
 {
     CODES[(k - 1) as usize]
+}
+
+// The code of a number, the usual ones without the table.
+fn code_at(k: u32) -> u32
+    requires { ⌜ (1 ≤ k) × (k ≤ 122) ⌝ }
+    ensures { λ r. ⌜ r ≡ getD codes (k - 1) 0 ⌝ }
+{
+    if k == 6 {
+        return 0x432020;
+    }
+    if k == 7 {
+        return 0x4e2020;
+    }
+    if k == 8 {
+        return 0x4f2020;
+    }
+    any_code(k)
 }
 
 // Writes the three columns of symbol k.

@@ -8,7 +8,7 @@ use lib.ListN.{length, getD, drop, length-drop}
 use borrow.Author.Tests.{eq-eqb, ne-eqb}
 use Rattle.text.specs.Text.{Bytes, Line, LF, byte}
 use Rattle.text.specs.Find.{firstFrom, isLf, isBad, isInk, badColumn, inkColumn, lineTo, lineAt, isBlank}
-use Rattle.text.specs.First.{first-hit, first-miss, first-none, first-within}
+use Rattle.text.specs.First.{first-hit, first-miss, first-none, first-within, nothing-later}
 use Rattle.text.specs.Agree.{ink-none, blank-is}
 use Rattle.text.specs.Search.{Passed}
 use Rattle.text.specs.declared.Found.{Found}
@@ -51,6 +51,15 @@ module _ (p : ℕ → Bool) (s : Bytes) where
   block-over i k n a h g =
       let e : k ≡ n = omega arith in
       rw e at a
+
+  -- the last sixteen bytes, where fewer are left from i on
+  pub passed-last : (i : ℕ) → Passed p s (length s - 16) (length s - 16 + 16) → 16 ≤ length s → length s ≤ i + 16 → Passed p s i (length s)
+  unfolding Passed
+  passed-last i a h g o =
+      let e : length s ≤ length s - 16 + 16 = omega arith in
+      let l : length s - 16 ≤ i = omega arith in
+      nothing-later p s (length s - 16) i (length s - 16 + o) (i + o) (a o ∙ first-none p s (length s - 16 + 16) (length s - 16 + 16 + o) e) l
+      ∙ sym (first-none p s (length s) (length s + o) (omega arith))
 
 -- the first LF: positions count from 0
 module _ (s : Bytes) (at i : ℕ) where
@@ -122,6 +131,8 @@ pub blank-ink : (l : Line) (v : Found) (k : ℕ) → v ≡ inkColumn l 1 → v �
 blank-ink l v k e n = blank-by l k (isBlank l) refl (sym e ∙ n)
 
 pub ruleset blank-laws = (blank-none, blank-ink)
+
+pub ruleset block-laws = (block-start, block-next, block-over)
 
 pub ruleset lf-laws = (passed-start, passed-next, lf-hit, lf-over, eq-eqb, ne-eqb)
 

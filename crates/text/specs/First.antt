@@ -1,12 +1,12 @@
 -- Laws on the search for the first byte that passes a test, for any test.
-use Prim.Native.Nat.{ℕ, suc, _+_, _-_, _≤_, _<_}
+use Prim.Native.Nat.{ℕ, zero, suc, _+_, _-_, _≤_, _<_}
 use native.Mathlib.Numerals.{add-one}
 use native.Mathlib.Omega.{arith}
-use mathlib.Core.Path.{_≡_, refl}
+use mathlib.Core.Path.{_≡_, refl, ap, subst, _∙_}
 use mathlib.Core.Bool.{Bool, true, false, cond}
 use mathlib.Core.List.{[], _∷_}
 use lib.ListN.{length, getD, take, drop, drop-of-length-le}
-use lib.Seq.{drop-cons}
+use lib.Seq.{drop-cons, drop-drop}
 use Rattle.text.specs.Text.{Bytes, Each}
 use Rattle.text.specs.Find.{firstFrom}
 use Rattle.text.specs.declared.Found.the-variants.{At, Nothing}
@@ -96,3 +96,16 @@ pub nothing-first : (p : ℕ → Bool) (i : ℕ) (xs : Bytes) → Each (λ b. p 
 unfolding firstFrom Each
 nothing-first p i [] e = refl
 nothing-first p i (x ∷ xs) e = rw (e .0) (nothing-first p (suc i) xs (e .1))
+
+-- nothing is found from a later place on either
+each-drop : (P : ℕ → Type 0) (k : ℕ) (xs : Bytes) → Each P xs → Each P (drop k xs)
+unfolding Each
+each-drop P zero xs e = e
+each-drop P (suc k) [] e = tt
+each-drop P (suc k) (x ∷ xs) e = each-drop P k xs (e .1)
+
+pub nothing-later : (p : ℕ → Bool) (xs : Bytes) (i j k m : ℕ) → firstFrom p k (drop i xs) ≡ Nothing → i ≤ j → firstFrom p m (drop j xs) ≡ Nothing
+nothing-later p xs i j k m h g =
+    let e : i + (j - i) ≡ j = omega arith in
+    let d : drop (j - i) (drop i xs) ≡ drop j xs = drop-drop (j - i) i xs ∙ ap (λ (n : ℕ). drop n xs) e in
+    nothing-first p m (drop j xs) (subst (Each (Fails p)) d (each-drop (Fails p) (j - i) (drop i xs) (first-nothing p k (drop i xs) h)))

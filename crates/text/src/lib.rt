@@ -1,5 +1,6 @@
 // Lines of a text and columns of a line.
 ghost use mathlib.Core.Path.{_≡_};
+ghost use mathlib.Core.Bool.{true};
 ghost use Prim.Native.Nat.{_+_, _≤_, _<_};
 ghost use lib.ListN.{length, drop};
 ghost use Rattle.text.specs.Columns.{column};
@@ -27,6 +28,14 @@ pub fn column(line: &[u8], i: usize) -> u8
     if k < line.len() { line[k] } else { b' ' }
 }
 
+// The byte in column i, where the line has one.
+pub fn inner_column(line: &[u8], i: usize) -> u8
+    requires { ⌜ (1 ≤ i) × (i ≤ length (now line)) ⌝ }
+    ensures { λ r. ⌜ r ≡ column (now (line .entry)) i ⌝ }
+{
+    line[i - 1]
+}
+
 // Not 0 where one of the sixteen bytes from `at` on is an LF. A block is never left early: so it compiles to one vector test.
 fn lf_in_block(s: &[u8], at: usize) -> usize
     requires { ⌜ at + 16 ≤ length (now s) ⌝ }
@@ -43,6 +52,22 @@ fn lf_in_block(s: &[u8], at: usize) -> usize
     w
 }
 
+// The first LF of the sixteen bytes from `at` on, or the position after them.
+fn lf_of_block(s: &[u8], at: usize) -> usize
+    requires { ⌜ at + 16 ≤ length (now s) ⌝ }
+    ensures { λ r. ⌜ Passed isLf (now (s .entry)) at r ⌝ }
+{
+    let mut k: usize = 0;
+    while k < 16 {
+        let b = s[at + k];
+        if b == b'\n' {
+            return at + k;
+        }
+        k += 1;
+    }
+    at + 16
+}
+
 // A position from `at` on before which there is no LF: whole blocks without one are passed.
 fn near_lf(s: &[u8], at: usize) -> usize
     requires { ⌜ at ≤ length (now s) ⌝ }
@@ -51,7 +76,7 @@ fn near_lf(s: &[u8], at: usize) -> usize
     let mut i = at;
     while s.len() - i >= 16 {
         if lf_in_block(s, i) != 0 {
-            return i;
+            return lf_of_block(s, i);
         }
         i += 16;
     }
@@ -136,6 +161,20 @@ fn bad_in_block(line: &[u8], at: usize) -> usize
     w
 }
 
+// A position from i on, near the end of the line, before which all bytes are allowed. The last sixteen are asked at once, some of them again.
+fn near_end(line: &[u8], i: usize) -> usize
+    requires { ⌜ (i ≤ length (now line)) × (length (now line) ≤ i + 16) ⌝ }
+    ensures { λ r. ⌜ Passed isBad (now (line .entry)) i r ⌝ }
+{
+    if line.len() < 16 {
+        return i;
+    }
+    if bad_in_block(line, line.len() - 16) != 0 {
+        return i;
+    }
+    line.len()
+}
+
 // A position before which all bytes are allowed: whole blocks of allowed bytes are passed.
 fn near_bad(line: &[u8]) -> usize
     ensures { λ r. ⌜ Passed isBad (now (line .entry)) 0 r ⌝ }
@@ -147,7 +186,7 @@ fn near_bad(line: &[u8]) -> usize
         }
         i += 16;
     }
-    i
+    near_end(line, i)
 }
 
 // The column of the first byte that is not allowed.
@@ -202,4 +241,20 @@ pub fn has_text(line: &[u8], i: usize, text: &[u8]) -> bool
         k += 1;
     }
     true
+}
+
+// 0 only where the columns from column i on, which the line has, are this text. They are all compared, which compiles to a few vector tests.
+pub fn text_differs(line: &[u8], i: usize, text: &[u8]) -> usize
+    requires { ⌜ (1 ≤ i) × (i + length (now text) ≤ length (now line) + 1) ⌝ }
+    ensures { λ r. ⌜ (r ≡ 0 → hasText (now (line .entry)) i (now (text .entry)) ≡ true) ⌝ }
+{
+    let mut w: usize = 0;
+    let mut k: usize = 0;
+    while k < text.len() {
+        if inner_column(line, i + k) != text[k] {
+            w = 1;
+        }
+        k += 1;
+    }
+    w
 }

@@ -1,14 +1,14 @@
 -- A pair of atoms as one number, the same in either direction, and the search for it among the pairs before.
-use Prim.Native.Nat.{ℕ, suc, _+_, _*_, _≤_, _<_}
+use Prim.Native.Nat.{ℕ, zero, suc, _+_, _-_, _*_, _≤_, _<_}
 use native.Mathlib.Omega.{arith}
 use native.Mathlib.Numerals.{add-one}
-use mathlib.Core.Path.{_≡_, refl, sym, ap, _∙_}
+use mathlib.Core.Path.{_≡_, refl, sym, ap, _∙_, subst}
 use mathlib.Core.List.{List, [], _∷_, _++_, map}
 use mathlib.Core.Bool.{Bool, true, false, cond}
 use lib.Dec.{eqb, ltb}
 use lib.ListN.{length, getD, take, drop, drop-of-length-le}
 use lib.Seq.{drop-cons, getD-take, length-take-le}
-use borrow.Author.Tests.{eq-eqb, ne-eqb, ltb-true, ltb-false}
+use borrow.Author.Tests.{eq-eqb, ne-eqb, eqb-true, eqb-false, ltb-true, ltb-false}
 use Rattle.rules.specs.Forms.{Bond}
 use Rattle.rules.specs.Record.{SamePair, along, against}
 use Rattle.pairs.specs.Taken.{samePair, pairTaken}
@@ -109,3 +109,35 @@ module _ (keys : List ℕ) (key count j : ℕ) (g : Searching keys key count j) 
   pub searching-end : count ≤ j → elem key (take count keys) ≡ false
   unfolding elem
   searching-end h = g .same ∙ rw (drop-of-length-le (take count keys) {i = j} (omega (arith, length-take-le count keys (g .room))))
+
+-- ---- Whole blocks without the key
+
+-- none of the keys from place i to before place j is this one
+pub record Missed (keys : List ℕ) (key i j : ℕ) : Type 0 where
+  pub none : (k : ℕ) → i ≤ k → k < j → getD keys k 0 ≡ key → ⊥
+
+pub missed-start : (keys : List ℕ) (key i : ℕ) → Missed keys key i (i + 0)
+missed-start keys key i = record { none = λ k low high e. omega arith }
+
+pub missed-next : (keys : List ℕ) (key i n : ℕ) → Missed keys key i (i + n) → (getD keys (i + n) 0 ≡ key → ⊥) → Missed keys key i (i + (n + 1))
+missed-next keys key i n g ne = record { none = λ k low high e. go k low high e (eqb k (i + n)) refl }
+  where
+    go : (k : ℕ) → i ≤ k → k < i + (n + 1) → getD keys k 0 ≡ key → (t : Bool) → eqb k (i + n) ≡ t → ⊥
+    go k low high e true q = ne (subst (λ (j : ℕ). getD keys j 0 ≡ key) (eqb-true k (i + n) q) e)
+    go k low high e false q = let d = eqb-false k (i + n) q in g .none k low (omega arith) e
+
+pub missed-all : (keys : List ℕ) (key i n : ℕ) → Missed keys key i (i + n) → n ≤ 8 → 8 ≤ n → Missed keys key i (i + 8)
+missed-all keys key i n g h l = let e : n ≡ 8 = omega arith in subst (λ (j : ℕ). Missed keys key i (i + j)) e g
+
+pub searching-block : (keys : List ℕ) (key count i n : ℕ) → Searching keys key count i → Missed keys key i (i + n) → i + n ≤ count → Searching keys key count (i + n)
+searching-block keys key count i zero g m h = let e : i ≡ i + 0 = omega arith in subst (Searching keys key count) e g
+searching-block keys key count i (suc n) g m h =
+    let one : i + n + 1 ≡ i + suc n = omega arith in
+    let before : Missed keys key i (i + n) = record { none = λ k low high e. m .none k low (omega arith) e } in
+    subst (Searching keys key count) one
+    (searching-next keys key count (i + n) (searching-block keys key count i n g before (omega arith)) (omega arith) (m .none (i + n) (omega arith) (omega arith)))
+
+pub searching-on : (keys : List ℕ) (key count i : ℕ) → Searching keys key count i → Missed keys key i (i + 8) → 8 ≤ count - i → Searching keys key count (i + 8)
+searching-on keys key count i g m h = searching-block keys key count i 8 g m (omega (arith, g .within))
+
+pub ruleset searching-laws = (missed-start, missed-next, searching-start, searching-on)

@@ -19,7 +19,7 @@ use Rattle.reader.specs.declared.Reader.{Reader}
 use Rattle.walk.specs.declared.Notes.{Notes}
 use Rattle.walk.specs.declared.Taken.{Taken}
 use Rattle.walk.specs.declared.Walked.{Walked}
-use Rattle.walk.specs.Keys.{pairKey, Searching, searching-start, searching-next, searching-found, searching-end}
+use Rattle.walk.specs.Keys.{pairKey, Searching, searching-next, searching-found, searching-end}
 use Rattle.walk.specs.Outcome.{refused, outcomeOf}
 use Rattle.walk.specs.Took.{bondMore, Took, Keeping}
 use Rattle.walk.specs.Stands.{kindOf}
@@ -35,11 +35,15 @@ pub record Pairing (sd : Bool) (s : Bytes) (r : Reader) (m : Notes) (n i : ℕ) 
 
 pub pairing-start : (sd : Bool) (s : Bytes) (ta₀ tb₀ : List ℤ) (r : Reader) (m : Notes) (at i : ℕ) (t keys : List ℕ) (ta tb : List ℤ)
     (g : Walking sd s ta₀ tb₀ r m at i t keys ta tb) (e n : ℕ) (o : LineAt) (found : o ≡ lineAt s at) (is : o ≡ LineAt.Line e n) (x : Taken) (r′ : Reader) (b : Bond) (t′ : List ℕ) (ta′ : List ℤ) →
-    Took r m n t ta (part s at e) x t′ ta′ → x ≡ Taken.Bond r′ b → (key : ℕ) →
-    key ≡ pairKey (b .first) (b .second) → Pairing sd s r′ m n i t′ keys ta′ tb b key (m .bonds) 0
-pairing-start sd s ta₀ tb₀ r m at i t keys ta tb g e n o found is x r′ b t′ ta′ k q key ek =
-    let h = bonding sd s ta₀ tb₀ r m at i t keys ta tb g e n o found is x r′ b t′ ta′ k q in
-    record { bond = h; key-of = ek; before = refl; searching = searching-start keys key (m .bonds) (omega (arith, h .few, h .key-room)) }
+    Took r m n t ta (part s at e) x t′ ta′ → x ≡ Taken.Bond r′ b → (key j : ℕ) →
+    key ≡ pairKey (b .first) (b .second) → Searching keys key (m .bonds) j → Pairing sd s r′ m n i t′ keys ta′ tb b key (m .bonds) j
+pairing-start sd s ta₀ tb₀ r m at i t keys ta tb g e n o found is x r′ b t′ ta′ k q key j ek search =
+    record {
+      bond = bonding sd s ta₀ tb₀ r m at i t keys ta tb g e n o found is x r′ b t′ ta′ k q;
+      key-of = ek;
+      before = refl;
+      searching = search;
+    }
 
 module _ (sd : Bool) (s : Bytes) (ta₀ tb₀ : List ℤ) (r : Reader) (m : Notes) (at i : ℕ) (t keys : List ℕ) (ta tb : List ℤ)
     (g : Walking sd s ta₀ tb₀ r m at i t keys ta tb) (e n : ℕ) (o : LineAt) (found : o ≡ lineAt s at) (is : o ≡ LineAt.Line e n) (x : Taken) (r′ : Reader) (b : Bond)
@@ -49,6 +53,9 @@ module _ (sd : Bool) (s : Bytes) (ta₀ tb₀ : List ℤ) (r : Reader) (m : Note
 
   pub second-small : b .second ≤ 999
   second-small = bonding sd s ta₀ tb₀ r m at i t keys ta tb g e n o found is x r′ b t′ ta′ k q .fits .second
+
+  pub few-before : m .bonds ≤ 255
+  few-before = let f = bonding sd s ta₀ tb₀ r m at i t keys ta tb g e n o found is x r′ b t′ ta′ k q .few in omega arith
 
 module _ (sd : Bool) (s : Bytes) (r : Reader) (m : Notes) (n i : ℕ) (t keys : List ℕ) (ta tb : List ℤ) (b : Bond) (key count j : ℕ)
     (g : Pairing sd s r m n i t keys ta tb b key count j) where
@@ -100,4 +107,4 @@ module _ (sd : Bool) (s : Bytes) (r : Reader) (m : Notes) (n i : ℕ) (t keys : 
   pub pairing-keeps : 1530 ≤ length tb → Keeping m b tb keys
   pairing-keeps h = record { few = g .bond .few; fits = g .bond .fits; room = h; key-room = g .bond .key-room }
 
-pub ruleset pair-laws = (pairing-start, first-small, second-small, pairing-next, pairing-within, pairing-found, found-left, pairing-end, pairing-keeps)
+pub ruleset pair-laws = (pairing-start, first-small, second-small, few-before, pairing-next, pairing-within, pairing-found, found-left, pairing-end, pairing-keeps)

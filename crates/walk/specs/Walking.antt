@@ -86,11 +86,11 @@ sd-kind : (sd : Bool) → sd ≡ isSd (kindOf sd)
 sd-kind true = refl
 sd-kind false = refl
 
-pub walking-start : (sd : Bool) (s : Bytes) (r : Reader) (t keys : List ℕ) (ta tb : List ℤ) → r ≡ begun sd → 4080 ≤ length ta → 1530 ≤ length tb → length keys ≡ 256 →
-    length t ≡ 3 * places → length s * 1 < 2 ^ 63 → Walking sd s ta tb r noNotes 0 1 t keys ta tb
+pub walking-start : (sd : Bool) (s : Bytes) (r : Reader) (m : Notes) (t keys : List ℕ) (ta tb : List ℤ) → r ≡ begun sd → m ≡ noNotes → 4080 ≤ length ta → 1530 ≤ length tb → length keys ≡ 256 →
+    length t ≡ 3 * places → length s * 1 < 2 ^ 63 → Walking sd s ta tb r m 0 1 t keys ta tb
 unfolding rawRows bondRows AllSmall
-walking-start sd s r t keys ta tb e ra rb rk rt few =
-    subst (λ (x : Reader). Walking sd s ta tb x noNotes 0 1 t keys ta tb) (sym e)
+walking-start sd s r m t keys ta tb e em ra rb rk rt few =
+    rw (e, em)
     (record {
       p = first;
       stands =
@@ -332,15 +332,13 @@ module _ (sd : Bool) (s : Bytes) (ta₀ tb₀ : List ℤ) (r : Reader) (m : Note
     items-end true p y sound turn = sym (g .start) ∙ ap (afterLines s 0) (omega (arith, g .line))
     items-end false p y sound turn = absurd (mol-open (turn-takes molfile limit p (part s at e) (J.done y) turn) sound)
 
-    pub walking-done : Walked.Whole (r .counts) n i (m .«header_end») (m .«items_start») at ≡ walkOf (kindOf sd) s
+    pub walking-done : (w : Walked) → w ≡ Walked.Whole (r .counts) n i (m .«header_end») (m .«items_start») at → w ≡ walkOf (kindOf sd) s
     unfolding walkOf
-    walking-done =
+    walking-done w ew =
         let o = finished-over in
         let ec : r .counts ≡ countsBack (o .y .molecule .counts) = ap countsBack (o .closed .counts) in
         let ee : at ≡ itemsEnd (kindOf sd) s (o .y .molecule) i = items-end sd (g .p) (o .y) (g .sound) (o .turn) in
-        sym
-        (ap (walkedBy (kindOf sd) s) over-is
-        ∙ whole-same (sym ec) (sym after) (sym (o .closed .headed)) (sym (o .closed .items)) (sym ee))
+        ew ∙ whole-same ec after (o .closed .headed) (o .closed .items) ee ∙ sym (ap (walkedBy (kindOf sd) s) over-is)
       where
         whole-same : {c c′ : Counts} {u u′ h h′ v v′ w w′ : ℕ} → c ≡ c′ → u ≡ u′ → h ≡ h′ → v ≡ v′ → w ≡ w′ → Walked.Whole c u i h v w ≡ Walked.Whole c′ u′ i h′ v′ w′
         whole-same a b c d f = cc

@@ -1,6 +1,6 @@
 // One record from the front of a text, a file walked record by record, and the check of a whole text.
 ghost use mathlib.Core.Path.{_≡_};
-ghost use Prim.Native.Nat.{ℕ, _-_, _*_, _≤_, _<_};
+ghost use Prim.Native.Nat.{ℕ, _+_, _*_, _≤_, _<_};
 ghost use lib.ListN.{length, set};
 ghost use lib.Seq.{sets};
 ghost use Rattle.rules.specs.Meaning.{bondNumbers};
@@ -8,11 +8,12 @@ ghost use Rattle.lines.specs.Answer.{bondIs};
 ghost use Rattle.entries.specs.Listed.{places};
 ghost use Rattle.judge.specs.Place.{molfile, sdfile};
 ghost use Rattle.reader.specs.Parts.{finished};
-ghost use Rattle.walk.specs.Keys.{pairKey};
+ghost use Rattle.walk.specs.Keys.{pairKey, Searching, Missed};
 ghost use Rattle.walk.specs.Outcome.{outcomeOf};
 ghost use Rattle.walk.specs.Took.{headedAt, endedAt, atomMore, bondMore, Ready, Took, Keeping};
 ghost use Rattle.walk.specs.Stands.{kindOf};
 ghost use Rattle.walk.specs.Walked.{walkOf, Left};
+ghost use Rattle.walk.specs.Walking.{noNotes};
 ghost use Rattle.walk.specs.AtEnd.{endWalked, endOf};
 ghost use Rattle.walk.specs.Promise.{numbersOf};
 ghost use Rattle.walk.specs.Checking.{saidOf, answerBy, Promised};
@@ -76,6 +77,17 @@ pub enum Answer {
 const KEYS: usize = 256;
 
 impl Notes {
+    fn new() -> Notes
+        ensures { λ r. ⌜ r ≡ noNotes ⌝ }
+    {
+        Notes {
+            atoms: 0,
+            bonds: 0,
+            header_end: 0,
+            items_start: 0,
+        }
+    }
+
     // After the third header line.
     fn headed(self, next: usize) -> Notes
         ensures { λ r. ⌜ r ≡ headedAt self next ⌝ }
@@ -138,6 +150,37 @@ fn pair_key(first: u32, second: u32) -> u32
     1024 * second + first
 }
 
+// Not 0 where one of the eight keys from `at` on is this one. A block is never left early: so it compiles to one vector test.
+fn key_in_block(keys: &[u32; KEYS], at: usize, key: u32) -> usize
+    requires { ⌜ (at + 8 ≤ 256) × (length (now keys) ≡ 256) ⌝ }
+    ensures { λ r. ⌜ (r ≡ 0 → Missed (now (keys .entry)) key at (at + 8)) ⌝ }
+{
+    let mut w: usize = 0;
+    let mut k: usize = 0;
+    while k < 8 {
+        if keys[at + k] == key {
+            w = 1;
+        }
+        k += 1;
+    }
+    w
+}
+
+// A place before which the key is none of the first `count`: whole blocks without it are passed.
+fn near_key(keys: &[u32; KEYS], count: usize, key: u32) -> usize
+    requires { ⌜ (count ≤ 255) × (length (now keys) ≡ 256) ⌝ }
+    ensures { λ r. ⌜ Searching (now (keys .entry)) key count r ⌝ }
+{
+    let mut i: usize = 0;
+    while count - i >= 8 {
+        if key_in_block(keys, i, key) != 0 {
+            return i;
+        }
+        i += 8;
+    }
+    i
+}
+
 // The row and the key of a bond, after those before it.
 fn keep_bond(notes: Notes, b: Bond, key: u32, bonds: &mut [i32], keys: &mut [u32; KEYS]) -> Notes
     requires { ⌜ Keeping notes b (now bonds) (now keys) ⌝ }
@@ -182,6 +225,21 @@ fn take_line(
         Step::Blank(r) => Taken::Next(r, notes),
         Step::Done => Taken::Done,
         Step::Refused { no, column } => Taken::Refused { no, column },
+    }
+}
+
+// A record whose `$$$$` line starts at `at`.
+fn closed(reader: Reader, notes: Notes, at: usize, line: usize, next: usize) -> Walked
+    ensures { λ r. ⌜ r ≡ Walked.Whole (reader .counts) next line (notes .«header_end») (notes .«items_start») at ⌝ }
+{
+    let counts = reader.counts;
+    Walked::Whole {
+        counts,
+        length: next,
+        lines: line,
+        header_end: notes.header_end,
+        items_start: notes.items_start,
+        items_end: at,
     }
 }
 
@@ -244,12 +302,7 @@ fn walk_lines(
     ensures { λ r. ⌜ Left (now (atoms .entry)) (now (atoms .exit)) (now (bonds .entry)) (now (bonds .exit)) (now (listed .exit)) (outcomeOf (kindOf sd) (now (s .entry))) ⌝ }
 {
     let mut reader = Reader::new(sd);
-    let mut notes = Notes {
-        atoms: 0,
-        bonds: 0,
-        header_end: 0,
-        items_start: 0,
-    };
+    let mut notes = Notes::new();
     let mut at: usize = 0;
     let mut line: usize = 1;
     let repeat = 'walk: loop {
@@ -266,7 +319,7 @@ fn walk_lines(
             Taken::Bond(r, b) => {
                 let key = pair_key(b.first, b.second);
                 let count = notes.bonds;
-                let mut j: usize = 0;
+                let mut j = near_key(keys, count, key);
                 while j < count {
                     if keys[j] == key {
                         break 'walk Repeat {
@@ -283,15 +336,7 @@ fn walk_lines(
                 line += 1;
             }
             Taken::Done => {
-                let counts = reader.counts;
-                return Walked::Whole {
-                    counts,
-                    length: next,
-                    lines: line,
-                    header_end: notes.header_end,
-                    items_start: notes.items_start,
-                    items_end: at,
-                };
+                return closed(reader, notes, at, line, next);
             }
             Taken::Refused { no, column } => {
                 return Walked::Refused { no, line, column };

@@ -6,8 +6,8 @@ use borrow.Author.Needs.{needs}
 use Rattle.coordinates.proofs.digits_at.Statement.{statement}
 use Rattle.coordinates.proofs.digits_at.Tie as tie
 
-digits-requires : tie.Need-digits-requires
-digits-requires c κs = search needs
+inner-digits-requires : tie.Need-inner-digits-requires
+inner-digits-requires c κs = search needs
 
 enum-known-whole : tie.Need-enum-known-whole
 enum-known-whole c = search needs
@@ -18,14 +18,14 @@ enum-told c = search needs
 returns : tie.Need-returns
 returns c = search (needs, digits-laws)
 
-add-digits : tie.Need-add-digits
-add-digits c = search needs
+add-inner-digits : tie.Need-add-inner-digits
+add-inner-digits c = search needs
 
-add-digits-2 : tie.Need-add-digits-2
-add-digits-2 c = search needs
+add-inner-digits-2 : tie.Need-add-inner-digits-2
+add-inner-digits-2 c = search needs
 
-digits-requires-2 : tie.Need-digits-requires-2
-digits-requires-2 c κs = search needs
+inner-digits-requires-2 : tie.Need-inner-digits-requires-2
+inner-digits-requires-2 c κs = search needs
 
 enum-known-part : tie.Need-enum-known-part
 enum-known-part c = search needs
@@ -43,8 +43,8 @@ small c =
     let w = second .before .before in
     let first = w .before .before in
     let a = first .before .before .args in (
-      size-range (a .line .now) (a .a) (a .p) 5 (w .whole .given .0 .0) (first .digits .result) (omega arith) (first .digits .ensures) (w .whole .given .1),
-      size-range (a .line .now) (a .p + 1) (a .p + 5) 4 (c .before .part .given .0 .0) (second .digits2 .result) (omega arith) (second .digits2 .ensures) (c .before .part .given .1),
+      size-range (a .line .now) (a .a) (a .p) 5 (w .whole .given .0 .0) (first .inner-digits .result) (omega arith) (first .inner-digits .ensures) (w .whole .given .1),
+      size-range (a .line .now) (a .p + 1) (a .p + 5) 4 (c .before .part .given .0 .0) (second .inner-digits2 .result) (omega arith) (second .inner-digits2 .ensures) (c .before .part .given .1),
     )
 
 mul-with-sign : tie.Need-mul-with-sign
@@ -63,13 +63,13 @@ pub digits-at-spec : {M : Type 1} → statement M
 digits-at-spec =
     tie.close
     (tie.spec
-    digits-requires
+    inner-digits-requires
     enum-known-whole
     enum-told
     returns
-    add-digits
-    add-digits-2
-    digits-requires-2
+    add-inner-digits
+    add-inner-digits-2
+    inner-digits-requires-2
     enum-known-part
     enum-told-2
     returns-2

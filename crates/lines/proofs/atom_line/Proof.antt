@@ -1,6 +1,7 @@
 -- `lines::atom_line` meets its contract.
-use Rattle.lines.specs.Steps.{atom-steps}
 use borrow.Author.Needs.{needs}
+use Rattle.lines.specs.Steps.{atom-steps}
+use Rattle.lines.specs.Usual.{atom-plain}
 use Rattle.lines.proofs.atom_line.Statement.{statement}
 use Rattle.lines.proofs.atom_line.Tie as tie
 
@@ -14,7 +15,16 @@ enum-known-no : tie.Need-enum-known-no
 enum-known-no c = search needs
 
 returns : tie.Need-returns
-returns c = search atom-steps depth 12 fits 20000
+returns c = search (atom-steps, atom-plain) depth 12 fits 20000
+
+atom-zeros-requires : tie.Need-atom-zeros-requires
+atom-zeros-requires c κs = search needs
+
+plain-atom-requires : tie.Need-plain-atom-requires
+plain-atom-requires c κs = search needs
+
+returns-2 : tie.Need-returns-2
+returns-2 c = search (atom-steps, atom-plain) depth 12 fits 20000
 
 atom-codes-requires : tie.Need-atom-codes-requires
 atom-codes-requires c κs = search needs
@@ -28,11 +38,11 @@ atom-rest-requires c κs = search needs
 enum-known-no-2 : tie.Need-enum-known-no-2
 enum-known-no-2 c = search needs
 
-returns-2 : tie.Need-returns-2
-returns-2 c = search atom-steps depth 12 fits 20000
-
 returns-3 : tie.Need-returns-3
-returns-3 c = search atom-steps depth 12 fits 20000
+returns-3 c = search (atom-steps, atom-plain) depth 12 fits 20000
+
+returns-4 : tie.Need-returns-4
+returns-4 c = search (atom-steps, atom-plain) depth 12 fits 20000
 
 pub atom-line-spec : {M : Type 1} → statement M
 atom-line-spec =
@@ -42,9 +52,12 @@ atom-line-spec =
     enum-known-p
     enum-known-no
     returns
+    atom-zeros-requires
+    plain-atom-requires
+    returns-2
     atom-codes-requires
     enum-known-codes
     atom-rest-requires
     enum-known-no-2
-    returns-2
-    returns-3)
+    returns-3
+    returns-4)

@@ -1,8 +1,9 @@
 -- `lines::bond_line` meets its contract.
+use borrow.Author.Needs.{needs}
 use Rattle.lines.specs.Steps.{steps}
 use Rattle.lines.specs.Judge.{bondOf}
 use Rattle.lines.specs.Answer.{bondFrom}
-use borrow.Author.Needs.{needs}
+use Rattle.lines.specs.Usual.{bond-plain}
 use Rattle.lines.proofs.bond_line.Statement.{statement}
 use Rattle.lines.proofs.bond_line.Tie as tie
 
@@ -45,6 +46,15 @@ returns-3 : tie.Need-returns-3
 unfolding bondOf bondFrom
 returns-3 c = search steps depth 24 fits 20000
 
+bond-zeros-requires : tie.Need-bond-zeros-requires
+bond-zeros-requires c κs = search needs
+
+plain-bond-requires : tie.Need-plain-bond-requires
+plain-bond-requires c κs = search needs
+
+returns-4 : tie.Need-returns-4
+returns-4 c = search bond-plain depth 12 fits 20000
+
 stereo-field-requires : tie.Need-stereo-field-requires
 stereo-field-requires c κs = search needs
 
@@ -57,13 +67,13 @@ bond-rest-requires c κs = search needs
 enum-known-no-4 : tie.Need-enum-known-no-4
 enum-known-no-4 c = search needs
 
-returns-4 : tie.Need-returns-4
-unfolding bondOf bondFrom
-returns-4 c = search steps depth 24 fits 20000
-
 returns-5 : tie.Need-returns-5
 unfolding bondOf bondFrom
 returns-5 c = search steps depth 24 fits 20000
+
+returns-6 : tie.Need-returns-6
+unfolding bondOf bondFrom
+returns-6 c = search steps depth 24 fits 20000
 
 pub bond-line-spec : {M : Type 1} → statement M
 bond-line-spec =
@@ -81,9 +91,12 @@ bond-line-spec =
     enum-known-k-3
     enum-known-no-3
     returns-3
+    bond-zeros-requires
+    plain-bond-requires
+    returns-4
     stereo-field-requires
     enum-known-stereo
     bond-rest-requires
     enum-known-no-4
-    returns-4
-    returns-5)
+    returns-5
+    returns-6)

@@ -1,26 +1,23 @@
 -- `symbols::code_at` meets its contract.
 use borrow.Author.Needs.{needs}
-use mathlib.Core.Path.{refl}
-use Rattle.text.specs.Columns.{columnsFor}
-use Rattle.symbols.specs.Codes.{codes}
+use Rattle.symbols.proofs.Codes.{usual-codes}
 use Rattle.symbols.proofs.code_at.Statement.{statement}
 use Rattle.symbols.proofs.code_at.Tie as tie
 
-sub-result : tie.Need-sub-result
-sub-result c = search needs
-
-cast-result : tie.Need-cast-result
-cast-result c = search needs
-
-mul-result : tie.Need-mul-result
-mul-result c = search needs
-
-array-read-result : tie.Need-array-read-result
-array-read-result c = search needs
-
 returns : tie.Need-returns
-unfolding codes columnsFor
-returns c = refl
+returns c = search (needs, usual-codes)
+
+returns-2 : tie.Need-returns-2
+returns-2 c = search (needs, usual-codes)
+
+returns-3 : tie.Need-returns-3
+returns-3 c = search (needs, usual-codes)
+
+any-code-requires : tie.Need-any-code-requires
+any-code-requires c κs = search needs
+
+returns-4 : tie.Need-returns-4
+returns-4 c = search needs
 
 pub code-at-spec : {M : Type 1} → statement M
-code-at-spec = tie.close (tie.spec sub-result cast-result mul-result array-read-result returns)
+code-at-spec = tie.close (tie.spec returns returns-2 returns-3 any-code-requires returns-4)

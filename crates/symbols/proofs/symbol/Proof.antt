@@ -1,8 +1,6 @@
 -- `symbols::symbol` meets its contract.
-use borrow.Author.Needs.{needs}
 use mathlib.Core.Path.{sym, _∙_}
-use Rattle.text.specs.Columns.{columnsFor}
-use Rattle.symbols.specs.Codes.{codes}
+use borrow.Author.Needs.{needs}
 use Rattle.symbols.proofs.Codes.{symbol-found}
 use Rattle.symbols.proofs.symbol.Statement.{statement}
 use Rattle.symbols.proofs.symbol.Tie as tie
@@ -22,41 +20,37 @@ add-column-at-2 c = search needs
 column-at-requires-3 : tie.Need-column-at-requires-3
 column-at-requires-3 c κs = search needs
 
-slice-aggregate-find-code : tie.Need-slice-aggregate-find-code
-slice-aggregate-find-code c = search needs
+cast-symbol-of : tie.Need-cast-symbol-of
+cast-symbol-of c = search needs
 
-cast-find-code : tie.Need-cast-find-code
-cast-find-code c = search needs
+mul-symbol-of : tie.Need-mul-symbol-of
+mul-symbol-of c = search needs
 
-mul-find-code : tie.Need-mul-find-code
-mul-find-code c = search needs
+cast-symbol-of-2 : tie.Need-cast-symbol-of-2
+cast-symbol-of-2 c = search needs
 
-cast-find-code-2 : tie.Need-cast-find-code-2
-cast-find-code-2 c = search needs
+mul-symbol-of-2 : tie.Need-mul-symbol-of-2
+mul-symbol-of-2 c = search needs
 
-mul-find-code-2 : tie.Need-mul-find-code-2
-mul-find-code-2 c = search needs
+add-symbol-of : tie.Need-add-symbol-of
+add-symbol-of c = search needs
 
-add-find-code : tie.Need-add-find-code
-add-find-code c = search needs
+cast-symbol-of-3 : tie.Need-cast-symbol-of-3
+cast-symbol-of-3 c = search needs
 
-cast-find-code-3 : tie.Need-cast-find-code-3
-cast-find-code-3 c = search needs
+add-symbol-of-2 : tie.Need-add-symbol-of-2
+add-symbol-of-2 c = search needs
 
-add-find-code-2 : tie.Need-add-find-code-2
-add-find-code-2 c = search needs
-
-find-code-requires : tie.Need-find-code-requires
-find-code-requires c κs = search needs
+symbol-of-requires : tie.Need-symbol-of-requires
+symbol-of-requires c κs = search needs
 
 returns : tie.Need-returns
-unfolding codes columnsFor
 returns c =
-    let a = c .before .before .before .before .before .before .args in
-    let x = c .before .before .before .before .column-at in
-    let y = c .before .before .before .column-at2 in
-    let z = c .before .before .column-at3 in
-    c .find-code .ensures ∙ sym (symbol-found (a .line .now) (a .i) (x .result) (y .result) (z .result) (x .ensures) (y .ensures) (z .ensures) (search needs) (search needs) (search needs))
+    let a = c .before .before .before .before .before .args in
+    let x = c .before .before .before .column-at in
+    let y = c .before .before .column-at2 in
+    let z = c .before .column-at3 in
+    c .symbol-of .ensures ∙ sym (symbol-found (a .line .now) (a .i) (x .result) (y .result) (z .result) (x .ensures) (y .ensures) (z .ensures) (search needs) (search needs) (search needs))
 
 pub symbol-spec : {M : Type 1} → statement M
 symbol-spec =
@@ -67,13 +61,12 @@ symbol-spec =
     column-at-requires-2
     add-column-at-2
     column-at-requires-3
-    slice-aggregate-find-code
-    cast-find-code
-    mul-find-code
-    cast-find-code-2
-    mul-find-code-2
-    add-find-code
-    cast-find-code-3
-    add-find-code-2
-    find-code-requires
+    cast-symbol-of
+    mul-symbol-of
+    cast-symbol-of-2
+    mul-symbol-of-2
+    add-symbol-of
+    cast-symbol-of-3
+    add-symbol-of-2
+    symbol-of-requires
     returns)

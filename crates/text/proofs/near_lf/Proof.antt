@@ -15,28 +15,31 @@ abbrev μ-loop : tie.MeasureT-loop
 μ-loop s at i₀ i = length s - i
 
 loop-holds : tie.Need-loop-holds Inv-loop μ-loop
-loop-holds c = search (needs, passed-start)
+loop-holds c = search (needs, passed-start, passed-join)
 
 sub-loop : tie.Need-sub-loop Inv-loop μ-loop
-sub-loop c = search needs
+sub-loop c = search (needs, passed-start, passed-join)
 
 lf-in-block-requires : tie.Need-lf-in-block-requires Inv-loop μ-loop
-lf-in-block-requires c κs = search needs
+lf-in-block-requires c κs = search (needs, passed-start, passed-join)
+
+lf-of-block-requires : tie.Need-lf-of-block-requires Inv-loop μ-loop
+lf-of-block-requires c κs = search (needs, passed-start, passed-join)
 
 returns : tie.Need-returns Inv-loop μ-loop
-returns c = search needs
+returns c = search (needs, passed-start, passed-join)
 
 add-i : tie.Need-add-i Inv-loop μ-loop
-add-i c = search needs
+add-i c = search (needs, passed-start, passed-join)
 
 loop-less : tie.Need-loop-less Inv-loop μ-loop
-loop-less c = search needs
+loop-less c = search (needs, passed-start, passed-join)
 
 loop-again : tie.Need-loop-again Inv-loop μ-loop
 loop-again c = (search needs, passed-join isLf _ _ _ _ (c .before .before .before .loop .inv .1) (c .before .lf-in-block .ensures (c .if1 .left)))
 
 returns-2 : tie.Need-returns-2 Inv-loop μ-loop
-returns-2 c = search needs
+returns-2 c = search (needs, passed-start, passed-join)
 
 pub near-lf-spec : {M : Type 1} → statement M
 near-lf-spec =
@@ -47,6 +50,7 @@ near-lf-spec =
     loop-holds
     sub-loop
     lf-in-block-requires
+    lf-of-block-requires
     returns
     add-i
     loop-less

@@ -3,7 +3,7 @@ use borrow.Author.Needs.{needs}
 use Prim.Native.Nat.{_-_}
 use lib.ListN.{length}
 use mathlib.Core.Path.{refl}
-use Rattle.walk.specs.Walking.{Walking, line-laws, bonds-room, bonds-size, fits-next, walking-less, bond-beside, walking-done, done-left, took-size}
+use Rattle.walk.specs.Walking.{Walking, line-laws, bonds-room, bonds-size, fits-next, walking-less, bond-beside, took-size}
 use Rattle.walk.specs.Pairing.{Pairing, pair-laws, pairing-start, pairing-keeps, pairing-end, pairing-found, found-left}
 use Rattle.walk.specs.AtEnd.{at-end-laws}
 use Rattle.walk.proofs.walk_lines.Statement.{statement}
@@ -23,6 +23,9 @@ abbrev μ-walk : tie.MeasureT-walk
 
 new-requires : tie.Need-new-requires Inv-loop μ-loop Inv-walk μ-walk
 new-requires c κs = search (needs, line-laws, pair-laws, at-end-laws)
+
+new-requires-2 : tie.Need-new-requires-2 Inv-loop μ-loop Inv-walk μ-walk
+new-requires-2 c κs = search (needs, line-laws, pair-laws, at-end-laws)
 
 walk-holds : tie.Need-walk-holds Inv-loop μ-loop Inv-walk μ-walk
 walk-holds c = search (needs, line-laws, pair-laws, at-end-laws)
@@ -81,10 +84,13 @@ enum-known-r-2 c = search (needs, line-laws, pair-laws, at-end-laws)
 pair-key-requires : tie.Need-pair-key-requires Inv-loop μ-loop Inv-walk μ-walk
 pair-key-requires c κs = search (needs, line-laws, pair-laws, at-end-laws)
 
+near-key-requires : tie.Need-near-key-requires Inv-loop μ-loop Inv-walk μ-walk
+near-key-requires c κs = search (needs, line-laws, pair-laws, at-end-laws)
+
 loop-holds : tie.Need-loop-holds Inv-loop μ-loop Inv-walk μ-walk
 loop-holds c =
-    pairing-start _ _ _ _ _ _ _ _ _ _ _ _ (c .before .before .before .before .before .before .before .before .before .before .before .before .before .walk .inv) _ _ _ (c .before .before .before .before .before .before .before .before .before .before .before .before .line-at .ensures) (c .before .before .before .before .before .before .before .before .before .before .end .given .1) _ _ _ _ _
-    (c .before .before .before .before .before .take-line .ensures) (c .before .before .r2 .given .1) _ (c .pair-key .ensures)
+    pairing-start _ _ _ _ _ _ _ _ _ _ _ _ (c .before .before .before .before .before .before .before .before .before .before .before .before .before .before .before .walk .inv) _ _ _ (c .before .before .before .before .before .before .before .before .before .before .before .before .before .before .line-at .ensures) (c .before .before .before .before .before .before .before .before .before .before .before .before .end .given .1) _ _ _ _ _
+    (c .before .before .before .before .before .before .before .take-line .ensures) (c .before .before .before .before .r2 .given .1) _ _ (c .before .before .pair-key .ensures) (c .near-key .ensures)
 
 mul-if1 : tie.Need-mul-if1 Inv-loop μ-loop Inv-walk μ-walk
 mul-if1 c = search (needs, line-laws, pair-laws, at-end-laws)
@@ -109,24 +115,27 @@ loop-again c = search (needs, line-laws, pair-laws, at-end-laws)
 
 keep-bond-requires : tie.Need-keep-bond-requires Inv-loop μ-loop Inv-walk μ-walk
 keep-bond-requires c κs =
-    pairing-keeps _ _ _ _ _ _ _ _ _ _ _ _ _ _ (c .before .before .before .loop .inv) (bonds-room _ _ _ _ _ _ _ _ _ _ _ _ (c .before .before .before .before .before .before .before .before .before .before .before .before .before .before .before .before .before .walk .inv))
+    pairing-keeps _ _ _ _ _ _ _ _ _ _ _ _ _ _ (c .before .before .before .loop .inv) (bonds-room _ _ _ _ _ _ _ _ _ _ _ _ (c .before .before .before .before .before .before .before .before .before .before .before .before .before .before .before .before .before .before .before .walk .inv))
 
 add-line-2 : tie.Need-add-line-2 Inv-loop μ-loop Inv-walk μ-walk
 add-line-2 c =
-    fits-next _ _ _ _ _ _ _ _ _ _ _ _ (c .before .before .before .before .before .before .before .before .before .before .before .before .before .before .before .before .before .before .before .walk .inv)
+    fits-next _ _ _ _ _ _ _ _ _ _ _ _ (c .before .before .before .before .before .before .before .before .before .before .before .before .before .before .before .before .before .before .before .before .before .walk .inv)
 
 walk-less-2 : tie.Need-walk-less-2 Inv-loop μ-loop Inv-walk μ-walk
 walk-less-2 c =
-    walking-less _ _ _ _ _ (c .before .before .before .before .before .before .before .before .before .before .before .before .before .before .before .before .before .before .line-at .ensures) (c .before .before .before .before .before .before .before .before .before .before .before .before .before .before .before .before .end .given .1)
+    walking-less _ _ _ _ _ (c .before .before .before .before .before .before .before .before .before .before .before .before .before .before .before .before .before .before .before .before .line-at .ensures) (c .before .before .before .before .before .before .before .before .before .before .before .before .before .before .before .before .before .before .end .given .1)
 
 walk-again-2 : tie.Need-walk-again-2 Inv-loop μ-loop Inv-walk μ-walk
 walk-again-2 c =
     pairing-end _ _ _ _ _ _ _ _ _ _ _ _ _ _ (c .before .before .before .before .before .loop .inv) (c .before .before .before .before .loop-test .left) _ _
-    (bond-beside _ _ _ _ _ _ _ _ _ _ _ _ (c .before .before .before .before .before .before .before .before .before .before .before .before .before .before .before .before .before .before .before .walk .inv) _ _ _ (c .before .before .before .before .before .before .before .before .before .before .before .before .before .before .before .before .before .before .line-at .ensures) (c .before .before .before .before .before .before .before .before .before .before .before .before .before .before .before .before .end .given .1) _ _ _ _ _ (c .before .before .before .before .before .before .before .before .before .before .before .take-line .ensures) (c .before .before .before .before .before .before .before .before .r2 .given .1))
-    (c .before .before .before .before .before .before .before .before .before .before .before .before .before .before .before .before .before .before .before .walk .inv .bonds-beside) _ _ _ (c .before .keep-bond .ensures .0) (c .before .keep-bond .ensures .1 .1) (c .before .keep-bond .ensures .1 .0)
+    (bond-beside _ _ _ _ _ _ _ _ _ _ _ _ (c .before .before .before .before .before .before .before .before .before .before .before .before .before .before .before .before .before .before .before .before .before .walk .inv) _ _ _ (c .before .before .before .before .before .before .before .before .before .before .before .before .before .before .before .before .before .before .before .before .line-at .ensures) (c .before .before .before .before .before .before .before .before .before .before .before .before .before .before .before .before .before .before .end .given .1) _ _ _ _ _ (c .before .before .before .before .before .before .before .before .before .before .before .before .before .take-line .ensures) (c .before .before .before .before .before .before .before .before .before .before .r2 .given .1))
+    (c .before .before .before .before .before .before .before .before .before .before .before .before .before .before .before .before .before .before .before .before .before .walk .inv .bonds-beside) _ _ _ (c .before .keep-bond .ensures .0) (c .before .keep-bond .ensures .1 .1) (c .before .keep-bond .ensures .1 .0)
 
 enum-told-2 : tie.Need-enum-told-2 Inv-loop μ-loop Inv-walk μ-walk
 enum-told-2 c = search (needs, line-laws, pair-laws, at-end-laws)
+
+closed-requires : tie.Need-closed-requires Inv-loop μ-loop Inv-walk μ-walk
+closed-requires c κs = search (needs, line-laws, pair-laws, at-end-laws)
 
 same-length-3 : tie.Need-same-length-3 Inv-loop μ-loop Inv-walk μ-walk
 same-length-3 c = search (needs, line-laws, pair-laws, at-end-laws)
@@ -135,8 +144,7 @@ same-length-4 : tie.Need-same-length-4 Inv-loop μ-loop Inv-walk μ-walk
 same-length-4 c = search (needs, line-laws, pair-laws, at-end-laws)
 
 returns-2 : tie.Need-returns-2 Inv-loop μ-loop Inv-walk μ-walk
-returns-2 c =
-    (walking-done _ _ _ _ _ _ _ _ _ _ _ _ (c .before .before .before .before .before .before .before .before .before .before .before .before .walk .inv) _ _ _ (c .before .before .before .before .before .before .before .before .before .before .before .line-at .ensures) (c .before .before .before .before .before .before .before .before .before .end .given .1) _ _ _ (c .before .before .before .before .take-line .ensures) (c .before .enum-told2 .given .1), done-left _ _ _ _ _ _ _ _ _ _ _ _ (c .before .before .before .before .before .before .before .before .before .before .before .before .walk .inv) _ _ _ (c .before .before .before .before .before .before .before .before .before .before .before .line-at .ensures) (c .before .before .before .before .before .before .before .before .before .end .given .1) _ _ _ (c .before .before .before .before .take-line .ensures) (c .before .enum-told2 .given .1))
+returns-2 c = search (needs, line-laws, pair-laws, at-end-laws)
 
 enum-known-no : tie.Need-enum-known-no Inv-loop μ-loop Inv-walk μ-walk
 enum-known-no c = search (needs, line-laws, pair-laws, at-end-laws)
@@ -152,16 +160,18 @@ returns-3 c = search (needs, line-laws, pair-laws, at-end-laws)
 
 same-length-7 : tie.Need-same-length-7 Inv-loop μ-loop Inv-walk μ-walk
 same-length-7 c =
-    took-size _ _ _ _ _ _ _ _ _ _ _ _ (c .before .before .before .before .before .before .before .before .before .before .before .before .before .before .before .before .before .walk .inv) _ _ _ _ _ (c .before .before .before .before .before .before .before .before .before .take-line .ensures)
+    took-size _ _ _ _ _ _ _ _ _ _ _ _ (c .before .before .before .before .before .before .before .before .before .before .before .before .before .before .before .before .before .before .before .walk .inv) _ _ _ _ _ (c .before .before .before .before .before .before .before .before .before .before .before .take-line .ensures)
 
 same-length-8 : tie.Need-same-length-8 Inv-loop μ-loop Inv-walk μ-walk
 same-length-8 c =
-    bonds-size _ _ _ _ _ _ _ _ _ _ _ _ (c .before .before .before .before .before .before .before .before .before .before .before .before .before .before .before .before .before .walk .inv)
+    bonds-size _ _ _ _ _ _ _ _ _ _ _ _ (c .before .before .before .before .before .before .before .before .before .before .before .before .before .before .before .before .before .before .before .walk .inv)
 
 returns-4 : tie.Need-returns-4 Inv-loop μ-loop Inv-walk μ-walk
 returns-4 c = (
   pairing-found _ _ _ _ _ _ _ _ _ _ _ _ _ _ (c .before .before .before .loop .inv) (c .before .before .loop-test .taken) (c .if1 .taken) _ refl,
-  found-left _ _ _ _ _ _ _ _ _ _ _ _ _ _ (c .before .before .before .loop .inv) (c .before .before .loop-test .taken) (c .if1 .taken) _ _ (bond-beside _ _ _ _ _ _ _ _ _ _ _ _ (c .before .before .before .before .before .before .before .before .before .before .before .before .before .before .before .before .before .walk .inv) _ _ _ (c .before .before .before .before .before .before .before .before .before .before .before .before .before .before .before .before .line-at .ensures) (c .before .before .before .before .before .before .before .before .before .before .before .before .before .before .end .given .1) _ _ _ _ _ (c .before .before .before .before .before .before .before .before .before .take-line .ensures) (c .before .before .before .before .before .before .r2 .given .1)) (c .before .before .before .before .before .before .before .before .before .before .before .before .before .before .before .before .before .walk .inv .bonds-beside),
+  found-left _ _ _ _ _ _ _ _ _ _ _ _ _ _ (c .before .before .before .loop .inv) (c .before .before .loop-test .taken) (c .if1 .taken) _ _
+      (bond-beside _ _ _ _ _ _ _ _ _ _ _ _ (c .before .before .before .before .before .before .before .before .before .before .before .before .before .before .before .before .before .before .before .walk .inv) _ _ _ (c .before .before .before .before .before .before .before .before .before .before .before .before .before .before .before .before .before .before .line-at .ensures) (c .before .before .before .before .before .before .before .before .before .before .before .before .before .before .before .before .end .given .1) _ _ _ _ _ (c .before .before .before .before .before .before .before .before .before .before .before .take-line .ensures) (c .before .before .before .before .before .before .before .before .r2 .given .1))
+      (c .before .before .before .before .before .before .before .before .before .before .before .before .before .before .before .before .before .before .before .walk .inv .bonds-beside),
 )
 
 pub walk-lines-spec : {M : Type 1} → statement M
@@ -173,6 +183,7 @@ walk-lines-spec =
     Inv-walk
     μ-walk
     new-requires
+    new-requires-2
     walk-holds
     line-at-requires
     enum-known-end
@@ -192,6 +203,7 @@ walk-lines-spec =
     walk-again
     enum-known-r-2
     pair-key-requires
+    near-key-requires
     loop-holds
     mul-if1
     element-copy-out-if1
@@ -205,6 +217,7 @@ walk-lines-spec =
     walk-less-2
     walk-again-2
     enum-told-2
+    closed-requires
     same-length-3
     same-length-4
     returns-2
