@@ -36,7 +36,7 @@ same-length-5 : tie.Need-same-length-5
 same-length-5 c = search needs
 
 returns-2 : tie.Need-returns-2
-returns-2 c = (search stopped-answer, (search stopped-room, (search needs, search needs)))
+returns-2 c = (search stopped-answer, (search stopped-room, (search, search)))
 
 pub fill-room-spec : {M : Type 1} → statement M
 fill-room-spec =

@@ -23,7 +23,7 @@ same-length-3 : tie.Need-same-length-3
 same-length-3 c = search needs
 
 returns : tie.Need-returns
-returns c = (search needs, (search needs, (search emptied, search emptied)))
+returns c = (search, (search, (search emptied, search emptied)))
 
 pub write-roomy-spec : {M : Type 1} → statement M
 write-roomy-spec =
