@@ -186,3 +186,13 @@ impl Out {
         self.bytes(room, &digits[..k])
     }
 }
+
+// Whether argument i is this word, of at most 64 bytes.
+pub fn is_argument(i: usize, word: &[u8]) -> bool {
+    let mut text = [0u8; 64];
+    let n = os::arg(i, &mut text);
+    if os::errno() == 0 {
+        return check::same(&text[..n], word);
+    }
+    false
+}
