@@ -179,6 +179,25 @@ impl Out {
         out
     }
 
+    // So many bytes more stand in the room already.
+    pub fn more(self, room: &[u8], n: usize) -> Out {
+        let at = self.used;
+        if at <= room.len() {
+            if n <= room.len() - at {
+                return Out {
+                    fd: self.fd,
+                    used: at + n,
+                    good: self.good,
+                };
+            }
+        }
+        Out {
+            fd: self.fd,
+            used: at,
+            good: false,
+        }
+    }
+
     // A number in decimal digits.
     pub fn number(self, room: &mut [u8], n: u64) -> Out {
         let mut digits = [0u8; 20];

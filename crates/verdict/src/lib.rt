@@ -3,9 +3,8 @@ mod say;
 
 use feed::Counter;
 use feed::Fed;
-pub use say::announce;
-pub use say::complain;
 pub use say::report;
+pub use say::tell;
 use stream::Filled;
 use stream::Out;
 use walk::Answer;
@@ -26,6 +25,8 @@ pub enum Verdict {
     Changed,
     // A write failed.
     Unwritten,
+    // The canonical text of a record does not fit the room for it.
+    NoRoom,
 }
 
 // The place in a file that is judged: records and lines so far, bytes kept at the front of the buffer, bytes done with.
@@ -59,17 +60,17 @@ fn plus(a: u64, b: u64) -> u64 {
 }
 
 // So many mebibytes are read.
-fn tell(mebibytes: u64) {
+fn write_progress(mebibytes: u64) {
     let mut room = [0u8; 64];
     let out = Out::new(libc::STDERR_FILENO).number(&mut room, mebibytes);
     out.bytes(&mut room, b" MiB read\n").flush(&room);
 }
 
 // A line of progress where a stride is passed between the two counts of bytes.
-fn tell_passed(progress: bool, before: u64, after: u64) {
+fn note_passed(progress: bool, before: u64, after: u64) {
     if progress {
         if before / STRIDE < after / STRIDE {
-            tell(after / STRIDE * 16);
+            write_progress(after / STRIDE * 16);
         }
     }
 }
@@ -101,7 +102,7 @@ fn take_turn(fd: i32, buf: &mut [u8], progress: bool, place: Place) -> Turn
     let done = place.done;
     match stream::fill(fd, buf, kept) {
         Filled::Bytes(n) => {
-            tell_passed(progress, plus(done, kept as u64), plus(done, n as u64));
+            note_passed(progress, plus(done, kept as u64), plus(done, n as u64));
             judge_part(buf, n, place)
         }
         Filled::Failed => Turn::End(Verdict::Unreadable { error: os::errno() }),

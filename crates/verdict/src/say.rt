@@ -29,6 +29,7 @@ fn words(out: Out, room: &mut [u8], v: Verdict) -> Out {
         Verdict::Once => out,
         Verdict::Changed => out,
         Verdict::Unwritten => out,
+        Verdict::NoRoom => out,
     }
 }
 
@@ -49,11 +50,12 @@ fn code(out: Out, room: &mut [u8], v: Verdict) -> Out {
         Verdict::Once => out.bytes(room, b"once"),
         Verdict::Changed => out.bytes(room, b"changed"),
         Verdict::Unwritten => out.bytes(room, b"unwritten"),
+        Verdict::NoRoom => out.bytes(room, b"no room"),
     }
 }
 
 // The verdict on the channel of its own.
-pub fn announce(v: Verdict) {
+fn announce(v: Verdict) {
     let mut room = [0u8; 64];
     let out = code(Out::new(CHANNEL), &mut room, v);
     out.byte(&mut room, b'\n').flush(&room);
@@ -67,7 +69,7 @@ fn complain_of(name: &[u8], what: &[u8]) {
 }
 
 // The reason on standard error where a file was not judged, or not written.
-pub fn complain(name: &[u8], v: Verdict) {
+fn complain(name: &[u8], v: Verdict) {
     match v {
         Verdict::Accepted { records: _ } => {}
         Verdict::Refused {
@@ -87,6 +89,10 @@ pub fn complain(name: &[u8], v: Verdict) {
             b": changed while it was read, so what is written is not whole\n",
         ),
         Verdict::Unwritten => os::fail(b"standard output"),
+        Verdict::NoRoom => complain_of(
+            name,
+            b": a record's canonical text does not fit the room for it\n",
+        ),
     }
 }
 
@@ -105,6 +111,7 @@ fn is_judged(v: Verdict) -> bool {
         Verdict::Once => false,
         Verdict::Changed => false,
         Verdict::Unwritten => false,
+        Verdict::NoRoom => false,
     }
 }
 
@@ -125,8 +132,8 @@ fn line(name: &[u8], named: bool, v: Verdict) -> bool {
     done.good
 }
 
-// What was not judged or not written: nothing on standard output.
-fn report_failed(name: &[u8], v: Verdict) {
+// The reason of a failure on standard error, and the verdict on the channel: nothing on standard output.
+pub fn tell(name: &[u8], v: Verdict) {
     complain(name, v);
     announce(v);
 }
@@ -137,9 +144,9 @@ pub fn report(name: &[u8], named: bool, v: Verdict) {
         if line(name, named, v) {
             announce(v);
         } else {
-            report_failed(name, Verdict::Unwritten);
+            tell(name, Verdict::Unwritten);
         }
     } else {
-        report_failed(name, v);
+        tell(name, v);
     }
 }
