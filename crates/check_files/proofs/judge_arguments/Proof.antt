@@ -1,0 +1,45 @@
+use Prim.Native.Nat.{_-_}
+use borrow.Author.Needs.{needs}
+use Rattle.check_files.proofs.judge_arguments.Statement.{statement}
+use Rattle.check_files.proofs.judge_arguments.Tie as tie
+
+abbrev Inv-loop : tie.InvT-loop
+Inv-loop from way buf₀ count i₀ buf i = Unit {0}
+
+abbrev μ-loop : tie.MeasureT-loop
+μ-loop from way buf₀ count i₀ buf i = count - i
+
+arg-count-requires : tie.Need-arg-count-requires Inv-loop μ-loop
+arg-count-requires c κs = search needs
+
+loop-holds : tie.Need-loop-holds Inv-loop μ-loop
+loop-holds c = search needs
+
+judge-argument-requires : tie.Need-judge-argument-requires Inv-loop μ-loop
+judge-argument-requires c κs = search needs
+
+add-i : tie.Need-add-i Inv-loop μ-loop
+add-i c = search needs
+
+loop-less : tie.Need-loop-less Inv-loop μ-loop
+loop-less c = search needs
+
+loop-again : tie.Need-loop-again Inv-loop μ-loop
+loop-again c = search needs
+
+returns : tie.Need-returns Inv-loop μ-loop
+returns c = search needs
+
+pub judge-arguments-spec : {M : Type 1} → statement M
+judge-arguments-spec =
+    tie.close
+    (tie.spec
+    Inv-loop
+    μ-loop
+    arg-count-requires
+    loop-holds
+    judge-argument-requires
+    add-i
+    loop-less
+    loop-again
+    returns)

@@ -1,0 +1,87 @@
+# The command: statuses, messages, usage.
+
+cp examples/sample.sdf "$room/two words.sdf"
+: >"$room/empty.sdf"
+sed -n 1,9p examples/sample.sdf >"$room/one.mol"
+
+got ./capellanote check examples/sample.sdf
+is "check: good" 0 "examples/sample.sdf: accepted, 5 records" ""
+got ./capellanote check examples/damaged.sdf
+is "check: damaged" 1 "examples/damaged.sdf:29:1: refused 17: a data header or \$\$\$\$ line where a value line or the blank line after the values must stand" "hint: the blank line"
+got ./capellanote check "$room/two words.sdf"
+is "check: name with a space" 0 "$room/two words.sdf: accepted, 5 records" ""
+got ./capellanote check "$room/empty.sdf"
+is "check: empty SDfile" 0 "$room/empty.sdf: accepted, 0 records" ""
+got ./capellanote check --molfile "$room/empty.sdf"
+is "check: empty molfile" 1 "$room/empty.sdf:1:1: refused 19: cut short; the file ends where more lines, or the end of this one, must follow" "hint"
+got ./capellanote check --molfile "$room/one.mol"
+is "check: molfile" 0 "$room/one.mol: accepted, 1 record" ""
+got ./capellanote check --molfile examples/sample.sdf
+is "check: SDfile as molfile" 1 "examples/sample.sdf:10:1: refused 18: a line after 'M  END', with which a molfile ends" "without --molfile"
+got ./capellanote check "$room/none.sdf"
+is "check: missing file" 2 "" "$room/none.sdf: No such file or directory"
+got ./capellanote check "$room"
+is "check: directory" 2 "" "$room: Is a directory"
+got ./capellanote check examples/sample.sdf "$room/none.sdf" examples/damaged.sdf
+is "check: several files" 2 "examples/sample.sdf: accepted, 5 records
+examples/damaged.sdf:29:1: refused 17: a data header or \$\$\$\$ line where a value line or the blank line after the values must stand
+3 files: 1 accepted with 5 records, 1 refused, 1 not read" "none.sdf: No such file"
+got ./capellanote check examples/sample.sdf examples/damaged.sdf
+[ "$status" = 1 ] || bad "check: a good and a damaged file" "status $status"
+(cd "$room" && cp empty.sdf ./--progress && "$OLDPWD/capellanote" check -- --progress >"$room/out" 2>"$room/err")
+status=$?
+is "check: a file named as an option" 0 "--progress: accepted, 0 records" ""
+./capellanote check - <examples/sample.sdf >"$room/out" 2>"$room/err"
+status=$?
+is "check: standard input" 0 "-: accepted, 5 records" ""
+
+# Every number from 3 to 19 has a sentence of its own, and the hints stand where they are asked for.
+for no in $(seq 1 22); do
+    said=$(sed -n '/^sentence()/,/^}/p' capellanote | grep -c "^    $no) echo ")
+    [ "$said" = 1 ] && ok || bad "sentence $no" "not there"
+done
+
+# Records around the buffer of 1,048,576 bytes.
+python3 - "$room" <<'END'
+import random, sys
+sys.path.insert(0, "oracle")
+from generate import sized_record
+rng = random.Random(3)
+small = sized_record(rng, 700)
+def put(name, data):
+    with open(sys.argv[1] + "/" + name, "wb") as file:
+        file.write(data)
+size = 1048576
+exact, longer = sized_record(rng, size), sized_record(rng, size + 1)
+put("exact.sdf", small + exact + exact + small)
+put("longer.sdf", small + exact + longer)
+put("end.sdf", longer[:-1])
+put("long.mol", b"x" * (size + 1))
+put("refused.mol", b"a\nb\nc\nd\n" + b"x" * (size + 1))
+END
+got ./capellanote check "$room/exact.sdf"
+is "check: records of the buffer's size" 0 "$room/exact.sdf: accepted, 4 records" ""
+got ./capellanote check "$room/longer.sdf"
+is "check: a record one byte longer" 1 "$room/longer.sdf: record 3 too long: it does not end within 1,048,576 bytes" ""
+got ./capellanote check "$room/end.sdf"
+case $(cat "$room/out") in *"refused 19: "*) ok ;; *) bad "check: a full buffer and the end" "$(cat "$room/out")" ;; esac
+got ./capellanote check --molfile "$room/long.mol"
+is "check: a molfile longer than the buffer" 1 "$room/long.mol: record 1 too long: it does not end within 1,048,576 bytes" ""
+got ./capellanote check --molfile "$room/refused.mol"
+case $(cat "$room/out") in *":4:1: refused 7: "*) ok ;; *) bad "check: a refused line of a long molfile" "$(cat "$room/out")" ;; esac
+
+got ./capellanote
+is "usage: nothing asked" 2 "" "usage: capellanote"
+got ./capellanote check
+is "usage: no file" 2 "" "check takes the names of files"
+got ./capellanote check --fast examples/sample.sdf
+is "usage: unknown option" 2 "" "unknown option --fast"
+got ./capellanote count a b
+is "usage: two files to count" 2 "" "count takes one file"
+got ./capellanote tidy
+is "usage: unknown command" 2 "" "unknown command tidy"
+got ./capellanote help
+[ "$status" = 0 ] && grep -q '^usage: capellanote check' "$room/out" && ok || bad "help" "status $status"
+(cd "$room" && ln -s "$OLDPWD/capellanote" linked && ./linked check "two words.sdf" >"$room/out" 2>"$room/err")
+status=$?
+is "check: the command by a link, from another folder" 0 "two words.sdf: accepted, 5 records" ""
