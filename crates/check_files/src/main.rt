@@ -1,4 +1,5 @@
 // Judges files: `molfile` or `sdfile`, perhaps `--progress`, then the names, `-` for standard input; one line a file.
+use verdict::Verdict;
 
 // How the files are judged.
 struct Way {
@@ -19,7 +20,7 @@ fn judge_file(name: &[u8], way: Way, buf: &mut [u8; 1048577]) {
     }
     let fd = os::open_read(name);
     if fd < 0 {
-        verdict::report(name, true, verdict::unopened());
+        verdict::report(name, true, Verdict::Unreadable);
         return;
     }
     judge_open(fd, name, way, buf);
@@ -30,7 +31,7 @@ fn judge_argument(i: usize, way: Way, buf: &mut [u8; 1048577]) {
     let mut name = io::buffer();
     let n = os::arg(i, &mut name);
     if os::errno() != 0 {
-        verdict::report(b"file name", true, verdict::unopened());
+        verdict::report(b"file name", true, Verdict::Unreadable);
         return;
     }
     judge_file(&name[..n], way, buf);

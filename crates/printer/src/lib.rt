@@ -149,7 +149,7 @@ fn refill(fd: i32, buf: &mut [u8], pass: Pass) -> Stepped {
             lines: pass.lines,
             out,
         }),
-        Filled::Failed => Stepped::Failed(verdict::unopened()),
+        Filled::Failed => Stepped::Failed(Verdict::Unreadable),
     }
 }
 
@@ -299,7 +299,7 @@ fn write_file(
 ) {
     let fd = os::open_read(name);
     if fd < 0 {
-        verdict::tell(name, verdict::unopened());
+        verdict::tell(name, Verdict::Unreadable);
         return;
     }
     verdict::tell(name, write_open(task, sd, item, fd, progress, buf, room));
@@ -320,7 +320,7 @@ fn write_argument(
     if os::errno() == 0 {
         write_file(task, sd, item, &name[..n], progress, buf, room);
     } else {
-        verdict::tell(b"file name", verdict::unopened());
+        verdict::tell(b"file name", Verdict::Unreadable);
     }
 }
 

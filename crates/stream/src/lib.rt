@@ -1,6 +1,8 @@
 // Input and output of the programs: a buffer filled from a descriptor, text gathered and written.
-ghost use Prim.Native.Nat.{_<_, _≤_};
+ghost use mathlib.Core.Path.{_≡_};
+ghost use Prim.Native.Nat.{_-_, _<_, _≤_};
 ghost use lib.ListN.{length};
+ghost use Rattle.stream.specs.Moved.{moved};
 
 // What a filling brought. Fewer bytes than the buffer holds: the input has ended.
 pub enum Filled {
@@ -84,7 +86,8 @@ pub fn fill(fd: i32, buf: &mut [u8], from: usize) -> Filled {
 // The bytes from `from` to before `to`, moved to the front; answers how many they are.
 fn move_front(buf: &mut [u8], from: usize, to: usize) -> usize
     requires { ⌜ to ≤ length (now buf) ⌝ }
-    ensures { λ r. ⌜ r ≤ length (now (buf .entry)) ⌝ }
+    ensures { λ r. ⌜ r ≡ to - from ⌝ }
+    ensures { λ r. ⌜ now (buf .exit) ≡ moved (now (buf .entry)) from r ⌝ }
 {
     let mut i: usize = 0;
     let mut j = from;
@@ -98,7 +101,8 @@ fn move_front(buf: &mut [u8], from: usize, to: usize) -> usize
 
 // Keeps what stands from `from` to before `to`, at the front, and answers how many bytes that is.
 pub fn keep(buf: &mut [u8], from: usize, to: usize) -> usize
-    ensures { λ r. ⌜ r ≤ length (now (buf .entry)) ⌝ }
+    ensures { λ r. ⌜ (to ≤ length (now (buf .entry)) → r ≡ to - from) ⌝ }
+    ensures { λ r. ⌜ now (buf .exit) ≡ moved (now (buf .entry)) from r ⌝ }
 {
     if to <= buf.len() {
         return move_front(buf, from, to);

@@ -15,8 +15,8 @@ pub enum Verdict {
     Accepted { records: usize },
     Refused { no: u8, line: usize, column: usize },
     TooLong { record: usize },
-    // A read failed, with this errno.
-    Unreadable { error: i32 },
+    // It was not opened, or a read failed; errno says why.
+    Unreadable,
     // More input than turns are counted for.
     Endless,
     // What cannot be read a second time, as a pipe.
@@ -105,7 +105,7 @@ fn take_turn(fd: i32, buf: &mut [u8], progress: bool, place: Place) -> Turn
             note_passed(progress, plus(done, kept as u64), plus(done, n as u64));
             judge_part(buf, n, place)
         }
-        Filled::Failed => Turn::End(Verdict::Unreadable { error: os::errno() }),
+        Filled::Failed => Turn::End(Verdict::Unreadable),
     }
 }
 
@@ -167,13 +167,8 @@ fn judge_molfile(fd: i32, buf: &mut [u8]) -> Verdict
                 molfile_begun(stream::front(buf, room))
             }
         }
-        Filled::Failed => Verdict::Unreadable { error: os::errno() },
+        Filled::Failed => Verdict::Unreadable,
     }
-}
-
-// What is said of a file that was not opened: errno is still that of the open.
-pub fn unopened() -> Verdict {
-    Verdict::Unreadable { error: os::errno() }
 }
 
 // A file of either kind, with a buffer of one byte less than is lent.

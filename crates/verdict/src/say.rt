@@ -24,7 +24,7 @@ fn words(out: Out, room: &mut [u8], v: Verdict) -> Out {
         Verdict::TooLong { record } => {
             counted(out, room, b"record ", record).bytes(room, b" too long")
         }
-        Verdict::Unreadable { error: _ } => out,
+        Verdict::Unreadable => out,
         Verdict::Endless => out,
         Verdict::Once => out,
         Verdict::Changed => out,
@@ -45,7 +45,7 @@ fn code(out: Out, room: &mut [u8], v: Verdict) -> Out {
         Verdict::Accepted { records } => counted(out, room, b"accepted ", records),
         Verdict::Refused { no, line, column } => refusal_code(out, room, no, line, column),
         Verdict::TooLong { record } => counted(out, room, b"too long ", record),
-        Verdict::Unreadable { error: _ } => out.bytes(room, b"unreadable"),
+        Verdict::Unreadable => out.bytes(room, b"unreadable"),
         Verdict::Endless => out.bytes(room, b"endless"),
         Verdict::Once => out.bytes(room, b"once"),
         Verdict::Changed => out.bytes(room, b"changed"),
@@ -78,7 +78,7 @@ fn complain(name: &[u8], v: Verdict) {
             column: _,
         } => {}
         Verdict::TooLong { record: _ } => {}
-        Verdict::Unreadable { error: _ } => os::fail(name),
+        Verdict::Unreadable => os::fail(name),
         Verdict::Endless => complain_of(name, b": has no end that can be counted to\n"),
         Verdict::Once => complain_of(
             name,
@@ -106,7 +106,7 @@ fn is_judged(v: Verdict) -> bool {
             column: _,
         } => true,
         Verdict::TooLong { record: _ } => true,
-        Verdict::Unreadable { error: _ } => false,
+        Verdict::Unreadable => false,
         Verdict::Endless => false,
         Verdict::Once => false,
         Verdict::Changed => false,

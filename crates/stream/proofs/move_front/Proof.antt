@@ -1,18 +1,20 @@
-use Prim.Native.Nat.{_≤_, _-_}
+use Prim.Native.Nat.{_≤_, _<_, _+_, _-_}
+use native.Mathlib.Omega.{arith}
 use mathlib.Core.Path.{_≡_}
 use lib.ListN.{length}
+use Rattle.stream.specs.Moved.{moved, moved-none, moved-next}
 use borrow.Author.Needs.{needs}
 use Rattle.stream.proofs.move_front.Statement.{statement}
 use Rattle.stream.proofs.move_front.Tie as tie
 
 abbrev Inv-loop : tie.InvT-loop
-Inv-loop buf₀ from to i₀ j₀ buf i j = (length buf ≡ length buf₀) × (i ≤ j) × (i ≤ length buf₀)
+Inv-loop buf₀ from to i₀ j₀ buf i j = (length buf ≡ length buf₀) × (j ≡ from + i) × (i ≤ to - from) × (buf ≡ moved buf₀ from i)
 
 abbrev μ-loop : tie.MeasureT-loop
 μ-loop buf₀ from to i₀ j₀ buf i j = length buf₀ - j
 
 loop-holds : tie.Need-loop-holds Inv-loop μ-loop
-loop-holds c = search needs
+loop-holds c = search (needs, moved-none)
 
 slice-read-buf : tie.Need-slice-read-buf Inv-loop μ-loop
 slice-read-buf c = search needs
@@ -30,7 +32,10 @@ loop-less : tie.Need-loop-less Inv-loop μ-loop
 loop-less c = search needs
 
 loop-again : tie.Need-loop-again Inv-loop μ-loop
-loop-again c = search needs
+loop-again c =
+    let at = c .before .before in
+    let h : at .loop .j < length (at .before .args .buf .now) = omega arith in
+    (search needs, search needs, search needs, moved-next (at .before .args .buf .now) (at .loop .buf) (at .before .args .from) (at .loop .i) (at .loop .j) (at .loop .inv .3) (at .loop .inv .1) h)
 
 same-length : tie.Need-same-length Inv-loop μ-loop
 same-length c = search needs
