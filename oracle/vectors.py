@@ -149,7 +149,7 @@ def spoil_header(rng, header):
     if choice == 0:
         return header + rng.choice([b"x", b"\n", b" " * 81 + b"\n", b"\x00\n", b"$$$$\n"])
     if choice == 1:
-        return header[:rng.randrange(len(header))]
+        return header[:rng.randrange(max(1, len(header)))]
     if choice == 2:
         return rng.choice([b"$$$$", b"$MDL", b"a$RXN", b"$RDFILE 1"]) + header
     return blind(rng, header)

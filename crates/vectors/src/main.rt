@@ -1,8 +1,6 @@
 // Answers a file of cases, which the first argument names: one line for each case (docs/VECTORS.md). Only safety is proved here; the lines are held against the second program's.
 mod print;
 
-ghost use Prim.Native.Nat.{_≤_};
-ghost use lib.ListN.{length};
 use cases::Next;
 
 // The longest case file is a byte shorter.
@@ -303,6 +301,7 @@ fn answer_all(s: &[u8], atoms: &mut [i32], bonds: &mut [i32], room: &mut [u8]) {
     }
 }
 
+// The first n bytes of the buffer, which has as many.
 fn answer_front(n: usize, file: &[u8], atoms: &mut [i32], bonds: &mut [i32], room: &mut [u8]) {
     if n <= file.len() {
         answer_all(&file[0..n], atoms, bonds, room);
