@@ -63,18 +63,24 @@ fn put_word(out: Out, room: &mut [u8], s: &[u8]) -> Out {
     next
 }
 
-fn put_signed(out: Out, room: &mut [u8], v: i32) -> Out {
-    let mut digits = [0u8; 11];
-    numbers::put_signed(&mut digits, 0, 11, v);
-    put_word(out, room, &digits)
-}
-
 // A number without its sign.
 fn size_of(v: i32) -> u32 {
     if v < 0 {
         return (-1 - v) as u32 + 1;
     }
     v as u32
+}
+
+// A number of a table. Most are of one digit, which is put at once.
+fn put_signed(out: Out, room: &mut [u8], v: i32) -> Out {
+    let k = size_of(v);
+    if v < 0 {
+        return out.byte(room, b'-').number(room, k as u64);
+    }
+    if k < 10 {
+        return out.byte(room, 48 + (k % 10) as u8);
+    }
+    out.number(room, k as u64)
 }
 
 // The symbol of this number; nothing where no symbol has it.

@@ -1,0 +1,2 @@
+pub mod RecordBack
+pub mod CatalogueBack
