@@ -12,9 +12,9 @@ use Rattle.text.specs.Written.{text, text-append}
 use Rattle.text.specs.declared.Found.{Found}
 use Rattle.rules.specs.Record.{Item}
 use Rattle.rules.specs.Write.{headerText}
-use Rattle.lines.specs.Got.{Got, got, bad, then, need}
-use Rattle.lines.specs.Field.{noneFound, within}
-use Rattle.lines.specs.Judge.{firstHeaderOf, itemOf, ItemOrEnd, title, close, valueOf, ValueOrBlank, value, blank}
+use Rattle.line_judge.specs.Got.{Got, got, bad, then, need}
+use Rattle.line_judge.specs.Field.{noneFound, within}
+use Rattle.line_judge.specs.Judge.{firstHeaderOf, itemOf, ItemOrEnd, title, close, valueOf, ValueOrBlank, value, blank}
 use Rattle.parts.specs.Part.{PartVerdict, Run, at, stopped, run, conclude, verdictFrom}
 use Rattle.parts.specs.Part.{HeaderPlace, first, second, third, full, headerLine, headerTurn, headersEnd, headersVerdict}
 use Rattle.parts.specs.Part.{ItemPlace, items, values, afterItem, afterValue, itemTurn, itemsEnd, itemsVerdict}

@@ -13,10 +13,10 @@ use Rattle.text.specs.Find.{lineAt}
 use Rattle.text.specs.Cut.{split, cut, line-within, line-cut, line-rest}
 use Rattle.text.specs.declared.LineAt.{LineAt}
 use Rattle.rules.specs.Forms.{DataHeader}
-use Rattle.lines.specs.Got.{Got, got, bad, then}
-use Rattle.lines.specs.GotLaws.{got-inj, bad-got, then-got}
-use Rattle.lines.specs.Judge.{firstHeaderOf, itemOf, ItemOrEnd, title, close, valueOf, ValueOrBlank, value, blank}
-use Rattle.lines.specs.Agree.{within-got, header-agrees, title-agrees}
+use Rattle.line_judge.specs.Got.{Got, got, bad, then}
+use Rattle.line_judge.specs.GotLaws.{got-inj, bad-got, then-got}
+use Rattle.line_judge.specs.Judge.{firstHeaderOf, itemOf, ItemOrEnd, title, close, valueOf, ValueOrBlank, value, blank}
+use Rattle.line_judge.specs.Agree.{within-got, header-agrees, title-agrees}
 use Rattle.parts.specs.Part.{PartVerdict, refused, finish}
 use Rattle.parts.specs.Written.{judged}
 use Rattle.parts.specs.Step.{ended, Taken, taken, itemTaken, valueTaken, lineAs, longest, turnAs, turned, standingTurn, standingEnd, endsAt, endsAs, writtenFrom}

@@ -6,8 +6,8 @@ use mathlib.Core.List.{[], _∷_, _++_, append-assoc}
 use lib.ListN.{length, take, drop, set, length-append, length-set}
 use Rattle.text.specs.Text.{Bytes, Line, LF, bytes}
 use Rattle.rules.specs.Write.{headerText}
-use Rattle.lines.specs.Got.{Got, bad, then}
-use Rattle.lines.specs.Judge.{firstHeaderOf, itemOf, valueOf}
+use Rattle.line_judge.specs.Got.{Got, bad, then}
+use Rattle.line_judge.specs.Judge.{firstHeaderOf, itemOf, valueOf}
 use Rattle.items.specs.Answer.{headerGot, itemGot, itemIn, valueGot}
 use Rattle.items.specs.Within.{title-order, title-end}
 use Rattle.items.specs.declared.HeaderJudged.{HeaderJudged}

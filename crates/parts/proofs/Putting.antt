@@ -8,9 +8,9 @@ use Rattle.text.specs.Text.{Bytes, Line}
 use Rattle.text.specs.Find.{lineAt}
 use Rattle.text.specs.Cut.{cut, line-within}
 use Rattle.text.specs.declared.LineAt.{LineAt}
-use Rattle.lines.specs.Got.{Got, got, bad}
-use Rattle.lines.specs.GotLaws.{got-inj, then-got}
-use Rattle.lines.specs.Agree.{within-got}
+use Rattle.line_judge.specs.Got.{Got, got, bad}
+use Rattle.line_judge.specs.GotLaws.{got-inj, then-got}
+use Rattle.line_judge.specs.Agree.{within-got}
 use Rattle.parts.specs.Part.{PartVerdict, good, refused, Run, run, conclude}
 use Rattle.parts.specs.Written.{textOf, writtenHeaders, writtenItems}
 use Rattle.parts.specs.Step.{Taken, taken, lineAs, longest, turnAs, Standing, standingTurn, standingEnd, endsAt, writtenFrom}

@@ -11,9 +11,9 @@ use Rattle.text.specs.Text.{Bytes, Line, LF, bytes}
 use Rattle.text.specs.Find.{badColumn}
 use Rattle.text.specs.declared.Found.{Found}
 use Rattle.rules.specs.Write.{headerText}
-use Rattle.lines.specs.Got.{then, need}
-use Rattle.lines.specs.Field.{within}
-use Rattle.lines.specs.Judge.{firstHeaderOf, itemOf, valueOf}
+use Rattle.line_judge.specs.Got.{then, need}
+use Rattle.line_judge.specs.Field.{within}
+use Rattle.line_judge.specs.Judge.{firstHeaderOf, itemOf, valueOf}
 use Rattle.items.specs.Answer.{headerGot, itemGot, itemIn, valueGot}
 use Rattle.items.specs.Within.{title-order, title-end}
 use Rattle.items.specs.declared.HeaderJudged.{HeaderJudged}

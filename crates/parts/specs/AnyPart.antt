@@ -9,7 +9,7 @@ use lib.ListN.{length}
 use Rattle.text.specs.Text.{Bytes, Line, Lines}
 use Rattle.text.specs.Cut.{cut, cut-is, lines-cut, lines-same}
 use Rattle.rules.specs.Viable.{Viable, Dead, FirstDead}
-use Rattle.lines.specs.Got.{Got, got, bad}
+use Rattle.line_judge.specs.Got.{Got, got, bad}
 use Rattle.judge.specs.Marked.{Marked, marked-bad}
 use Rattle.parts.specs.Part.{PartVerdict, good, refused, Run, run, conclude, verdictFrom}
 use Rattle.parts.specs.Runs.{at-place, at-stopped, run-next, run-stop, run-append, stop}

@@ -6,9 +6,9 @@ use lib.ListN.{length}
 use Rattle.text.specs.Text.{Bytes, Line}
 use Rattle.text.specs.Cut.{cut}
 use Rattle.rules.specs.Record.{Headers, Item}
-use Rattle.lines.specs.Got.{Got, got, bad, then}
-use Rattle.lines.specs.Field.{within}
-use Rattle.lines.specs.Judge.{firstHeaderOf, itemOf, ItemOrEnd, title, close, valueOf, ValueOrBlank, value, blank}
+use Rattle.line_judge.specs.Got.{Got, got, bad, then}
+use Rattle.line_judge.specs.Field.{within}
+use Rattle.line_judge.specs.Judge.{firstHeaderOf, itemOf, ItemOrEnd, title, close, valueOf, ValueOrBlank, value, blank}
 
 pub data PartVerdict (A : Type 0) : Type 0 where
   good : A → PartVerdict A

@@ -14,12 +14,12 @@ use Rattle.text.specs.declared.Found.{Found}
 use Rattle.rules.specs.Forms.{FirstHeaderLine, HeaderLine, DataHeader, BlankLine, ValueLine}
 use Rattle.rules.specs.Record.{Headers, Item, Values}
 use Rattle.rules.specs.Canon.{HeaderPart, ItemPart}
-use Rattle.lines.specs.Got.{Got, got, bad, then, need}
-use Rattle.lines.specs.GotLaws.{got-inj, bad-got, then-got, then-is}
-use Rattle.lines.specs.Field.{noneFound, within}
-use Rattle.lines.specs.Judge.{begins, reserved, firstHeaderOf, HeaderRead, named, none, headerOf, blankb, isClose, titleGot, itemOf, ItemOrEnd, title, close}
-use Rattle.lines.specs.Judge.{notHeader, valueOf, ValueOrBlank, value, blank}
-use Rattle.lines.specs.Agree.{within-got, within-is, header-agrees, title-agrees, value-agrees, blank-agrees}
+use Rattle.line_judge.specs.Got.{Got, got, bad, then, need}
+use Rattle.line_judge.specs.GotLaws.{got-inj, bad-got, then-got, then-is}
+use Rattle.line_judge.specs.Field.{noneFound, within}
+use Rattle.line_judge.specs.Judge.{begins, reserved, firstHeaderOf, HeaderRead, named, none, headerOf, blankb, isClose, titleGot, itemOf, ItemOrEnd, title, close}
+use Rattle.line_judge.specs.Judge.{notHeader, valueOf, ValueOrBlank, value, blank}
+use Rattle.line_judge.specs.Agree.{within-got, within-is, header-agrees, title-agrees, value-agrees, blank-agrees}
 use Rattle.judge.specs.Marked.{Marked}
 use Rattle.judge.specs.Witness.{empty-header, blank-line}
 use Rattle.parts.specs.Part.{good}

@@ -4,7 +4,7 @@ use mathlib.Core.Path.{_≡_}
 use mathlib.Core.List.{[]}
 use lib.ListN.{length}
 use Rattle.text.specs.Text.{Bytes}
-use Rattle.lines.specs.Got.{Got, got, bad}
+use Rattle.line_judge.specs.Got.{Got, got, bad}
 use Rattle.parts.specs.Part.{PartVerdict, good}
 use Rattle.parts.specs.Written.{textOf}
 use Rattle.parts.specs.Step.{Taken}

@@ -6,7 +6,7 @@ use lib.ListN.{length}
 use native.Mathlib.Omega.{arith}
 use Rattle.text.specs.Text.{Bytes, Line}
 use Rattle.text.specs.Cut.{Cut, cut}
-use Rattle.lines.specs.Got.{Got, got, bad}
+use Rattle.line_judge.specs.Got.{Got, got, bad}
 use Rattle.parts.specs.Part.{PartVerdict, refused, Run, at, stopped, run, finish, conclude, verdictFrom}
 
 pub at-stopped : {P X : Type 0} {p : P} {e i c : ℕ} → _≡_ {A = Run P} (at p) (stopped e i c) → X

@@ -9,9 +9,9 @@ use Rattle.text.specs.Cut.{ended, split, cut}
 use Rattle.text.specs.Written.{text}
 use Rattle.numbers.specs.Read.{afterSpaces}
 use Rattle.rules.specs.Write.{headerText}
-use Rattle.lines.specs.Got.{then, need}
-use Rattle.lines.specs.Field.{within}
-use Rattle.lines.specs.Judge.{begins, contains, firstHeaderOf, blankb, nameOn, opened, spaced, arrowed, headerOf, itemOf, valueOf}
+use Rattle.line_judge.specs.Got.{then, need}
+use Rattle.line_judge.specs.Field.{within}
+use Rattle.line_judge.specs.Judge.{begins, contains, firstHeaderOf, blankb, nameOn, opened, spaced, arrowed, headerOf, itemOf, valueOf}
 use Rattle.parts.specs.Part.{PartVerdict, good, refused, run, verdictFrom, headerLine, headerTurn, headersVerdict, itemTurn, itemsVerdict}
 use Rattle.parts.specs.Written.{headersText, itemLines, itemsText, writtenHeaders, writtenItems}
 

@@ -4,10 +4,10 @@ use mathlib.Core.List.{[], _∷_, _++_}
 use lib.ListN.{length}
 use Rattle.text.specs.Text.{Bytes, Line, LF}
 use Rattle.rules.specs.Write.{headerText}
-use Rattle.lines.specs.Got.{Got, got, bad, then}
+use Rattle.line_judge.specs.Got.{Got, got, bad, then}
 use Rattle.text.specs.Find.{badColumn}
-use Rattle.lines.specs.Field.{noneFound, within}
-use Rattle.lines.specs.Judge.{firstHeaderOf, itemOf, ItemOrEnd, title, close, valueOf, ValueOrBlank, value, blank}
+use Rattle.line_judge.specs.Field.{noneFound, within}
+use Rattle.line_judge.specs.Judge.{firstHeaderOf, itemOf, ItemOrEnd, title, close, valueOf, ValueOrBlank, value, blank}
 use Rattle.parts.specs.Part.{PartVerdict, good, refused, verdictFrom}
 use Rattle.parts.specs.declared.Place.{Place}
 use Rattle.parts.specs.declared.Turn.{Turn}

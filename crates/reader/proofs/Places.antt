@@ -12,16 +12,17 @@ use Rattle.text.specs.Text.{Line}
 use Rattle.text.specs.Find.{badColumn}
 use Rattle.text.specs.declared.Found.{Found}
 use Rattle.rules.specs.Record.{limit}
-use Rattle.lines.specs.Got.{Got, got, bad, then, need}
-use Rattle.lines.specs.GotLaws.{bad-got, then-got}
-use Rattle.lines.specs.Field.{within, noneFound}
-use Rattle.lines.specs.AgreeField.{within-got}
-use Rattle.lines.specs.Judge as J
-use Rattle.lines.specs.Answer.{countsIs, countsGot, atomIs, atomGot, bondIs, bondGot}
+use Rattle.line_judge.specs.Got.{Got, got, bad, then, need}
+use Rattle.line_judge.specs.GotLaws.{bad-got, then-got}
+use Rattle.line_judge.specs.Field.{within, noneFound}
+use Rattle.line_judge.specs.AgreeField.{within-got}
+use Rattle.line_judge.specs.Judge as J
+use Rattle.atom_lines.specs.Answer.{atomIs, atomGot}
+use Rattle.lines.specs.Answer.{countsIs, countsGot, bondIs, bondGot}
 use Rattle.lines.specs.declared.Counts.{Counts}
 use Rattle.lines.specs.declared.CountsRead.{CountsRead}
-use Rattle.lines.specs.declared.Atom.{Atom}
-use Rattle.lines.specs.declared.AtomRead.{AtomRead}
+use Rattle.atom_lines.specs.declared.Atom.{Atom}
+use Rattle.atom_lines.specs.declared.AtomRead.{AtomRead}
 use Rattle.lines.specs.declared.Bond.{Bond}
 use Rattle.lines.specs.declared.BondRead.{BondRead}
 use Rattle.entries.specs.Listed.{seenOf, places}

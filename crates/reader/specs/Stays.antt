@@ -10,11 +10,11 @@ use Rattle.text.specs.Text.{Bytes, Line}
 use Rattle.text.specs.Columns.{Within}
 use Rattle.rules.specs.Forms as R
 use Rattle.rules.specs.Record.{limit}
-use Rattle.lines.specs.Got.{Got, got, bad, then}
-use Rattle.lines.specs.GotLaws.{got-inj, bad-got, then-got}
-use Rattle.lines.specs.AgreeField.{within-got}
-use Rattle.lines.specs.AgreeLine.{counts-got}
-use Rattle.lines.specs.Judge as J
+use Rattle.line_judge.specs.Got.{Got, got, bad, then}
+use Rattle.line_judge.specs.GotLaws.{got-inj, bad-got, then-got}
+use Rattle.line_judge.specs.AgreeField.{within-got}
+use Rattle.line_judge.specs.AgreeLine.{counts-got}
+use Rattle.line_judge.specs.Judge as J
 use Rattle.entries.specs.Listed.{seenOf}
 use Rattle.reader.specs.declared.Place.{Place}
 use Rattle.reader.specs.declared.Place.the-variants as P

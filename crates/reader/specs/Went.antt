@@ -8,10 +8,11 @@ use lib.ListN.{take, drop, replicate}
 use Rattle.text.specs.Text.{Bytes, Line}
 use Rattle.rules.specs.Forms as R
 use Rattle.rules.specs.Record.{limit}
-use Rattle.lines.specs.Got.{Got, got, bad, then}
-use Rattle.lines.specs.Field.{within}
-use Rattle.lines.specs.Judge as J
-use Rattle.lines.specs.Answer.{countsIs, atomIs, bondIs}
+use Rattle.line_judge.specs.Got.{Got, got, bad, then}
+use Rattle.line_judge.specs.Field.{within}
+use Rattle.line_judge.specs.Judge as J
+use Rattle.atom_lines.specs.Answer.{atomIs}
+use Rattle.lines.specs.Answer.{countsIs, bondIs}
 use Rattle.lines.specs.declared.Counts.{Counts}
 use Rattle.entries.specs.Listed.{seenOf, enter, places}
 use Rattle.reader.specs.declared.Place.{Place}

@@ -3,19 +3,19 @@ ghost use mathlib.Core.Path.{_≡_};
 ghost use mathlib.Core.List.{[]};
 ghost use Prim.Native.Nat.{_*_, _≤_};
 ghost use lib.ListN.{length};
-ghost use Rattle.lines.specs.Got.{got};
-ghost use Rattle.lines.specs.Field.{within};
+ghost use Rattle.line_judge.specs.Got.{got};
+ghost use Rattle.line_judge.specs.Field.{within};
 ghost use Rattle.lines.specs.Answer.{countsIs};
 ghost use Rattle.entries.specs.Listed.{places};
 ghost use Rattle.reader.specs.Went.{stepGot, wentOf, Kept, Sane, lineIn, headerIn, longestIn, moved, bondsOwed, atomsOwed, counted, afterEnd};
 ghost use Rattle.reader.specs.Parts.{begun, finished, beforeHeader, titleIn, lineGot, KeptAt};
+use atom_lines::Atom;
+use atom_lines::AtomRead;
 use entries::LISTED;
 use entries::PropertyRead;
 use items::HeaderJudged;
 use items::ItemRead;
 use items::ValueRead;
-use lines::Atom;
-use lines::AtomRead;
 use lines::Bond;
 use lines::BondRead;
 use lines::Counts;
@@ -287,7 +287,7 @@ fn at_atoms(reader: Reader, owed: u32, line: &[u8]) -> Step
     ensures { λ r. ⌜ titleIn (now (line .entry)) r ⌝ }
 {
     let counts = reader.counts;
-    match lines::atom_line(line, counts.atoms) {
+    match atom_lines::atom_line(line, counts.atoms) {
         AtomRead::Is(atom) => { Step::Atom(reader.moved(atoms_owed(owed - 1, counts.bonds)), atom) }
         AtomRead::Bad { no, column } => Step::Refused { no, column },
     }

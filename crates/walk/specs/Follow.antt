@@ -17,12 +17,12 @@ use Rattle.rules.specs.Forms.{Atom, Bond, Property}
 use Rattle.rules.specs.Record.{Headers, Molecule, Item, Raw, listed, limit}
 use Rattle.rules.specs.Meaning.{bondNumbers}
 use Rattle.pairs.specs.Taken.{pairTaken}
-use Rattle.lines.specs.Got.{Got, got, bad, then, need}
-use Rattle.lines.specs.Field.{within, noneFound}
-use Rattle.lines.specs.Agree.{within-got}
-use Rattle.lines.specs.AgreeLine.{counts-got, atom-got, bond-got}
-use Rattle.lines.specs.Judge.{firstHeaderOf, countsOf, atomOf, bondOf, propertyOf, itemOf, valueOf}
-use Rattle.lines.specs.Judge as L
+use Rattle.line_judge.specs.Got.{Got, got, bad, then, need}
+use Rattle.line_judge.specs.Field.{within, noneFound}
+use Rattle.line_judge.specs.Agree.{within-got}
+use Rattle.line_judge.specs.AgreeLine.{counts-got, atom-got, bond-got}
+use Rattle.line_judge.specs.Judge.{firstHeaderOf, countsOf, atomOf, bondOf, propertyOf, itemOf, valueOf}
+use Rattle.line_judge.specs.Judge as L
 use Rattle.lines.specs.Answer.{countsIs}
 use Rattle.lines.specs.declared.Counts.{Counts}
 use Rattle.entries.specs.Listed.{enter, seenOf}
