@@ -35,11 +35,12 @@ use Rattle.judge.specs.Place.{FileKind, molfile, sdfile, toAtoms, toBonds, line
 use Rattle.judge.specs.Place as J
 use Rattle.judge.specs.Place.{first, second, third, counts, atoms, bonds, properties, over, items, values, Turn, next}
 use Rattle.judge.specs.WalkText.{afterLines}
-use Rattle.reader.specs.declared.Place.{Place}
-use Rattle.reader.specs.declared.Place.the-variants as P
+use Rattle.record_places.specs.declared.Place.{Place}
+use Rattle.record_places.specs.declared.Place.the-variants as P
 use Rattle.reader.specs.declared.Reader.{Reader}
 use Rattle.reader.specs.Went as W
-use Rattle.reader.specs.Went.{Went, moved, bondsOwed, atomsOwed, counted, headerIn, lineIn, wentOf, tableAt, enteredBy}
+use Rattle.record_places.specs.Places.{bondsOwed, atomsOwed, afterEnd}
+use Rattle.reader.specs.Went.{Went, moved, counted, headerIn, lineIn, wentOf, tableAt, enteredBy}
 use Rattle.walk.specs.declared.Notes.{Notes}
 use Rattle.walk.specs.Keys.{keyOf, keysOf, SmallEnds, AllSmall, small-more}
 use Rattle.walk.specs.Took.{headedAt, endedAt, atomMore, bondMore}
@@ -338,7 +339,7 @@ module _ (kind : FileKind) (s : Bytes) (m : Notes) (t keys : List ℕ) (ta tb : 
   after-end : (hs : Headers) (d : Counts) (xs : List Atom) (bs : List Bond) (ps : List Property) → n ≡ afterLines s 0 i → d .atoms ≤ limit → d .bonds ≤ limit →
       Listing (d .atoms) t ps → Rows m keys ta tb xs bs → i ≡ 5 + length xs + length bs + length ps → Headed s m → (k : FileKind) →
       let mol : Molecule = record { headers = hs; counts = countsIs d; atoms = xs; bonds = bs; properties = ps } in
-      Stands k s (record { sd = isSd k; place = W.afterEnd (isSd k); counts = d }) (endedAt m n) t keys ta tb (suc i) (J.afterEnd k mol)
+      Stands k s (record { sd = isSd k; place = afterEnd (isSd k); counts = d }) (endedAt m n) t keys ta tb (suc i) (J.afterEnd k mol)
   after-end hs d xs bs ps after na nb sh rows line head molfile =
       record {
         sd = refl;
@@ -397,7 +398,7 @@ module _ (kind : FileKind) (s : Bytes) (m : Notes) (t keys : List ℕ) (ta tb : 
         refl,
         subst
             (λ (g : Got L.PropertyOrEnd).
-            Stands kind s (moved (readerAt p d) (W.afterEnd (isSd kind))) (endedAt m n) (enteredBy t g) keys ta tb (suc i)
+            Stands kind s (moved (readerAt p d) (afterEnd (isSd kind))) (endedAt m n) (enteredBy t g) keys ta tb (suc i)
             (J.afterEnd kind (record { headers = hs; counts = countsIs d; atoms = xs; bonds = bs; properties = ps })))
             (sym e) (after-end hs d xs bs ps after na nb (counted .1) rows (line .0) (line .1) kind),
       )
