@@ -1,8 +1,8 @@
--- `writable::stereo_holds` meets its contract.
-use Rattle.writable.proofs.Steps.{by-type}
+-- `rows::stereo_holds` meets its contract.
+use Rattle.rows.proofs.Steps.{by-type}
 use borrow.Author.Needs.{needs}
-use Rattle.writable.proofs.stereo_holds.Statement.{statement}
-use Rattle.writable.proofs.stereo_holds.Tie as tie
+use Rattle.rows.proofs.stereo_holds.Statement.{statement}
+use Rattle.rows.proofs.stereo_holds.Tie as tie
 
 shared-slice-copy-out-order : tie.Need-shared-slice-copy-out-order
 shared-slice-copy-out-order c = search needs

@@ -1,8 +1,8 @@
--- `writable::in_range` meets its contract.
-use Rattle.writable.proofs.Steps.{too-low, up-to}
+-- `rows::in_range` meets its contract.
+use Rattle.rows.proofs.Steps.{too-low, up-to}
 use borrow.Author.Needs.{needs}
-use Rattle.writable.proofs.in_range.Statement.{statement}
-use Rattle.writable.proofs.in_range.Tie as tie
+use Rattle.rows.proofs.in_range.Statement.{statement}
+use Rattle.rows.proofs.in_range.Tie as tie
 
 mul-v : tie.Need-mul-v
 mul-v c = search needs

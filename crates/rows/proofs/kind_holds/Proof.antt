@@ -1,9 +1,9 @@
--- `writable::kind_holds` meets its contract.
-use Rattle.writable.specs.Tables.{kindHolds}
-use Rattle.writable.proofs.Steps.{tests}
+-- `rows::kind_holds` meets its contract.
+use Rattle.rows.specs.Row.{kindHolds}
+use Rattle.rows.proofs.Steps.{tests}
 use borrow.Author.Needs.{needs}
-use Rattle.writable.proofs.kind_holds.Statement.{statement}
-use Rattle.writable.proofs.kind_holds.Tie as tie
+use Rattle.rows.proofs.kind_holds.Statement.{statement}
+use Rattle.rows.proofs.kind_holds.Tie as tie
 
 in-range-requires : tie.Need-in-range-requires
 in-range-requires c κs = search needs

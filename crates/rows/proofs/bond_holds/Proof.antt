@@ -1,9 +1,9 @@
--- `writable::bond_holds` meets its contract.
-use Rattle.writable.specs.Tables.{bondHolds}
-use Rattle.writable.proofs.Steps.{tests}
+-- `rows::bond_holds` meets its contract.
+use Rattle.rows.specs.Row.{bondHolds}
+use Rattle.rows.proofs.Steps.{tests}
 use borrow.Author.Needs.{needs}
-use Rattle.writable.proofs.bond_holds.Statement.{statement}
-use Rattle.writable.proofs.bond_holds.Tie as tie
+use Rattle.rows.proofs.bond_holds.Statement.{statement}
+use Rattle.rows.proofs.bond_holds.Tie as tie
 
 in-range-requires : tie.Need-in-range-requires
 in-range-requires c κs = search needs

@@ -1,9 +1,9 @@
--- `writable::changes_hold` meets its contract.
-use Rattle.writable.specs.Tables.{changesHold}
-use Rattle.writable.proofs.Steps.{tests}
+-- `rows::changes_hold` meets its contract.
+use Rattle.rows.specs.Row.{changesHold}
+use Rattle.rows.proofs.Steps.{tests}
 use borrow.Author.Needs.{needs}
-use Rattle.writable.proofs.changes_hold.Statement.{statement}
-use Rattle.writable.proofs.changes_hold.Tie as tie
+use Rattle.rows.proofs.changes_hold.Statement.{statement}
+use Rattle.rows.proofs.changes_hold.Tie as tie
 
 in-range-requires : tie.Need-in-range-requires
 in-range-requires c κs = search needs

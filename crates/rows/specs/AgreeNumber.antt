@@ -14,7 +14,7 @@ use Rattle.rules.specs.Canon.{FromTo, isZero}
 use Rattle.pairs.specs.Agree.{true-false}
 use Rattle.lines.specs.GotLaws.{cond-by}
 use Rattle.lines.specs.Field.{sameInteger, elemSigned}
-use Rattle.writable.specs.Tables.{inRange, minus, marks}
+use Rattle.rows.specs.Row.{inRange, minus, marks}
 
 -- ---- Two tests
 

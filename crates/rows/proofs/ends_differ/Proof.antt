@@ -1,8 +1,8 @@
--- `writable::ends_differ` meets its contract.
-use Rattle.writable.proofs.Steps.{bits-differ}
+-- `rows::ends_differ` meets its contract.
+use Rattle.rows.proofs.Steps.{bits-differ}
 use borrow.Author.Needs.{needs}
-use Rattle.writable.proofs.ends_differ.Statement.{statement}
-use Rattle.writable.proofs.ends_differ.Tie as tie
+use Rattle.rows.proofs.ends_differ.Statement.{statement}
+use Rattle.rows.proofs.ends_differ.Tie as tie
 
 shared-slice-copy-out-first : tie.Need-shared-slice-copy-out-first
 shared-slice-copy-out-first c = search needs

@@ -1,11 +1,11 @@
--- `writable::one_of` meets its contract.
+-- `rows::one_of` meets its contract.
 use borrow.Author.Needs.{needs}
 use Prim.Native.Nat.{_-_}
 use lib.IntN.{pos}
 use lib.ListN.{length, getD}
-use Rattle.writable.proofs.Steps.{Seeking, seeking}
-use Rattle.writable.proofs.one_of.Statement.{statement}
-use Rattle.writable.proofs.one_of.Tie as tie
+use Rattle.rows.proofs.Steps.{Seeking, seeking}
+use Rattle.rows.proofs.one_of.Statement.{statement}
+use Rattle.rows.proofs.one_of.Tie as tie
 
 abbrev Inv-loop : tie.InvT-loop
 Inv-loop row k list v i₀ i = Seeking (getD row k (pos 0)) list i

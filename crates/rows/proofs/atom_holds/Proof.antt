@@ -1,9 +1,9 @@
--- `writable::atom_holds` meets its contract.
-use Rattle.writable.specs.Tables.{atomHolds}
-use Rattle.writable.proofs.Steps.{tests}
+-- `rows::atom_holds` meets its contract.
+use Rattle.rows.specs.Row.{atomHolds}
+use Rattle.rows.proofs.Steps.{tests}
 use borrow.Author.Needs.{needs}
-use Rattle.writable.proofs.atom_holds.Statement.{statement}
-use Rattle.writable.proofs.atom_holds.Tie as tie
+use Rattle.rows.proofs.atom_holds.Statement.{statement}
+use Rattle.rows.proofs.atom_holds.Tie as tie
 
 place-holds-requires : tie.Need-place-holds-requires
 place-holds-requires c κs = search needs
