@@ -40,9 +40,9 @@ use Rattle.reader.specs.declared.Place.the-variants as P
 use Rattle.reader.specs.declared.Reader.{Reader}
 use Rattle.reader.specs.Went as W
 use Rattle.reader.specs.Went.{Went, moved, bondsOwed, atomsOwed, counted, headerIn, lineIn, wentOf, tableAt, enteredBy}
-use Rattle.walk.specs.declared.Notes.{Notes}
-use Rattle.walk.specs.Keys.{keyOf, keysOf, SmallEnds, AllSmall, small-more}
-use Rattle.walk.specs.Took.{headedAt, endedAt, atomMore, bondMore}
+use Rattle.taking.specs.declared.Notes.{Notes}
+use Rattle.keys.specs.Keys.{keyOf, keysOf, SmallEnds, AllSmall, small-more}
+use Rattle.taking.specs.Took.{headedAt, endedAt, atomMore, bondMore}
 use Rattle.walk.specs.Stands.{isSd, placeOf, Rows, Listing, Counted, Headed, Marks, Stands, atomsIn, bondsIn, moleculeLines}
 
 -- ---- Two readings of one line, by the same judge of the line

@@ -16,8 +16,8 @@ use Rattle.entries.specs.Listed.{places}
 use Rattle.tables.specs.Row.{rawRow, SmallAtom, SmallBond}
 use Rattle.reader.specs.declared.Reader.{Reader}
 use Rattle.reader.specs.Went.{Went, on, headed, atom, bond, ended, title, value, blank, done, wentOf, Kept, Sane}
-use Rattle.walk.specs.declared.Notes.{Notes}
-use Rattle.walk.specs.declared.Taken.{Taken}
+use Rattle.taking.specs.declared.Notes.{Notes}
+use Rattle.taking.specs.declared.Taken.{Taken}
 
 -- a bond and counts as the code has them
 abbrev pub bondBack : R.Bond → Bond
@@ -25,6 +25,11 @@ bondBack b = record { first = b .first; second = b .second; order = b .type; ste
 
 abbrev pub countsBack : R.Counts → Counts
 countsBack c = record { atoms = c .atoms; bonds = c .bonds; chiral = c .chiral }
+
+-- ---- The notes before the first line
+
+abbrev pub noNotes : Notes
+noNotes = record { atoms = 0; bonds = 0; «header_end» = 0; «items_start» = 0 }
 
 -- ---- The notes after a line, where the next line starts at `next`
 

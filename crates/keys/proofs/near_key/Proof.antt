@@ -1,9 +1,9 @@
--- `walk::near_key` meets its contract.
+-- `keys::near_key` meets its contract.
 use borrow.Author.Needs.{needs}
 use Prim.Native.Nat.{_-_}
-use Rattle.walk.specs.Keys.{Searching, searching-laws, searching-on}
-use Rattle.walk.proofs.near_key.Statement.{statement}
-use Rattle.walk.proofs.near_key.Tie as tie
+use Rattle.keys.specs.Keys.{Searching, searching-laws, searching-on}
+use Rattle.keys.proofs.near_key.Statement.{statement}
+use Rattle.keys.proofs.near_key.Tie as tie
 
 abbrev Inv-loop : tie.InvT-loop
 Inv-loop keys count key i₀ i = Searching keys key count i

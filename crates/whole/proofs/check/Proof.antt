@@ -1,8 +1,8 @@
--- `walk::check` meets its contract.
-use Rattle.walk.specs.Checking.{promise-laws}
+-- `whole::check` meets its contract.
+use Rattle.whole.specs.Promised.{promise-laws}
 use borrow.Author.Needs.{needs}
-use Rattle.walk.proofs.check.Statement.{statement}
-use Rattle.walk.proofs.check.Tie as tie
+use Rattle.whole.proofs.check.Statement.{statement}
+use Rattle.whole.proofs.check.Tie as tie
 
 slice-aggregate-check-molfile : tie.Need-slice-aggregate-check-molfile
 slice-aggregate-check-molfile c = search needs

@@ -1,13 +1,11 @@
 -- Laws on taking a line: what the reader's step answered decides what is taken.
-use Prim.Native.Nat.{ℕ, _+_, _-_, _*_, _≤_, _<_}
+use Prim.Native.Nat.{ℕ, _+_, _*_, _≤_, _<_}
 use native.Mathlib.Omega.{arith}
 use mathlib.Core.Path.{_≡_, refl, sym, ap, _∙_}
 use mathlib.Core.List.{List}
-use mathlib.Core.Bool.{Bool, true, false}
 use lib.ListN.{length}
 use lib.Seq.{sets}
 use lib.IntN.{ℤ}
-use borrow.Author.Tests.{lt-ltb, le-ltb, eq-eqb, ne-eqb}
 use Rattle.text.specs.Text.{Line}
 use Rattle.lines.specs.Got.{Got}
 use Rattle.lines.specs.Answer.{atomIs}
@@ -17,15 +15,10 @@ use Rattle.entries.specs.Listed.{places}
 use Rattle.tables.specs.Row.{rawRow, SmallAtom}
 use Rattle.reader.specs.declared.Reader.{Reader}
 use Rattle.reader.specs.declared.Step.{Step}
-use Rattle.reader.specs.declared.Finish.{Finish}
 use Rattle.reader.specs.Went.{Went, stepGot, wentOf, Kept}
-use Rattle.reader.specs.Parts.{finished}
-use Rattle.walk.specs.declared.Notes.{Notes}
-use Rattle.walk.specs.declared.Taken.{Taken}
-use Rattle.walk.specs.declared.Walked.{Walked}
-use Rattle.walk.specs.Keys.{pairKey}
-use Rattle.walk.specs.Took.{headedAt, endedAt, atomMore, takenBy, atomsBy, Ready, Took}
-use Rattle.walk.specs.AtEnd.{endWalked, endOf}
+use Rattle.taking.specs.declared.Notes.{Notes}
+use Rattle.taking.specs.declared.Taken.{Taken}
+use Rattle.taking.specs.Took.{headedAt, endedAt, atomMore, takenBy, atomsBy, Ready, Took}
 
 module _ (r : Reader) (m : Notes) (next : ℕ) (t : List ℕ) (ta : List ℤ) (l : Line) (x : Step) (t′ : List ℕ) (e : stepGot l x ≡ wentOf r t l) (k : Kept r t l t′)
     (z : length t′ ≡ 3 * places) where
@@ -80,35 +73,3 @@ module _ (r : Reader) (m : Notes) (t : List ℕ) (ta : List ℤ) (l : Line) (x :
   atom-small = g .fits r₂ (atomIs a) (sym e ∙ ap (stepGot l) q) .1
 
 pub ruleset taking-laws = (took-next, took-headed, took-atom, took-bond, took-ended, took-title, took-value, took-blank, took-done, took-refused, atom-few, atom-low, atom-room, atom-small)
-
--- ---- A pair's key
-
-pub key-low : (first second : ℕ) → first < second → 1024 * first + second ≡ pairKey first second
-unfolding pairKey
-key-low first second h = rw (lt-ltb first second h)
-
-pub key-high : (first second : ℕ) → second ≤ first → 1024 * second + first ≡ pairKey first second
-unfolding pairKey
-key-high first second h = rw (le-ltb first second h)
-
-pub ruleset key-laws = (key-low, key-high)
-
--- ---- The end of the lines
-
-pub end-by : (r : Reader) (m : Notes) (at i : ℕ) (x : Finish) (y : Walked) (v : Finish) → x ≡ finished r → x ≡ v → y ≡ endWalked r m at i v → y ≡ endWalked r m at i (finished r)
-end-by r m at i x y v e q h = h ∙ ap (endWalked r m at i) (sym q ∙ e)
-
-module _ (left : ℕ) (r : Reader) (m : Notes) (at i : ℕ) where
-  pub end-sd : (sd : Bool) → sd ≡ true → Walked.Refused 19 i 1 ≡ endOf sd left r m at i
-  unfolding endOf
-  end-sd sd e = rw e
-
-  pub end-none : (sd : Bool) (y : Walked) → sd ≡ false → left ≡ 0 → y ≡ endWalked r m at i (finished r) → y ≡ endOf sd left r m at i
-  unfolding endOf
-  end-none sd y e z h = rw (e, eq-eqb left 0 z) h
-
-  pub end-some : (sd : Bool) → sd ≡ false → (left ≡ 0 → ⊥) → Walked.Refused 19 i 1 ≡ endOf sd left r m at i
-  unfolding endOf
-  end-some sd e z = rw (e, ne-eqb left 0 z)
-
-pub ruleset end-laws = (end-by, end-sd, end-none, end-some)

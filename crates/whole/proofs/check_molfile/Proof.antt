@@ -1,8 +1,8 @@
--- `walk::check_molfile` meets its contract.
-use Rattle.walk.specs.Checking.{mol-laws}
+-- `whole::check_molfile` meets its contract.
+use Rattle.whole.specs.Going.{mol-laws}
 use borrow.Author.Needs.{needs}
-use Rattle.walk.proofs.check_molfile.Statement.{statement}
-use Rattle.walk.proofs.check_molfile.Tie as tie
+use Rattle.whole.proofs.check_molfile.Statement.{statement}
+use Rattle.whole.proofs.check_molfile.Tie as tie
 
 walk-record-requires : tie.Need-walk-record-requires
 walk-record-requires c κs = search needs

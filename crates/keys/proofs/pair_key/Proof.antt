@@ -1,8 +1,8 @@
--- `walk::pair_key` meets its contract.
-use Rattle.walk.proofs.Taking.{key-laws}
+-- `keys::pair_key` meets its contract.
+use Rattle.keys.proofs.Keying.{key-laws}
 use borrow.Author.Needs.{needs}
-use Rattle.walk.proofs.pair_key.Statement.{statement}
-use Rattle.walk.proofs.pair_key.Tie as tie
+use Rattle.keys.proofs.pair_key.Statement.{statement}
+use Rattle.keys.proofs.pair_key.Tie as tie
 
 mul-result : tie.Need-mul-result
 mul-result c = search needs

@@ -1,10 +1,10 @@
--- `walk::check_sdfile` meets its contract.
+-- `whole::check_sdfile` meets its contract.
 use borrow.Author.Needs.{needs}
 use Prim.Native.Nat.{_-_}
 use lib.ListN.{length}
-use Rattle.walk.specs.Checking.{Going, going-laws}
-use Rattle.walk.proofs.check_sdfile.Statement.{statement}
-use Rattle.walk.proofs.check_sdfile.Tie as tie
+use Rattle.whole.specs.Going.{Going, going-laws}
+use Rattle.whole.proofs.check_sdfile.Statement.{statement}
+use Rattle.whole.proofs.check_sdfile.Tie as tie
 
 abbrev Inv-loop : tie.InvT-loop
 Inv-loop s atoms₀ bonds₀ listed₀ at₀ line₀ records₀ atoms bonds listed at line records = Going s atoms₀ bonds₀ atoms bonds listed at line records

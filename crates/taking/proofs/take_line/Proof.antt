@@ -1,8 +1,8 @@
--- `walk::take_line` meets its contract.
-use Rattle.walk.proofs.Taking.{taking-laws}
+-- `taking::take_line` meets its contract.
+use Rattle.taking.proofs.Taking.{taking-laws}
 use borrow.Author.Needs.{needs}
-use Rattle.walk.proofs.take_line.Statement.{statement}
-use Rattle.walk.proofs.take_line.Tie as tie
+use Rattle.taking.proofs.take_line.Statement.{statement}
+use Rattle.taking.proofs.take_line.Tie as tie
 
 step-requires : tie.Need-step-requires
 step-requires c κs = search needs

@@ -1,12 +1,12 @@
--- `walk::key_in_block` meets its contract.
+-- `keys::key_in_block` meets its contract.
 use borrow.Author.Needs.{needs}
 use Prim.Native.Nat.{_+_, _-_, _≤_}
 use native.Mathlib.Omega.{arith}
 use mathlib.Core.Logic.{⊎-elim}
 use mathlib.Core.Path.{_≡_}
-use Rattle.walk.specs.Keys.{Missed, missed-start, missed-next, missed-all}
-use Rattle.walk.proofs.key_in_block.Statement.{statement}
-use Rattle.walk.proofs.key_in_block.Tie as tie
+use Rattle.keys.specs.Keys.{Missed, missed-start, missed-next, missed-all}
+use Rattle.keys.proofs.key_in_block.Statement.{statement}
+use Rattle.keys.proofs.key_in_block.Tie as tie
 
 abbrev Inv-loop : tie.InvT-loop
 Inv-loop keys at key w₀ k₀ w k = (k ≤ 8) × (w ≡ 0 → Missed keys key at (at + k))
