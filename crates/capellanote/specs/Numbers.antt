@@ -4,9 +4,10 @@ use mathlib.Core.Path.{_≡_, sym, ap, _∙_}
 use mathlib.Core.List.{List, [], _∷_}
 use lib.ListN.{length}
 use Rattle.text.specs.Text.{Bytes}
-use Rattle.walk.specs.declared.Answer.{Answer}
+use Rattle.whole.specs.declared.Answer.{Answer}
 use Rattle.walk.specs.Promise as Check
-use Rattle.walk.specs.Checking.{checkOf, Promised}
+use Rattle.walk.specs.Checking.{checkOf}
+use Rattle.whole.specs.Promised.{numbersOf, Promised}
 use Rattle.read.specs.declared.RecordRead.{RecordRead}
 use Rattle.fetch.specs.declared.Found.{Found}
 use Rattle.fetch.specs.Find as Fetch
@@ -43,13 +44,13 @@ catalogueNumbers (Catalogue.Refused e i column) = e ∷ (i ∷ (column ∷ []))
 -- ---- The arrays say what the functions answer
 
 module _ (a : Answer) where
-  pub check-accepted : (count : ℕ) → a ≡ Answer.Accepted count → 0 ∷ (count ∷ (0 ∷ [])) ≡ checkNumbers (Check.numbersOf a)
+  pub check-accepted : (count : ℕ) → a ≡ Answer.Accepted count → 0 ∷ (count ∷ (0 ∷ [])) ≡ checkNumbers (numbersOf a)
   unfolding checkNumbers
-  check-accepted count h = ap (λ (x : Answer). checkNumbers (Check.numbersOf x)) (sym h)
+  check-accepted count h = ap (λ (x : Answer). checkNumbers (numbersOf x)) (sym h)
 
-  pub check-refused : (e i column : ℕ) → a ≡ Answer.Refused e i column → e ∷ (i ∷ (column ∷ [])) ≡ checkNumbers (Check.numbersOf a)
+  pub check-refused : (e i column : ℕ) → a ≡ Answer.Refused e i column → e ∷ (i ∷ (column ∷ [])) ≡ checkNumbers (numbersOf a)
   unfolding checkNumbers
-  check-refused e i column h = ap (λ (x : Answer). checkNumbers (Check.numbersOf x)) (sym h)
+  check-refused e i column h = ap (λ (x : Answer). checkNumbers (numbersOf x)) (sym h)
 
 module _ (x : RecordRead) where
   pub read-accepted : (n m chiral length lines h a b : ℕ) → x ≡ RecordRead.Read n m chiral length lines h a b →
@@ -92,7 +93,7 @@ pub ruleset array-laws = (check-accepted, check-refused, read-accepted, read-ref
 
 -- and so what their contracts say
 module _ (out : List ℕ) where
-  pub check-told : (kind : ℕ) (s : Bytes) (r : Answer) → out ≡ checkNumbers (Check.numbersOf r) → Promised kind s r → out ≡ checkNumbers (checkOf kind s)
+  pub check-told : (kind : ℕ) (s : Bytes) (r : Answer) → out ≡ checkNumbers (numbersOf r) → Promised kind s r → out ≡ checkNumbers (checkOf kind s)
   check-told kind s r e p = e ∙ ap checkNumbers (p .judged)
 
   pub read-told : (x y : RecordRead) → out ≡ readNumbers x → x ≡ y → out ≡ readNumbers y

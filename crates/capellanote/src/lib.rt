@@ -1,7 +1,7 @@
 // The library for C: answers are arrays of numbers, the first 0 or that of the refusal (include/capellanote.h).
 ghost use mathlib.Core.Path.{_≡_};
 ghost use lib.ListN.{length};
-ghost use Rattle.walk.specs.Promise.{numbersOf};
+ghost use Rattle.whole.specs.Promised.{numbersOf};
 ghost use Rattle.walk.specs.Checking.{checkOf};
 ghost use Rattle.read.specs.Read.{readOf, atomsAfter, bondsAfter};
 ghost use Rattle.fetch.specs.Find.{foundOf};
@@ -12,7 +12,7 @@ ghost use Rattle.capellanote.specs.Numbers.{checkNumbers, readNumbers, f
 use catalogue::Catalogue;
 use fetch::Found;
 use read::RecordRead;
-use walk::Answer;
+use whole::Answer;
 use writer::Written;
 
 fn of_check(a: Answer) -> [u64; 3]
@@ -86,7 +86,7 @@ fn of_catalogue(c: Catalogue) -> [u64; 3]
 pub extern "C" fn capellanote_check(kind: u8, s: &[u8], answer: &mut [u64; 3])
     ensures { λ _. ⌜ now (answer .exit) ≡ checkNumbers (checkOf kind (now (s .entry))) ⌝ }
 {
-    *answer = of_check(walk::check(kind, s));
+    *answer = of_check(whole::check(kind, s));
 }
 
 // One record from the front of a text, into the tables.

@@ -21,7 +21,7 @@ use Rattle.tables.specs.Cleared.{refused-filled, atoms-filled, bonds-filled}
 use Rattle.judge.specs.Place.{FileKind, molfile, sdfile}
 use Rattle.walk.specs.declared.Walked.{Walked}
 use Rattle.walk.specs.Outcome.{Outcome, whole, refused, outcomeOf}
-use Rattle.walk.specs.Took.{countsBack}
+use Rattle.taking.specs.Took.{countsBack}
 use Rattle.walk.specs.Stands.{kindOf, Listing}
 use Rattle.walk.specs.Walked.{walkedBy, walkOf, HeldBy, Held, Left}
 use Rattle.read.specs.declared.RecordRead.{RecordRead}

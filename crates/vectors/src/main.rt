@@ -37,7 +37,7 @@ fn check_case(s: &[u8], at: usize) -> Next {
     if e <= from {
         return Next::Bad;
     }
-    print::checked(walk::check(kind as u8, &s[from..e - 1]));
+    print::checked(whole::check(kind as u8, &s[from..e - 1]));
     Next::At(e)
 }
 

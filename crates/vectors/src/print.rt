@@ -2,7 +2,7 @@
 use catalogue::Catalogue;
 use fetch::Found;
 use read::RecordRead;
-use walk::Answer;
+use whole::Answer;
 use writer::Written;
 
 fn say(word: &[u8]) {

@@ -7,7 +7,7 @@ pub use say::report;
 pub use say::tell;
 use stream::Filled;
 use stream::Out;
-use walk::Answer;
+use whole::Answer;
 ghost use Prim.Native.Nat.{_<_};
 ghost use lib.ListN.{length};
 
@@ -135,7 +135,7 @@ fn judge_records(fd: i32, buf: &mut [u8], progress: bool) -> Verdict
 
 // A molfile that is wholly there.
 fn molfile_whole(s: &[u8]) -> Verdict {
-    match walk::check(0, s) {
+    match whole::check(0, s) {
         Answer::Accepted { records } => Verdict::Accepted { records },
         Answer::Refused { no, line, column } => Verdict::Refused { no, line, column },
     }
@@ -143,7 +143,7 @@ fn molfile_whole(s: &[u8]) -> Verdict {
 
 // The beginning of a molfile: a refused line is refused whatever follows.
 fn molfile_begun(s: &[u8]) -> Verdict {
-    match walk::check(0, s) {
+    match whole::check(0, s) {
         Answer::Accepted { records: _ } => Verdict::TooLong { record: 1 },
         Answer::Refused { no, line, column } => {
             if no == 19 {

@@ -20,12 +20,12 @@ use Rattle.judge.specs.WalkText.{afterLines}
 use Rattle.reader.specs.declared.Reader.{Reader}
 use Rattle.record_places.specs.declared.Finish.{Finish}
 use Rattle.record_places.specs.declared.Place.{Place}
-use Rattle.record_places.specs.Places.{finishedAt}
 use Rattle.reader.specs.Parts.{finished}
-use Rattle.walk.specs.declared.Notes.{Notes}
+use Rattle.record_places.specs.Places.{finishedAt}
+use Rattle.taking.specs.declared.Notes.{Notes}
 use Rattle.walk.specs.declared.Walked.{Walked}
 use Rattle.walk.specs.Outcome.{Outcome, outcomeOf, endAt, recordFrom}
-use Rattle.walk.specs.Took.{countsBack}
+use Rattle.taking.specs.Took.{countsBack}
 use Rattle.walk.specs.Stands.{isSd, kindOf, placeOf, Rows, Counted, Marks, atomsIn, bondsIn, moleculeLines}
 use Rattle.walk.specs.Walked.{walkedBy, walkOf, HeldBy, Left}
 use Rattle.walk.specs.Walking.{Walking}

@@ -21,10 +21,9 @@ use Rattle.judge.specs.OneAgree.{one-refused, one-short}
 use Rattle.judge.specs.WalkText.{afterLines, after-within, fileText, verdict-text, text-end, text-room, text-whole, text-refused, text-short}
 use Rattle.judge.specs.Promise.{accepted-mol}
 use Rattle.walk.specs.declared.Walked.{Walked}
-use Rattle.walk.specs.declared.Answer.{Answer}
 use Rattle.walk.specs.Outcome.{Outcome, whole, refused, ofOne, ofVerdict, outcomeOf, one-next, one-done, one-bad}
 use Rattle.walk.specs.Walked.{walkedBy, walkOf, Left}
-use Rattle.walk.specs.Promise.{Said, accepted, numbersOf, saidBy, CheckedAs, verdict-checked}
+use Rattle.walk.specs.Promise.{Said, accepted, saidBy}
 
 -- ---- What the check says
 
@@ -36,54 +35,6 @@ abbrev pub checkOf : ℕ → Bytes → Said
 checkOf zero s = saidOf molfile s
 checkOf (suc zero) s = saidOf sdfile s
 checkOf (suc (suc kind)) s = Said.refused 1 0 0
-
--- the judge's verdict, and so the promise in the words of the rules
-pub record Promised (kind : ℕ) (s : Bytes) (r : Answer) : Type 0 where
-  pub judged : numbersOf r ≡ checkOf kind s
-  pub checked : CheckedAs kind s (numbersOf r)
-
-pub promised : (kind : ℕ) (s : Bytes) (r : Answer) → numbersOf r ≡ checkOf kind s → Promised kind s r
-promised kind s r e = record { judged = e; checked = subst (CheckedAs kind s) (sym e) (by kind) }
-  where
-    by : (kind : ℕ) → CheckedAs kind s (checkOf kind s)
-    by zero = verdict-checked s molfile
-    by (suc zero) = verdict-checked s sdfile
-    by (suc (suc kind)) = refl
-
-pub promised-mol : (kind : ℕ) (s : Bytes) (r : Answer) → kind ≡ 0 → numbersOf r ≡ saidOf molfile s → Promised kind s r
-promised-mol kind s r e h = promised kind s r (h ∙ ap (λ (k : ℕ). checkOf k s) (sym e))
-
-pub promised-sd : (kind : ℕ) (s : Bytes) (r : Answer) → kind ≡ 1 → numbersOf r ≡ saidOf sdfile s → Promised kind s r
-promised-sd kind s r e h = promised kind s r (h ∙ ap (λ (k : ℕ). checkOf k s) (sym e))
-
-pub promised-none : (kind : ℕ) (s : Bytes) → (kind ≡ 0 → ⊥) → (kind ≡ 1 → ⊥) → Promised kind s (Answer.Refused 1 0 0)
-promised-none kind s z o = promised kind s (Answer.Refused 1 0 0) (other kind z o)
-  where
-    other : (kind : ℕ) → (kind ≡ 0 → ⊥) → (kind ≡ 1 → ⊥) → Said.refused 1 0 0 ≡ checkOf kind s
-    other zero z o = absurd (z refl)
-    other (suc zero) z o = absurd (o refl)
-    other (suc (suc k)) z o = refl
-
-pub ruleset promise-laws = (promised-mol, promised-sd, promised-none)
-
--- ---- A molfile
-
-abbrev pub answerBy : Walked → Answer
-answerBy (Walked.Whole c length lines h a b) = Answer.Accepted 1
-answerBy (Walked.Refused e i column) = Answer.Refused e i column
-
-pub mol-said : (s : Bytes) (x : Walked) → x ≡ walkOf molfile s → numbersOf (answerBy x) ≡ saidOf molfile s
-unfolding walkOf outcomeOf
-mol-said s x e = ap (λ (w : Walked). numbersOf (answerBy w)) e ∙ go (verdict molfile limit s) refl
-  where
-    go : (v : Verdict) → verdict molfile limit s ≡ v → numbersOf (answerBy (walkedBy molfile s (ofVerdict (length (cut s .lines)) v))) ≡ saidBy v
-    go (Verdict.accepted []) h =
-        let g = accepted-mol limit s [] .0 h in
-        absurd (omega (arith, ap length (g .1)))
-    go (Verdict.accepted (y ∷ ys)) h =
-        let g = accepted-mol limit s (y ∷ ys) .0 h in
-        ap accepted (sym (ap length (g .1)))
-    go (Verdict.refused n i c) h = refl
 
 -- ---- An SDfile, record by record
 
@@ -134,7 +85,7 @@ pub record Filing (s : Bytes) (at i c : ℕ) : Type 0 where
 pub filing-start : (s : Bytes) → Filing s 0 1 0
 filing-start s = record { xs = []; count = refl; inside = omega arith; few = omega arith; lines = omega arith; same = verdict-text limit s }
 
-pub filing-end : (s : Bytes) (at i c : ℕ) → Filing s at i c → length s ≤ at → numbersOf (Answer.Accepted c) ≡ saidOf sdfile s
+pub filing-end : (s : Bytes) (at i c : ℕ) → Filing s at i c → length s ≤ at → accepted c ≡ saidOf sdfile s
 filing-end s at i c g h =
     sym (ap saidBy (g .same ∙ ap (fileText limit (g .xs) i) (drop-of-length-le s h) ∙ text-end limit (g .xs) i) ∙ ap accepted (sym (g .count)))
 
@@ -233,7 +184,7 @@ module _ (s : Bytes) (at i c : ℕ) (g : Filing s at i c) (some : at < length s)
               said = g .same ∙ text-short limit (g .xs) i (drop at s) j o (omega (arith, length-drop at s)) ∙ rw (jk, sym ne, sym dc);
             }
 
-    pub filing-refused : numbersOf (Answer.Refused e (i + k - 1) column) ≡ saidOf sdfile s
+    pub filing-refused : Said.refused e (i + k - 1) column ≡ saidOf sdfile s
     filing-refused = sym (ap saidBy (stopped .said))
 
     pub filing-sum : length s * 1 < 2 ^ 63 → Fits w64 (i + k)
@@ -242,104 +193,10 @@ module _ (s : Bytes) (at i c : ℕ) (g : Filing s at i c) (some : at < length s)
     pub filing-some : 1 ≤ i + k
     filing-some = omega (arith, stopped .low)
 
--- ---- With the tables
-
--- between two records: the tables have room, and the lengths they had
-pub record Going (s : Bytes) (ta₀ tb₀ ta tb : List ℤ) (t : List ℕ) (at i c : ℕ) : Type 0 where
-  pub filing : Filing s at i c
-  pub bytes : length s * 1 < 2 ^ 63
-  pub atoms : 4080 ≤ length ta
-  pub bonds : 1530 ≤ length tb
-  pub listed : length t ≡ 3 * places
-  pub atoms-size : length ta ≡ length ta₀
-  pub bonds-size : length tb ≡ length tb₀
-
-pub going-start : (s : Bytes) (ta tb : List ℤ) (t : List ℕ) → length s * 1 < 2 ^ 63 → 4080 ≤ length ta → 1530 ≤ length tb → length t ≡ 3 * places → Going s ta tb ta tb t 0 1 0
-going-start s ta tb t few ra rb rt =
-    record { filing = filing-start s; bytes = few; atoms = ra; bonds = rb; listed = rt; atoms-size = refl; bonds-size = refl }
-
-module _ (s : Bytes) (ta₀ tb₀ ta tb : List ℤ) (t : List ℕ) (at i c : ℕ) (g : Going s ta₀ tb₀ ta tb t at i c) where
-  pub going-end : length s ≤ at → numbersOf (Answer.Accepted c) ≡ saidOf sdfile s
-  going-end h = filing-end s at i c (g .filing) h
-
-  pub going-atoms : length ta ≡ length ta₀
-  going-atoms = g .atoms-size
-
-  pub going-bonds : length tb ≡ length tb₀
-  going-bonds = g .bonds-size
-
-  module _ (some : at < length s) (x : Walked) (ex : x ≡ walkOf sdfile (take (length s - at) (drop at s))) (ta′ tb′ : List ℤ) (t′ : List ℕ) (o : Outcome)
-      (left : Left ta ta′ tb tb′ t′ o) where
-    pub left-atoms : length ta′ ≡ length ta₀
-    left-atoms = left .atoms .size ∙ g .atoms-size
-
-    pub left-bonds : length tb′ ≡ length tb₀
-    left-bonds = left .bonds .size ∙ g .bonds-size
-
-    module _ (cs : Counts) (len k h a b : ℕ) (q : x ≡ Walked.Whole cs len k h a b) where
-      pub going-next : Going s ta₀ tb₀ ta′ tb′ t′ (at + len) (i + k) (c + 1)
-      going-next =
-          record {
-            filing = filing-next s at i c (g .filing) some x ex cs len k h a b q;
-            bytes = g .bytes;
-            atoms = omega (arith, left .atoms .size, g .atoms);
-            bonds = omega (arith, left .bonds .size, g .bonds);
-            listed = left .size;
-            atoms-size = left-atoms;
-            bonds-size = left-bonds;
-          }
-
-      pub going-less : length s - (at + len) < length s - at
-      going-less = filing-less s at i c (g .filing) some x ex cs len k h a b q
-
-      pub fits-at : Fits w64 (at + len)
-      fits-at = filing-at s at i c (g .filing) some x ex cs len k h a b q (g .bytes)
-
-      pub fits-line : Fits w64 (i + k)
-      fits-line = filing-line s at i c (g .filing) some x ex cs len k h a b q (g .bytes)
-
-      pub fits-count : Fits w64 (c + 1)
-      fits-count = filing-count s at i c (g .filing) some x ex (g .bytes)
-
-    module _ (e k column : ℕ) (q : x ≡ Walked.Refused e k column) where
-      pub going-refused : numbersOf (Answer.Refused e (i + k - 1) column) ≡ saidOf sdfile s
-      going-refused = filing-refused s at i c (g .filing) some x ex e k column q
-
-      pub fits-sum : Fits w64 (i + k)
-      fits-sum = filing-sum s at i c (g .filing) some x ex e k column q (g .bytes)
-
-      pub sum-some : 1 ≤ i + k
-      sum-some = filing-some s at i c (g .filing) some x ex e k column q
-
-pub ruleset going-laws = (
-  going-start,
-  going-end,
-  going-atoms,
-  going-bonds,
-  left-atoms,
-  left-bonds,
-  going-next,
-  going-less,
-  fits-at,
-  fits-line,
-  fits-count,
-  going-refused,
-  fits-sum,
-  sum-some,
-)
-
--- ---- A molfile's answer
-
-pub mol-whole : (s : Bytes) (x : Walked) (c : Counts) (len k h a b : ℕ) → x ≡ walkOf molfile s → x ≡ Walked.Whole c len k h a b → numbersOf (Answer.Accepted 1) ≡ saidOf molfile s
-mol-whole s x c len k h a b e q = ap (λ (w : Walked). numbersOf (answerBy w)) (sym q) ∙ mol-said s x e
-
-pub mol-refused : (s : Bytes) (x : Walked) (e i column : ℕ) → x ≡ walkOf molfile s → x ≡ Walked.Refused e i column → numbersOf (Answer.Refused e i column) ≡ saidOf molfile s
-mol-refused s x e i column h q = ap (λ (w : Walked). numbersOf (answerBy w)) (sym q) ∙ mol-said s x h
+-- ---- The lengths that the walk leaves
 
 pub left-length : (ta₀ ta tb₀ tb : List ℤ) (t : List ℕ) (o : Outcome) → Left ta₀ ta tb₀ tb t o → length ta ≡ length ta₀
 left-length ta₀ ta tb₀ tb t o l = l .atoms .size
 
 pub left-length-2 : (ta₀ ta tb₀ tb : List ℤ) (t : List ℕ) (o : Outcome) → Left ta₀ ta tb₀ tb t o → length tb ≡ length tb₀
 left-length-2 ta₀ ta tb₀ tb t o l = l .bonds .size
-
-pub ruleset mol-laws = (mol-whole, mol-refused, left-length, left-length-2)

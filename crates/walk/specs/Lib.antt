@@ -1,7 +1,5 @@
-pub mod Keys
 pub mod Outcome
 pub mod Stands
-pub mod Took
 pub mod Follow
 pub mod Walked
 pub mod Walking

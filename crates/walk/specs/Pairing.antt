@@ -16,12 +16,12 @@ use Rattle.lines.specs.Answer.{bondIs}
 use Rattle.lines.specs.declared.Bond.{Bond}
 use Rattle.tables.specs.Held.{drop-sets}
 use Rattle.reader.specs.declared.Reader.{Reader}
-use Rattle.walk.specs.declared.Notes.{Notes}
-use Rattle.walk.specs.declared.Taken.{Taken}
+use Rattle.taking.specs.declared.Notes.{Notes}
+use Rattle.taking.specs.declared.Taken.{Taken}
 use Rattle.walk.specs.declared.Walked.{Walked}
-use Rattle.walk.specs.Keys.{pairKey, Searching, searching-next, searching-found, searching-end}
+use Rattle.keys.specs.Keys.{pairKey, Searching, searching-next, searching-found, searching-end}
 use Rattle.walk.specs.Outcome.{refused, outcomeOf}
-use Rattle.walk.specs.Took.{bondMore, Took, Keeping}
+use Rattle.taking.specs.Took.{bondMore, Took, Keeping}
 use Rattle.walk.specs.Stands.{kindOf}
 use Rattle.walk.specs.Walked.{walkedBy, walkOf, Beside, HeldBy, Left}
 use Rattle.walk.specs.Walking.{Walking, Bonding, part, bonding}

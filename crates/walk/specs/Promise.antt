@@ -16,16 +16,11 @@ use Rattle.judge.specs.Refuse.{AFile, refuses}
 use Rattle.judge.specs.Marked.{refused-marked}
 use Rattle.judge.specs.Ending.{Judged, judged}
 use Rattle.judge.specs.Promise.{Good, accepted-sd, accepted-mol, Refusal, refused-text}
-use Rattle.walk.specs.declared.Answer.{Answer}
 
 -- what the format's description says of an answer: how many records, or number, line and column of a refusal
 pub data Said : Type 0 where
   accepted : ℕ → Said
   refused : ℕ → ℕ → ℕ → Said
-
-abbrev pub numbersOf : Answer → Said
-numbersOf (Answer.Accepted count) = accepted count
-numbersOf (Answer.Refused e i column) = refused e i column
 
 -- ---- The promise
 

@@ -20,8 +20,8 @@ use Rattle.judge.specs.WalkText.{afterLines}
 use Rattle.record_places.specs.declared.Place.{Place}
 use Rattle.record_places.specs.declared.Place.the-variants as P
 use Rattle.reader.specs.declared.Reader.{Reader}
-use Rattle.walk.specs.declared.Notes.{Notes}
-use Rattle.walk.specs.Keys.{keysOf, AllSmall}
+use Rattle.taking.specs.declared.Notes.{Notes}
+use Rattle.keys.specs.Keys.{keysOf, AllSmall}
 
 -- ---- The reader's state
 

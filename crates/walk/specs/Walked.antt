@@ -12,7 +12,7 @@ use Rattle.judge.specs.Place.{FileKind, molfile, sdfile}
 use Rattle.judge.specs.WalkText.{afterLines}
 use Rattle.walk.specs.declared.Walked.{Walked}
 use Rattle.walk.specs.Outcome.{Outcome, whole, refused, outcomeOf}
-use Rattle.walk.specs.Took.{countsBack}
+use Rattle.taking.specs.Took.{countsBack}
 use Rattle.walk.specs.Stands.{Listing, moleculeLines}
 
 -- where the items of a record of k lines end: before the `$$$$` line; a molfile has none

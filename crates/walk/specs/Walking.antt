@@ -35,12 +35,12 @@ use Rattle.reader.specs.declared.Reader.{Reader}
 use Rattle.reader.specs.Went as W
 use Rattle.reader.specs.Went.{Went, wentOf, tableAt, Sane}
 use Rattle.reader.specs.Parts.{begun}
-use Rattle.walk.specs.declared.Notes.{Notes}
-use Rattle.walk.specs.declared.Taken.{Taken}
+use Rattle.taking.specs.declared.Notes.{Notes}
+use Rattle.taking.specs.declared.Taken.{Taken}
 use Rattle.walk.specs.declared.Walked.{Walked}
-use Rattle.walk.specs.Keys.{keyOf, AllSmall, taken-keys}
+use Rattle.keys.specs.Keys.{keyOf, AllSmall, taken-keys}
 use Rattle.walk.specs.Outcome.{whole, refused, outcomeOf, recordFrom, from-next, from-done, from-bad, outcome-from, mol-open}
-use Rattle.walk.specs.Took.{bondBack, countsBack, headedAt, endedAt, atomMore, bondMore, takenBy, atomsBy, Ready, Took}
+use Rattle.taking.specs.Took.{noNotes, bondBack, countsBack, headedAt, endedAt, atomMore, bondMore, takenBy, atomsBy, Ready, Took}
 use Rattle.walk.specs.Stands.{isSd, kindOf, placeOf, Counted, Stands}
 use Rattle.walk.specs.Follow.{Onto, Stored, Pending, Closed, Goes, follow}
 use Rattle.walk.specs.Walked.{itemsEnd, walkedBy, walkOf, Beside, HeldBy, Left}
@@ -78,9 +78,6 @@ pub record Walking (sd : Bool) (s : Bytes) (ta₀ tb₀ : List ℤ) (r : Reader)
   pub atoms-beside : Beside 4080 ta₀ ta
   pub bonds-beside : Beside 1530 tb₀ tb
   pub same : outcomeOf (kindOf sd) s ≡ recordFrom (kindOf sd) p i (cut (drop at s) .lines) (cut (drop at s) .rest)
-
-abbrev pub noNotes : Notes
-noNotes = record { atoms = 0; bonds = 0; «header_end» = 0; «items_start» = 0 }
 
 sd-kind : (sd : Bool) → sd ≡ isSd (kindOf sd)
 sd-kind true = refl

@@ -14,7 +14,7 @@ use borrow.Author.Tests.{not-true, not-false}
 use Rattle.rules.specs.Canon.{isZero}
 use Rattle.rules.specs.Rows.{rowAt, rowsOf, rows-length, rows-next}
 use Rattle.writable.specs.Tables.{allRows}
-use Rattle.writable.proofs.Steps.{bits-test}
+use Rattle.rows.proofs.Steps.{bits-test}
 
 -- the test of all rows is that of row i and those after it
 pub record Walking (p : List ℤ → Bool) (width : ℕ) (t : List ℤ) (n i : ℕ) : Type 0 where

@@ -12,9 +12,9 @@ use mir.Syntax.{w32}
 use mir.Val.{SFits, ofZ}
 use Rattle.line_judge.specs.Field.{sameInteger}
 use Rattle.writable.specs.Tables.{sameEnds, sameAt, against, walkFrom, firstRepeat}
-use Rattle.writable.specs.AgreeNumber.{same-refl, same-is}
+use Rattle.rows.specs.AgreeNumber.{same-refl, same-is}
 use Rattle.writable.specs.declared.Repeat.the-variants.{Pair, Nothing}
-use Rattle.writable.proofs.Steps.{bits-same, bits-apart, bits-test}
+use Rattle.rows.proofs.Steps.{bits-same, bits-apart, bits-test}
 use Rattle.writable.proofs.Loops.{row-get}
 
 abbrev end : List ℤ → ℕ → ℤ

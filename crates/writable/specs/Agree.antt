@@ -13,8 +13,9 @@ use Rattle.rules.specs.Meaning.{Reading}
 use Rattle.rules.specs.Canon.{atomRow, bondRow, bondOf, canon, entriesFrom, WritableAtom, WritableBond, Rows, Writable}
 use Rattle.rules.specs.Rows.{rowsOf, rows-length}
 use Rattle.writable.specs.Tables.{atomsHold, bondsHold, massesHold, firstRepeat, isNothing, countsHold, tablesHold, writableTables}
-use Rattle.writable.specs.AgreeNumber.{left-true, right-true, and-agrees, up-agrees}
-use Rattle.writable.specs.AgreeRow.{atom-agrees, bond-agrees, rows-agree, masses-agree}
+use Rattle.rows.specs.AgreeNumber.{left-true, right-true, and-agrees, up-agrees}
+use Rattle.rows.specs.AgreeRow.{atom-agrees, bond-agrees}
+use Rattle.writable.specs.AgreeRows.{rows-agree, masses-agree}
 use Rattle.writable.specs.AgreePairs.{pairs-agree}
 
 -- what the rules ask of atoms and bonds, of the rows of two tables

@@ -16,7 +16,7 @@ use Rattle.pairs.specs.Agree.{true-false, taken-no}
 use Rattle.pairs.specs.Append.{pair-once}
 use Rattle.rules.specs.Rows.{rowAt, rowsOf, rows-length, rows-at}
 use Rattle.writable.specs.Tables.{sameEnds, sameAt, against, walkFrom, firstRepeat, isNothing}
-use Rattle.writable.specs.AgreeNumber.{same-size}
+use Rattle.rows.specs.AgreeNumber.{same-size}
 use Rattle.writable.specs.declared.Repeat.{Repeat}
 use Rattle.writable.specs.declared.Repeat.the-variants.{Pair}
 

@@ -1,5 +1,4 @@
 pub mod Tables
-pub mod AgreeNumber
-pub mod AgreeRow
+pub mod AgreeRows
 pub mod AgreePairs
 pub mod Agree

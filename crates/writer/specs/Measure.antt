@@ -26,7 +26,7 @@ use Rattle.parts.specs.declared.PartJudged.{PartJudged}
 use Rattle.put_parts.specs.Put.{Room}
 use Rattle.writable.specs.Tables.{writableTables}
 use Rattle.writable.specs.Agree.{writable-agrees}
-use Rattle.writable.specs.AgreeNumber.{and-agrees, up-agrees}
+use Rattle.rows.specs.AgreeNumber.{and-agrees, up-agrees}
 use Rattle.writer.specs.Write.{Given, Roomy, handed, canonText, demand, andThen, roomy, recordFor, textFor, answer, room, writeOf, roomAfter}
 use Rattle.writer.specs.declared.Written.{Written}
 

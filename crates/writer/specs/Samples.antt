@@ -23,8 +23,8 @@ use Rattle.line_judge.specs.Judge.{begins, contains, firstHeaderOf, blankb, nam
 use Rattle.rules.specs.Rows.{rowsOf}
 use Rattle.part_judge.specs.Part.{run, verdictFrom, headerLine, headerTurn, headersVerdict, itemTurn, itemsVerdict}
 use Rattle.part_judge.specs.Samples.{lines}
-use Rattle.writable.specs.Tables.{inRange, marks, placeHolds, numbersHold, codesHold, changesHold, atomHolds, kindHolds, bondHolds, allRows, massesHold}
-use Rattle.writable.specs.Tables.{sameEnds, sameAt, against, walkFrom, countsHold, tablesHold, writableTables}
+use Rattle.rows.specs.Row.{inRange, marks, placeHolds, numbersHold, codesHold, changesHold, atomHolds, kindHolds, bondHolds}
+use Rattle.writable.specs.Tables.{allRows, massesHold, sameEnds, sameAt, against, walkFrom, countsHold, tablesHold, writableTables}
 use Rattle.writer.specs.Write.{Given, roomy, recordFor, textFor, writeOf, roomAfter}
 use Rattle.writer.specs.declared.Written.{Written}
 

@@ -1,5 +1,5 @@
 -- `walk::at_end` meets its contract.
-use Rattle.walk.proofs.Taking.{end-laws}
+use Rattle.walk.proofs.Ending.{end-laws}
 use borrow.Author.Needs.{needs}
 use Rattle.walk.proofs.at_end.Statement.{statement}
 use Rattle.walk.proofs.at_end.Tie as tie

@@ -1,5 +1,5 @@
 -- `walk::end_walk` meets its contract.
-use Rattle.walk.proofs.Taking.{end-laws}
+use Rattle.walk.proofs.Ending.{end-laws}
 use borrow.Author.Needs.{needs}
 use Rattle.walk.proofs.end_walk.Statement.{statement}
 use Rattle.walk.proofs.end_walk.Tie as tie

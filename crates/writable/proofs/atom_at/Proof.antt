@@ -3,7 +3,7 @@ use mathlib.Core.Path.{ap, _∙_}
 use mathlib.Core.List.{List}
 use lib.IntN.{ℤ}
 use Rattle.rules.specs.Canon.{atomRow}
-use Rattle.writable.specs.Tables.{atomHolds}
+use Rattle.rows.specs.Row.{atomHolds}
 use Rattle.writable.proofs.Loops.{row-part}
 use borrow.Author.Needs.{needs}
 use Rattle.writable.proofs.atom_at.Statement.{statement}

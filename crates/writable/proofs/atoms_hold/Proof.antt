@@ -4,7 +4,7 @@ use Prim.Native.Nat.{_-_}
 use mathlib.Core.List.{List}
 use lib.IntN.{ℤ}
 use Rattle.rules.specs.Canon.{atomRow}
-use Rattle.writable.specs.Tables.{atomHolds}
+use Rattle.rows.specs.Row.{atomHolds}
 use Rattle.writable.proofs.Loops.{Walking, walking}
 use Rattle.writable.proofs.atoms_hold.Statement.{statement}
 use Rattle.writable.proofs.atoms_hold.Tie as tie

@@ -3,7 +3,7 @@ use mathlib.Core.Path.{ap, _∙_}
 use mathlib.Core.List.{List}
 use lib.IntN.{ℤ}
 use Rattle.rules.specs.Canon.{bondRow}
-use Rattle.writable.specs.Tables.{bondHolds}
+use Rattle.rows.specs.Row.{bondHolds}
 use Rattle.writable.proofs.Loops.{row-part}
 use borrow.Author.Needs.{needs}
 use Rattle.writable.proofs.bond_at.Statement.{statement}

@@ -4,7 +4,7 @@ use Prim.Native.Nat.{_-_}
 use mathlib.Core.List.{List}
 use lib.IntN.{ℤ}
 use Rattle.rules.specs.Canon.{bondRow}
-use Rattle.writable.specs.Tables.{bondHolds}
+use Rattle.rows.specs.Row.{bondHolds}
 use Rattle.writable.proofs.Loops.{Walking, walking}
 use Rattle.writable.proofs.bonds_hold.Statement.{statement}
 use Rattle.writable.proofs.bonds_hold.Tie as tie

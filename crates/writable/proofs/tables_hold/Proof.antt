@@ -1,6 +1,7 @@
 -- `writable::tables_hold` meets its contract.
 use Rattle.writable.specs.Tables.{tablesHold}
-use Rattle.writable.proofs.Steps.{tests, pair-steps}
+use Rattle.rows.proofs.Steps.{tests}
+use Rattle.writable.proofs.Steps.{pair-steps}
 use borrow.Author.Needs.{needs}
 use Rattle.writable.proofs.tables_hold.Statement.{statement}
 use Rattle.writable.proofs.tables_hold.Tie as tie

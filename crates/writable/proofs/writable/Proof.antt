@@ -1,6 +1,7 @@
 -- `writable::writable` meets its contract.
 use Rattle.writable.specs.Tables.{writableTables}
-use Rattle.writable.proofs.Steps.{tests, n-small, m-small}
+use Rattle.rows.proofs.Steps.{tests}
+use Rattle.writable.proofs.Steps.{n-small, m-small}
 use borrow.Author.Needs.{needs}
 use Rattle.writable.proofs.writable.Statement.{statement}
 use Rattle.writable.proofs.writable.Tie as tie
