@@ -16,11 +16,12 @@ use Rattle.line_judge.specs.AgreeField.{within-got}
 use Rattle.line_judge.specs.AgreeLine.{counts-got}
 use Rattle.line_judge.specs.Judge as J
 use Rattle.entries.specs.Listed.{seenOf}
-use Rattle.reader.specs.declared.Place.{Place}
-use Rattle.reader.specs.declared.Place.the-variants as P
+use Rattle.record_places.specs.declared.Place.{Place}
+use Rattle.record_places.specs.declared.Place.the-variants as P
+use Rattle.record_places.specs.Places.{bondsOwed, atomsOwed, afterEnd, longestIn}
 use Rattle.reader.specs.declared.Reader.{Reader}
 use Rattle.reader.specs.Went.{Went, on, headed, atom, bond, ended, title, value, blank, done}
-use Rattle.reader.specs.Went.{moved, counted, bondsOwed, atomsOwed, afterEnd, afterProperty, afterItem, afterValue, headerIn, lineIn, longestIn, wentOf, Owing, Sane}
+use Rattle.reader.specs.Went.{moved, counted, afterProperty, afterItem, afterValue, headerIn, lineIn, wentOf, Owing, Sane}
 use Rattle.reader.specs.Parts.{begun}
 
 -- what a line was at its place, with the state after it

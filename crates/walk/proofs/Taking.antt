@@ -17,7 +17,7 @@ use Rattle.entries.specs.Listed.{places}
 use Rattle.tables.specs.Row.{rawRow, SmallAtom}
 use Rattle.reader.specs.declared.Reader.{Reader}
 use Rattle.reader.specs.declared.Step.{Step}
-use Rattle.reader.specs.declared.Finish.{Finish}
+use Rattle.record_places.specs.declared.Finish.{Finish}
 use Rattle.reader.specs.Went.{Went, stepGot, wentOf, Kept}
 use Rattle.reader.specs.Parts.{finished}
 use Rattle.walk.specs.declared.Notes.{Notes}

@@ -35,11 +35,12 @@ use Rattle.judge.specs.Place.{FileKind, molfile, sdfile, toAtoms, toBonds, line
 use Rattle.judge.specs.Place as J
 use Rattle.judge.specs.Place.{first, second, third, counts, atoms, bonds, properties, over, items, values, Turn, next}
 use Rattle.judge.specs.WalkText.{afterLines}
-use Rattle.reader.specs.declared.Place.{Place}
-use Rattle.reader.specs.declared.Place.the-variants as P
+use Rattle.record_places.specs.declared.Place.{Place}
+use Rattle.record_places.specs.declared.Place.the-variants as P
 use Rattle.reader.specs.declared.Reader.{Reader}
 use Rattle.reader.specs.Went as W
-use Rattle.reader.specs.Went.{Went, moved, bondsOwed, atomsOwed, counted, headerIn, lineIn, wentOf, tableAt, enteredBy}
+use Rattle.record_places.specs.Places.{bondsOwed, atomsOwed}
+use Rattle.reader.specs.Went.{Went, moved, counted, headerIn, lineIn, wentOf, tableAt, enteredBy}
 use Rattle.walk.specs.declared.Notes.{Notes}
 use Rattle.walk.specs.Keys.{keyOf, keysOf, SmallEnds, AllSmall, small-more}
 use Rattle.walk.specs.Took.{headedAt, endedAt, atomMore, bondMore}

@@ -1,8 +1,8 @@
--- `reader::line_judged` meets its contract.
-use Rattle.reader.proofs.Places.{line-laws}
+-- `record_places::line_judged` meets its contract.
+use Rattle.record_places.proofs.Laws.{line-laws}
 use borrow.Author.Needs.{needs}
-use Rattle.reader.proofs.line_judged.Statement.{statement}
-use Rattle.reader.proofs.line_judged.Tie as tie
+use Rattle.record_places.proofs.line_judged.Statement.{statement}
+use Rattle.record_places.proofs.line_judged.Tie as tie
 
 add-t6 : tie.Need-add-t6
 add-t6 c = search needs

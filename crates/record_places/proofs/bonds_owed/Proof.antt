@@ -1,8 +1,8 @@
--- `reader::bonds_owed` meets its contract.
+-- `record_places::bonds_owed` meets its contract.
 use borrow.Author.Needs.{needs}
-use Rattle.reader.proofs.Places.{owed-laws}
-use Rattle.reader.proofs.bonds_owed.Statement.{statement}
-use Rattle.reader.proofs.bonds_owed.Tie as tie
+use Rattle.record_places.proofs.Laws.{owed-laws}
+use Rattle.record_places.proofs.bonds_owed.Statement.{statement}
+use Rattle.record_places.proofs.bonds_owed.Tie as tie
 
 returns : tie.Need-returns
 returns c = search (needs, owed-laws)

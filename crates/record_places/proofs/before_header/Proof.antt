@@ -1,8 +1,8 @@
--- `reader::before_header` meets its contract.
-use Rattle.reader.proofs.Places.{finish-laws}
+-- `record_places::before_header` meets its contract.
+use Rattle.record_places.proofs.Laws.{finish-laws}
 use borrow.Author.Needs.{needs}
-use Rattle.reader.proofs.before_header.Statement.{statement}
-use Rattle.reader.proofs.before_header.Tie as tie
+use Rattle.record_places.proofs.before_header.Statement.{statement}
+use Rattle.record_places.proofs.before_header.Tie as tie
 
 returns : tie.Need-returns
 returns c = search (needs, finish-laws)

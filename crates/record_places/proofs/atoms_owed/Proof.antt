@@ -1,8 +1,8 @@
--- `reader::atoms_owed` meets its contract.
-use Rattle.reader.proofs.Places.{owed-laws}
+-- `record_places::atoms_owed` meets its contract.
+use Rattle.record_places.proofs.Laws.{owed-laws}
 use borrow.Author.Needs.{needs}
-use Rattle.reader.proofs.atoms_owed.Statement.{statement}
-use Rattle.reader.proofs.atoms_owed.Tie as tie
+use Rattle.record_places.proofs.atoms_owed.Statement.{statement}
+use Rattle.record_places.proofs.atoms_owed.Tie as tie
 
 bonds-owed-requires : tie.Need-bonds-owed-requires
 bonds-owed-requires c κs = search needs
