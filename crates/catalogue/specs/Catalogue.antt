@@ -13,7 +13,7 @@ use Rattle.rules.specs.Meaning.{meaning}
 use Rattle.rules.specs.Canon.{canonFile}
 use Rattle.judge.specs.Place.{sdfile}
 use Rattle.judge.specs.Verdict.{Verdict, verdict}
-use Rattle.parts.specs.Part.{PartVerdict, good, refused}
+use Rattle.part_judge.specs.Part.{PartVerdict, good, refused}
 use Rattle.read.specs.Read.{rowsIn}
 use Rattle.writer.specs.Write.{demand, andThen, roomy}
 use Rattle.catalogue.specs.declared.Catalogue.{Catalogue}

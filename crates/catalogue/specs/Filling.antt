@@ -26,7 +26,7 @@ use Rattle.walk.specs.Walked.{Beside}
 use Rattle.tables.specs.Filled.{cleared}
 use Rattle.tables.specs.Cleared.{refused-filled}
 use Rattle.put.specs.Laid.{Laid, Owes, owes-start, owes-next, owes-end}
-use Rattle.parts.specs.Part.{PartVerdict, good}
+use Rattle.part_judge.specs.Part.{PartVerdict, good}
 use Rattle.read.specs.Read.{zeroed, rowsIn}
 use Rattle.writer.specs.Write.{canonText, demand}
 use Rattle.catalogue.specs.declared.Catalogue.{Catalogue}

@@ -22,7 +22,7 @@ use Rattle.judge.specs.OneAgree.{one-refused, one-short}
 use Rattle.judge.specs.WalkText.{afterLines, after-within, fileText, verdict-text, text-end, text-whole, text-refused, text-short}
 use Rattle.walk.specs.Outcome.{whole, refused, ofOne, outcomeOf}
 use Rattle.walk.specs.Walked.{Beside}
-use Rattle.parts.specs.Part.{good}
+use Rattle.part_judge.specs.Part.{good}
 use Rattle.writer.specs.Write.{canonText, demand}
 use Rattle.catalogue.specs.declared.Catalogue.{Catalogue}
 use Rattle.catalogue.specs.declared.Measured.{Measured}

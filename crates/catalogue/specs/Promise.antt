@@ -22,7 +22,7 @@ use Rattle.judge.specs.Verdict.{Verdict, verdict}
 use Rattle.judge.specs.Promise.{accepted-sd, refusal-bad}
 use Rattle.judge.specs.Promise as J
 use Rattle.walk.specs.Promise.{Said, RefusedAt, Checked, saidBy, verdict-checked, checked-one}
-use Rattle.parts.specs.Part.{PartVerdict, good, refused}
+use Rattle.part_judge.specs.Part.{PartVerdict, good, refused}
 use Rattle.read.specs.Read.{rowsIn}
 use Rattle.read.specs.Promise.{Roomy}
 use Rattle.writer.specs.Write.{demand, roomy}

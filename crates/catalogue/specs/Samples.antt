@@ -22,10 +22,10 @@ use Rattle.rules.specs.Meaning as M
 use Rattle.rules.specs.Write.{joined, countsText, atomText, bondText, entryFields, propertyText, headerText, itemsLines, moleculeLines, recordLines, fileLines}
 use Rattle.rules.specs.Canon as C
 use Rattle.pairs.specs.Taken.{pairTaken}
-use Rattle.lines.specs.Got.{then, need}
-use Rattle.lines.specs.Field.{numberAt, signedAt, elem, listedAt, elemSigned, signedListedAt, coordinateAt, symbolAt, spaceAt, spacesFrom, within}
-use Rattle.lines.specs.Judge.{begins, contains, firstHeaderOf, countsOf, atomOf, bondOf, entryNumberAt, entriesOf, listOf, propertyOf, blankb, nameOn, opened}
-use Rattle.lines.specs.Judge.{spaced, arrowed, headerOf, itemOf, valueOf}
+use Rattle.line_judge.specs.Got.{then, need}
+use Rattle.line_judge.specs.Field.{numberAt, signedAt, elem, listedAt, elemSigned, signedListedAt, coordinateAt, symbolAt, spaceAt, spacesFrom, within}
+use Rattle.line_judge.specs.Judge.{begins, contains, firstHeaderOf, countsOf, atomOf, bondOf, entryNumberAt, entriesOf, listOf, propertyOf, blankb, nameOn, opened}
+use Rattle.line_judge.specs.Judge.{spaced, arrowed, headerOf, itemOf, valueOf}
 use Rattle.judge.specs.Place.{toBonds, toAtoms, lineOf, turnOf}
 use Rattle.judge.specs.Verdict.{run, verdict}
 use Rattle.judge.specs.Samples.{lines, drum}

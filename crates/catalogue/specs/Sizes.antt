@@ -22,9 +22,9 @@ use Rattle.judge.specs.One.{One, oneRecord}
 use Rattle.judge.specs.WalkText.{afterLines}
 use Rattle.walk.specs.Outcome.{Outcome, whole, refused, ofOne, outcomeOf}
 use Rattle.put.specs.Body.{bodySize}
-use Rattle.parts.specs.Part.{good}
-use Rattle.parts.specs.Written.{textOf, writtenHeaders, writtenItems, headersText, itemsText}
-use Rattle.parts.specs.PartAgree.{good-headers, good-items}
+use Rattle.part_judge.specs.Part.{good}
+use Rattle.part_judge.specs.Written.{textOf, writtenHeaders, writtenItems, headersText, itemsText}
+use Rattle.part_judge.specs.PartAgree.{good-headers, good-items}
 use Rattle.read.specs.declared.RecordRead.{RecordRead}
 use Rattle.read.specs.Read.{readOf, atomsAfter, bondsAfter}
 use Rattle.writer.specs.declared.Written.{Written}

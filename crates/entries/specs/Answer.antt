@@ -6,9 +6,9 @@ use lib.ListN.{getD, set}
 use Rattle.text.specs.Text.{Line}
 use Rattle.text.specs.declared.Found.{Found}
 use Rattle.rules.specs.Forms as R
-use Rattle.lines.specs.Got.{Got, got, bad, then, need}
-use Rattle.lines.specs.Field.{numberAt, spaceAt}
-use Rattle.lines.specs.Judge.{PropertyOrEnd, property, last, entryNumberAt, entriesOf}
+use Rattle.line_judge.specs.Got.{Got, got, bad, then, need}
+use Rattle.line_judge.specs.Field.{numberAt, spaceAt}
+use Rattle.line_judge.specs.Judge.{PropertyOrEnd, property, last, entryNumberAt, entriesOf}
 use Rattle.entries.specs.Listed.{slot, noted, enter, seenOf}
 use Rattle.entries.specs.declared.Kind.{Kind}
 use Rattle.entries.specs.declared.PropertyRead.{PropertyRead}

@@ -18,16 +18,16 @@ use Rattle.text.specs.declared.Found.{Found}
 use Rattle.numbers.specs.Number.{Between}
 use Rattle.rules.specs.Forms as R
 use Rattle.rules.specs.Record.{limit}
-use Rattle.lines.specs.Got.{Got, got, bad, then, need}
-use Rattle.lines.specs.GotLaws.{got-inj, bad-got, then-got}
-use Rattle.lines.specs.Field.{numberAt, signedAt, spaceAt, noneFound, spacesFrom}
-use Rattle.lines.specs.AgreeField.{number-got, space-got, on, after}
-use Rattle.lines.specs.Judge.{PropertyOrEnd, property, last, entryNumberAt, entriesOf, listOf, propertyOf}
-use Rattle.lines.specs.Answer.{fieldGot, signedFieldGot}
-use Rattle.lines.specs.Steps.{hop, field-most}
-use Rattle.lines.specs.Lists.{signed-range}
-use Rattle.lines.specs.declared.Field.{Field}
-use Rattle.lines.specs.declared.SignedField.{SignedField}
+use Rattle.line_judge.specs.Got.{Got, got, bad, then, need}
+use Rattle.line_judge.specs.GotLaws.{got-inj, bad-got, then-got}
+use Rattle.line_judge.specs.Field.{numberAt, signedAt, spaceAt, noneFound, spacesFrom}
+use Rattle.line_judge.specs.AgreeField.{number-got, space-got, on, after}
+use Rattle.line_judge.specs.Judge.{PropertyOrEnd, property, last, entryNumberAt, entriesOf, listOf, propertyOf}
+use Rattle.fields.specs.Answer.{fieldGot, signedFieldGot}
+use Rattle.fields.specs.Steps.{hop, field-most}
+use Rattle.fields.specs.Steps.{signed-range}
+use Rattle.fields.specs.declared.Field.{Field}
+use Rattle.fields.specs.declared.SignedField.{SignedField}
 use Rattle.entries.specs.Listed.{places, base, slot, noted, enter, seenOf}
 use Rattle.entries.specs.Answer.{kindIs, plainAt, notedAt, placeAt, enteredAt, enteredFrom, enteredGot, propertyRead, restRead}
 use Rattle.entries.specs.Kept.{Kept, KeptBy}

@@ -5,8 +5,8 @@ use mathlib.Core.List.{List}
 use lib.ListN.{length}
 use Rattle.text.specs.Text.{Line}
 use Rattle.rules.specs.Forms.{Property}
-use Rattle.lines.specs.Got.{Got, got}
-use Rattle.lines.specs.Judge.{PropertyOrEnd, propertyOf, property, last}
+use Rattle.line_judge.specs.Got.{Got, got}
+use Rattle.line_judge.specs.Judge.{PropertyOrEnd, propertyOf, property, last}
 use Rattle.entries.specs.Listed.{enter, seenOf}
 use Rattle.entries.specs.Answer.{propertyRead}
 use Rattle.entries.specs.declared.PropertyRead.{PropertyRead}

@@ -14,11 +14,11 @@ use Rattle.text.specs.Text.{Line}
 use Rattle.rules.specs.Forms.{Kind, CHG, RAD, ISO}
 use Rattle.rules.specs.Record.{limit}
 use Rattle.numbers.specs.Number.{Between}
-use Rattle.lines.specs.Got.{Got, got, bad, then}
-use Rattle.lines.specs.GotLaws.{got-inj, then-got}
-use Rattle.lines.specs.Field.{elem, numberAt, spaceAt}
-use Rattle.lines.specs.AgreeField.{number-got, signed-got}
-use Rattle.lines.specs.Judge.{entryNumberAt, entriesOf, listOf, propertyOf}
+use Rattle.line_judge.specs.Got.{Got, got, bad, then}
+use Rattle.line_judge.specs.GotLaws.{got-inj, then-got}
+use Rattle.line_judge.specs.Field.{elem, numberAt, spaceAt}
+use Rattle.line_judge.specs.AgreeField.{number-got, signed-got}
+use Rattle.line_judge.specs.Judge.{entryNumberAt, entriesOf, listOf, propertyOf}
 use Rattle.entries.specs.Listed.{places, slot, noted, listedTo, seenOf}
 
 -- ---- the judgement goes by which atoms from 1 to n were seen

@@ -16,10 +16,10 @@ use Rattle.numbers.specs.Number.{Between}
 use Rattle.rules.specs.Forms.{Kind, CHG, RAD, ISO, sameKind, Entry, Property}
 use Rattle.rules.specs.Record.{listed, limit}
 use Rattle.rules.specs.Entries.{listed-append}
-use Rattle.lines.specs.Got.{got}
-use Rattle.lines.specs.Field.{elem}
-use Rattle.lines.specs.Judge.{propertyOf, property}
-use Rattle.lines.specs.Agree.{NewEntries, property-agrees}
+use Rattle.line_judge.specs.Got.{got}
+use Rattle.line_judge.specs.Field.{elem}
+use Rattle.line_judge.specs.Judge.{propertyOf, property}
+use Rattle.line_judge.specs.Agree.{NewEntries, property-agrees}
 use Rattle.entries.specs.Listed.{places, slot, noted, enter, seenOf, notedIn, Shows}
 use Rattle.entries.specs.Proper.{ProperEntries, ProperLine, Proper, proper-more, listed-proper, line-proper}
 use Rattle.entries.specs.Seen.{SameSeen, property-same, slot-small, slot-apart, listed-elem}

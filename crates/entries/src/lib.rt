@@ -4,13 +4,13 @@ ghost use Prim.Native.Nat.{_+_, _*_, _≤_};
 ghost use lib.ListN.{length};
 ghost use Rattle.rules.specs.Record.{limit};
 ghost use Rattle.text.specs.Find.{inkColumn};
-ghost use Rattle.lines.specs.Answer.{fieldGot};
-ghost use Rattle.lines.specs.Judge.{listOf, propertyOf};
+ghost use Rattle.fields.specs.Answer.{fieldGot};
+ghost use Rattle.line_judge.specs.Judge.{listOf, propertyOf};
 ghost use Rattle.entries.specs.Listed.{places, base, seenOf};
 ghost use Rattle.entries.specs.Answer.{kindIs, plainAt, notedAt, placeAt, enteredGot, enteredAt, enteredFrom, propertyRead, restRead};
 ghost use Rattle.entries.specs.Kept.{Kept, KeptBy};
-use lines::Field;
-use lines::SignedField;
+use fields::Field;
+use fields::SignedField;
 use text::Found;
 
 // Places of one kind: atoms 0 to the limit.
@@ -54,7 +54,7 @@ fn charge_field(line: &[u8], i: usize, j: usize) -> Field
     requires { ⌜ (1 ≤ i) × ((i ≤ j) × ((j ≤ i + 8) × (j ≤ 1000))) ⌝ }
     ensures { λ r. ⌜ fieldGot r ≡ notedAt (now (line .entry)) i j (kindIs Kind.Charge) ⌝ }
 {
-    match lines::signed_field(line, i, j, 15, 15) {
+    match fields::signed_field(line, i, j, 15, 15) {
         SignedField::Is(z) => Field::Is((z + 16) as u32),
         SignedField::Bad { no, column } => Field::Bad { no, column },
     }
@@ -65,7 +65,7 @@ fn plain_field(line: &[u8], i: usize, j: usize, least: u32, most: u32) -> Field
     requires { ⌜ (1 ≤ i) × ((i ≤ j) × ((j ≤ i + 8) × ((j ≤ 1000) × (most ≤ 999)))) ⌝ }
     ensures { λ r. ⌜ fieldGot r ≡ plainAt (now (line .entry)) i j least most ⌝ }
 {
-    match lines::number_field(line, i, j, least, most) {
+    match fields::number_field(line, i, j, least, most) {
         Field::Is(k) => Field::Is(k + 16),
         Field::Bad { no, column } => Field::Bad { no, column },
     }
@@ -91,7 +91,7 @@ fn entry_place(line: &[u8], n: u32, i: usize, kind: Kind, listed: &[u32; LISTED]
     if text::column(line, i) != b' ' {
         return Field::Bad { no: 15, column: i };
     }
-    let atom = match lines::number_field(line, i + 1, i + 3, 1, n) {
+    let atom = match fields::number_field(line, i + 1, i + 3, 1, n) {
         Field::Is(k) => k,
         Field::Bad { no, column } => {
             return Field::Bad { no, column };
@@ -171,7 +171,7 @@ fn list_line(line: &[u8], n: u32, kind: Kind, listed: &mut [u32; LISTED]) -> Pro
     requires { ⌜ (n ≤ limit) × (length (now listed) ≡ 3 * places) ⌝ }
     ensures { λ r. ⌜ KeptBy (listOf n (kindIs kind) (seenOf n (now (listed .entry)) (kindIs kind)) (now (line .entry))) (now (listed .entry)) r (now (listed .exit)) ⌝ }
 {
-    let count = match lines::number_field(line, 7, 9, 1, 8) {
+    let count = match fields::number_field(line, 7, 9, 1, 8) {
         Field::Is(k) => k,
         Field::Bad { no, column } => {
             return PropertyRead::Bad { no, column };

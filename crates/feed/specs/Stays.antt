@@ -13,7 +13,7 @@ use Rattle.text.specs.Cut.{Cut, cut, cut-is, lines-cut, line-within, line-cut, 
 use Rattle.text.specs.declared.Found.{Found}
 use Rattle.text.specs.declared.LineAt.{LineAt}
 use Rattle.rules.specs.Record.{Raw, limit}
-use Rattle.lines.specs.Got.{Got, got, bad}
+use Rattle.line_judge.specs.Got.{Got, got, bad}
 use Rattle.judge.specs.Place.{sdfile, Place, first, Turn, next, done, turnOf}
 use Rattle.judge.specs.One.{One, oneFrom, oneRecord}
 use Rattle.judge.specs.OneAgree.{one-whole}

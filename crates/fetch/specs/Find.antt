@@ -9,8 +9,8 @@ use Rattle.text.specs.Find.{lineAt, sameBytes}
 use Rattle.text.specs.Cut.{cut}
 use Rattle.text.specs.declared.LineAt.{LineAt}
 use Rattle.rules.specs.Record.{Item, Raw}
-use Rattle.lines.specs.Got.{Got, got, bad}
-use Rattle.lines.specs.Judge.{ItemOrEnd, title, close, ValueOrBlank, value, blank, valueOf}
+use Rattle.line_judge.specs.Got.{Got, got, bad}
+use Rattle.line_judge.specs.Judge.{ItemOrEnd, title, close, ValueOrBlank, value, blank, valueOf}
 use Rattle.judge.specs.Place.{sdfile}
 use Rattle.judge.specs.WalkText.{afterLines}
 use Rattle.walk.specs.Outcome.{Outcome, whole, outcomeOf}

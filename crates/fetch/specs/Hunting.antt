@@ -10,9 +10,9 @@ use Rattle.text.specs.Find.{lineAt, sameBytes}
 use Rattle.text.specs.Cut.{Cut, cut, line-within, line-cut, line-rest}
 use Rattle.text.specs.declared.LineAt.{LineAt}
 use Rattle.rules.specs.Record.{Item, Raw, Values, Items, Record, limit}
-use Rattle.lines.specs.Got.{got}
-use Rattle.lines.specs.Judge.{title, close, itemOf}
-use Rattle.lines.specs.AgreeItem.{title-is, close-line-is, value-is, blank-line-is}
+use Rattle.line_judge.specs.Got.{got}
+use Rattle.line_judge.specs.Judge.{title, close, itemOf}
+use Rattle.line_judge.specs.AgreeItem.{title-is, close-line-is, value-is, blank-line-is}
 use Rattle.judge.specs.Place.{sdfile}
 use Rattle.judge.specs.One.{One, oneRecord}
 use Rattle.judge.specs.OneAgree.{one-whole}

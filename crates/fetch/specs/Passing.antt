@@ -10,7 +10,7 @@ use Rattle.text.specs.Find.{lineAt, sameBytes, hasText}
 use Rattle.text.specs.Cut.{cut, line-cut, line-rest}
 use Rattle.text.specs.Agree.{same-bytes, columns-whole}
 use Rattle.text.specs.declared.LineAt.{LineAt}
-use Rattle.lines.specs.Judge.{itemOf, valueOf}
+use Rattle.line_judge.specs.Judge.{itemOf, valueOf}
 use Rattle.items.specs.Answer.{itemGot, valueGot}
 use Rattle.items.specs.Within.{title-order, title-end}
 use Rattle.items.specs.declared.ItemRead.{ItemRead}

@@ -2,7 +2,7 @@
 ghost use mathlib.Core.Path.{_≡_};
 ghost use Prim.Native.Nat.{_*_, _≤_};
 ghost use lib.ListN.{length};
-ghost use Rattle.lines.specs.Judge.{itemOf};
+ghost use Rattle.line_judge.specs.Judge.{itemOf};
 ghost use Rattle.entries.specs.Listed.{places};
 ghost use Rattle.fetch.specs.Find.{titledAs, titleBy, valuesAt, numbersOf, foundOf, ItemsStart};
 ghost use Rattle.fetch.specs.Promise.{Promised, Handed};

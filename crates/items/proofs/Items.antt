@@ -15,9 +15,9 @@ use Rattle.text.specs.First.{first-within}
 use Rattle.text.specs.declared.Found.{Found}
 use Rattle.text.specs.declared.Found.the-variants.{At, Nothing}
 use Rattle.numbers.specs.Read.{afterSpaces}
-use Rattle.lines.specs.Got.{Got, got, bad}
-use Rattle.lines.specs.Judge.{HeaderRead, none, begins, blankb, opened, spaced, arrowed, headerOf, ItemOrEnd, title, close, titleGot, isClose, itemOf, ValueOrBlank, value, blank, notHeader, valueOf}
-use Rattle.lines.specs.AgreeText.{begins-got}
+use Rattle.line_judge.specs.Got.{Got, got, bad}
+use Rattle.line_judge.specs.Judge.{HeaderRead, none, begins, blankb, opened, spaced, arrowed, headerOf, ItemOrEnd, title, close, titleGot, isClose, itemOf, ValueOrBlank, value, blank, notHeader, valueOf}
+use Rattle.line_judge.specs.AgreeText.{begins-got}
 use Rattle.items.specs.Answer.{nameGot, nameIn, itemIn}
 use Rattle.items.specs.declared.NameRead.{NameRead}
 use Rattle.items.specs.declared.ItemRead.{ItemRead}

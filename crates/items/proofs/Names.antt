@@ -9,7 +9,7 @@ use lib.ListN.{length, getD, take, drop, length-drop, drop-of-length-le}
 use lib.Seq.{drop-cons, take-suc, getD-drop, length-take-le}
 use borrow.Author.Tests.{eq-eqb, ne-eqb, le-leb, lt-leb}
 use Rattle.text.specs.Text.{Line}
-use Rattle.lines.specs.Judge.{HeaderRead, named, none, blankb, nameOn, opened}
+use Rattle.line_judge.specs.Judge.{HeaderRead, named, none, blankb, nameOn, opened}
 use Rattle.items.specs.Parts.{nameEnds}
 use Rattle.items.specs.Answer.{nameIn}
 use Rattle.items.specs.declared.NameRead.{NameRead}

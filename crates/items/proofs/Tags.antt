@@ -14,9 +14,9 @@ use Rattle.text.specs.Columns.{columnsFor}
 use Rattle.text.specs.Find.{sameBytes, hasText, isBlank}
 use Rattle.text.specs.Agree.{columns-after}
 use Rattle.numbers.specs.Agree.{and-true}
-use Rattle.lines.specs.Got.{got, bad, need}
-use Rattle.lines.specs.Judge.{begins, contains, reserved, firstHeaderOf, blankb}
-use Rattle.lines.specs.AgreeText.{true-false}
+use Rattle.line_judge.specs.Got.{got, bad, need}
+use Rattle.line_judge.specs.Judge.{begins, contains, reserved, firstHeaderOf, blankb}
+use Rattle.line_judge.specs.AgreeText.{true-false}
 use Rattle.items.specs.Parts.{spaceless, tagged}
 
 -- ---- the text at the start of a line

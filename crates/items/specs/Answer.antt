@@ -2,8 +2,8 @@
 use Prim.Native.Nat.{ℕ, _-_, _≤_}
 use lib.ListN.{length, take, drop}
 use Rattle.text.specs.Text.{Line}
-use Rattle.lines.specs.Got.{Got, got, bad}
-use Rattle.lines.specs.Judge.{HeaderRead, named, none, ItemOrEnd, title, close, ValueOrBlank, value, blank}
+use Rattle.line_judge.specs.Got.{Got, got, bad}
+use Rattle.line_judge.specs.Judge.{HeaderRead, named, none, ItemOrEnd, title, close, ValueOrBlank, value, blank}
 use Rattle.items.specs.declared.HeaderJudged.{HeaderJudged}
 use Rattle.items.specs.declared.ItemRead.{ItemRead}
 use Rattle.items.specs.declared.ValueRead.{ValueRead}

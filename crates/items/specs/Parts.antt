@@ -4,7 +4,7 @@ use mathlib.Core.Bool.{Bool, true, false, cond, _&&_, _||_, not}
 use lib.Dec.{eqb, leb}
 use lib.ListN.{length}
 use Rattle.text.specs.Text.{Bytes, Line, bytes, byte}
-use Rattle.lines.specs.Judge.{HeaderRead, named, none, begins, blankb}
+use Rattle.line_judge.specs.Judge.{HeaderRead, named, none, begins, blankb}
 
 -- no byte is a space
 abbrev pub spaceless : Bytes → Bool

@@ -7,7 +7,7 @@ ghost use Prim.Native.Nat.{_+_, _-_, _≤_, _<_};
 ghost use lib.ListN.{length, take, drop};
 ghost use Rattle.text.specs.Text.{bytes};
 ghost use Rattle.numbers.specs.Read.{afterSpaces};
-ghost use Rattle.lines.specs.Judge.{begins, firstHeaderOf, isClose, blankb, nameOn, opened, headerOf, titleGot, itemOf, notHeader, valueOf};
+ghost use Rattle.line_judge.specs.Judge.{begins, firstHeaderOf, isClose, blankb, nameOn, opened, headerOf, titleGot, itemOf, notHeader, valueOf};
 ghost use Rattle.items.specs.Answer.{headerGot, nameGot, nameIn, itemGot, itemIn, valueGot};
 ghost use Rattle.items.specs.Parts.{spaceless, tagged, nameEnds};
 

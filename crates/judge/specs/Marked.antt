@@ -21,11 +21,11 @@ use Rattle.symbols.specs.Read.{symbolIn}
 use Rattle.symbols.specs.declared.SymbolRead.{SymbolRead}
 use Rattle.rules.specs.Forms.{stereos, centres, Kind, CHG, RAD, ISO, tag}
 use Rattle.pairs.specs.Taken.{pairTaken}
-use Rattle.lines.specs.Got.{Got, got, bad, then, need}
-use Rattle.lines.specs.Field.{numberGot, numberAt, signedGot, signedAt, elem, listedAt, elemSigned, signedListedAt, coordinateGot, coordinateAt, symbolGot}
-use Rattle.lines.specs.Field.{symbolAt, spaceAt, noneFound, spacesFrom, has, within}
-use Rattle.lines.specs.Judge.{reserved, firstHeaderOf, countsOf, atomOf, bondOf, entryNumberAt, entriesOf, listOf, propertyOf, HeaderRead, named, none}
-use Rattle.lines.specs.Judge.{headerOf, itemOf, titleGot, isClose, valueOf, notHeader, blankb, begins}
+use Rattle.line_judge.specs.Got.{Got, got, bad, then, need}
+use Rattle.line_judge.specs.Field.{numberGot, numberAt, signedGot, signedAt, elem, listedAt, elemSigned, signedListedAt, coordinateGot, coordinateAt, symbolGot}
+use Rattle.line_judge.specs.Field.{symbolAt, spaceAt, noneFound, spacesFrom, has, within}
+use Rattle.line_judge.specs.Judge.{reserved, firstHeaderOf, countsOf, atomOf, bondOf, entryNumberAt, entriesOf, listOf, propertyOf, HeaderRead, named, none}
+use Rattle.line_judge.specs.Judge.{headerOf, itemOf, titleGot, isClose, valueOf, notHeader, blankb, begins}
 use Rattle.judge.specs.Place.{FileKind, Place, first, second, third, counts, atoms, bonds, properties, over, items, values, seenIn, lineOf, longest}
 use Rattle.judge.specs.Place.{turnOf}
 

@@ -3,7 +3,7 @@ use Prim.Native.Nat.{ℕ, suc}
 use mathlib.Core.List.{List, [], _∷_}
 use Rattle.text.specs.Text.{Line}
 use Rattle.rules.specs.Record.{Raw}
-use Rattle.lines.specs.Got.{got, bad}
+use Rattle.line_judge.specs.Got.{got, bad}
 use Rattle.judge.specs.Place.{Place, first, sdfile, next, done, turnOf}
 
 pub data One : Type 0 where

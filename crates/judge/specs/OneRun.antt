@@ -9,7 +9,7 @@ use Rattle.text.specs.Text.{Line}
 use Rattle.rules.specs.Forms.{Counts, Atom, Bond}
 use Rattle.rules.specs.Record.{Headers, Raw}
 use Rattle.pairs.specs.Agree.{true-false}
-use Rattle.lines.specs.Got.{Got, got, bad}
+use Rattle.line_judge.specs.Got.{Got, got, bad}
 use Rattle.judge.specs.Place.{Place, first, sdfile, toBonds, toAtoms, Turn, next, done, turnOf}
 use Rattle.judge.specs.Takes.{Takes, turn-takes}
 use Rattle.judge.specs.Ending.{isFirst}

@@ -7,10 +7,10 @@ use Rattle.text.specs.Text.{Bytes, Line}
 use Rattle.rules.specs.Forms.{Counts, Atom, Bond, Kind, Property}
 use Rattle.rules.specs.Record.{Headers, Molecule, Item, Raw, listed}
 use Rattle.pairs.specs.Taken.{pairTaken}
-use Rattle.lines.specs.Got.{Got, got, bad, then, need}
-use Rattle.lines.specs.Field.{within}
-use Rattle.lines.specs.Judge.{firstHeaderOf, countsOf, atomOf, bondOf, propertyOf, itemOf, valueOf}
-use Rattle.lines.specs.Judge.{PropertyOrEnd, property, last, ItemOrEnd, title, close, ValueOrBlank, value, blank}
+use Rattle.line_judge.specs.Got.{Got, got, bad, then, need}
+use Rattle.line_judge.specs.Field.{within}
+use Rattle.line_judge.specs.Judge.{firstHeaderOf, countsOf, atomOf, bondOf, propertyOf, itemOf, valueOf}
+use Rattle.line_judge.specs.Judge.{PropertyOrEnd, property, last, ItemOrEnd, title, close, ValueOrBlank, value, blank}
 
 pub data FileKind : Type 0 where
   molfile : FileKind

@@ -7,7 +7,7 @@ use native.Mathlib.Omega.{arith}
 use Rattle.text.specs.Text.{Line}
 use Rattle.rules.specs.Record.{Raw, Molfile}
 use Rattle.rules.specs.Viable.{Viable, Dead, FirstDead, AMolfile, AnSDfile}
-use Rattle.lines.specs.Got.{bad}
+use Rattle.line_judge.specs.Got.{bad}
 use Rattle.judge.specs.Place.{FileKind, molfile, sdfile, Place, first, turnOf}
 use Rattle.judge.specs.Verdict.{at, stopped, run}
 use Rattle.judge.specs.From.{alone, FromFirst}

@@ -7,7 +7,7 @@ use native.Mathlib.Omega.{arith}
 use Rattle.text.specs.Text.{Line}
 use Rattle.rules.specs.Forms.{Atom, Bond, Property}
 use Rattle.rules.specs.Record.{Molecule, Item, Raw, Atoms, Bonds, Properties, Values, Items, Parts1to5, Record, SDfile}
-use Rattle.lines.specs.Got.{Got, got, bad}
+use Rattle.line_judge.specs.Got.{Got, got, bad}
 use Rattle.judge.specs.Place.{FileKind, molfile, sdfile, turnOf}
 use Rattle.judge.specs.Place.{Place, first, second, third, counts, atoms, bonds, properties, over, items, values, Turn, next, done}
 use Rattle.judge.specs.Verdict.{at, stopped, run}

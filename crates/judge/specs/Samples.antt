@@ -17,10 +17,10 @@ use Rattle.text.specs.Find.{sameBytes}
 use Rattle.rules.specs.Record.{Item, Raw, listed, limit}
 use Rattle.rules.specs.Meaning as M
 use Rattle.pairs.specs.Taken.{pairTaken}
-use Rattle.lines.specs.Got.{then, need}
-use Rattle.lines.specs.Field.{numberAt, signedAt, elem, listedAt, elemSigned, signedListedAt, coordinateAt, symbolAt, spaceAt, spacesFrom, within}
-use Rattle.lines.specs.Judge.{begins, contains, firstHeaderOf, countsOf, atomOf, bondOf, entryNumberAt, entriesOf, listOf, propertyOf, blankb, nameOn, opened}
-use Rattle.lines.specs.Judge.{spaced, arrowed, headerOf, itemOf, valueOf}
+use Rattle.line_judge.specs.Got.{then, need}
+use Rattle.line_judge.specs.Field.{numberAt, signedAt, elem, listedAt, elemSigned, signedListedAt, coordinateAt, symbolAt, spaceAt, spacesFrom, within}
+use Rattle.line_judge.specs.Judge.{begins, contains, firstHeaderOf, countsOf, atomOf, bondOf, entryNumberAt, entriesOf, listOf, propertyOf, blankb, nameOn, opened}
+use Rattle.line_judge.specs.Judge.{spaced, arrowed, headerOf, itemOf, valueOf}
 use Rattle.judge.specs.Place.{FileKind, molfile, sdfile, toBonds, toAtoms, lineOf, turnOf}
 use Rattle.judge.specs.Verdict.{Verdict, accepted, refused, run, verdict}
 

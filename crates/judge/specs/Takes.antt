@@ -11,13 +11,13 @@ use Rattle.rules.specs.Forms.{Property, PropertyLine, EndLine, DataHeader, Blan
 use Rattle.rules.specs.Record.{Headers, Molecule, Item, NewPair}
 use Rattle.pairs.specs.Taken.{pairTaken}
 use Rattle.pairs.specs.Agree.{taken-no}
-use Rattle.lines.specs.Got.{Got, got}
-use Rattle.lines.specs.Judge.{firstHeaderOf, countsOf, atomOf, bondOf, propertyOf, itemOf, valueOf}
-use Rattle.lines.specs.Judge.{PropertyOrEnd, property, last, ItemOrEnd, title, close, ValueOrBlank, value, blank}
-use Rattle.lines.specs.GotLaws.{got-inj, bad-got, then-got, then-is, need-got, need-is}
-use Rattle.lines.specs.Agree.{NewEntries, within-got, within-is}
-use Rattle.lines.specs.Agree.{header-agrees, counts-agrees, atom-agrees, bond-agrees, property-agrees, end-agrees, title-agrees, close-agrees, value-agrees}
-use Rattle.lines.specs.Agree.{blank-agrees}
+use Rattle.line_judge.specs.Got.{Got, got}
+use Rattle.line_judge.specs.Judge.{firstHeaderOf, countsOf, atomOf, bondOf, propertyOf, itemOf, valueOf}
+use Rattle.line_judge.specs.Judge.{PropertyOrEnd, property, last, ItemOrEnd, title, close, ValueOrBlank, value, blank}
+use Rattle.line_judge.specs.GotLaws.{got-inj, bad-got, then-got, then-is, need-got, need-is}
+use Rattle.line_judge.specs.Agree.{NewEntries, within-got, within-is}
+use Rattle.line_judge.specs.Agree.{header-agrees, counts-agrees, atom-agrees, bond-agrees, property-agrees, end-agrees, title-agrees, close-agrees, value-agrees}
+use Rattle.line_judge.specs.Agree.{blank-agrees}
 use Rattle.judge.specs.Place.{FileKind, seenIn, toAtoms, toBonds, afterEnd, afterProperty, afterItem, afterValue, lineOf, longest, turnOf}
 use Rattle.judge.specs.Place.{Place, first, second, third, counts, atoms, bonds, properties, over, items, values, Turn, next, done}
 

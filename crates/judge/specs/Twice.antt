@@ -10,8 +10,8 @@ use Rattle.rules.specs.Forms.{Bond, Kind, CHG, RAD, ISO, sameKind, Entry, Prope
 use Rattle.rules.specs.Record.{NewPair, NoPairTwice, listed, NotListed, NoAtomTwice}
 use Rattle.pairs.specs.Agree.{true-false}
 use Rattle.pairs.specs.Append.{new-append, pair-once, listed-append}
-use Rattle.lines.specs.Field.{elem}
-use Rattle.lines.specs.Agree.{NewEntries}
+use Rattle.line_judge.specs.Field.{elem}
+use Rattle.line_judge.specs.Agree.{NewEntries}
 
 -- ---- Bonds
 

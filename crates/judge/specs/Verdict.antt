@@ -5,7 +5,7 @@ use lib.ListN.{length}
 use Rattle.text.specs.Text.{Bytes, Line}
 use Rattle.text.specs.Cut.{cut}
 use Rattle.rules.specs.Record.{Raw}
-use Rattle.lines.specs.Got.{got, bad}
+use Rattle.line_judge.specs.Got.{got, bad}
 use Rattle.judge.specs.Place.{FileKind, molfile, sdfile, Place, first, second, third, counts, atoms, bonds, properties, over, items, values}
 use Rattle.judge.specs.Place.{next, done, turnOf}
 

@@ -16,9 +16,9 @@ use Rattle.numbers.specs.Write.{numberText}
 use Rattle.numbers.specs.Written.{number-length, number-allowed, number-back}
 use Rattle.coordinates.specs.Coordinate.{Coordinate}
 use Rattle.rules.specs.Forms.{FirstHeaderLine, Counts, CountsLine, Atom, AtomLine, Bond, BondLine, EndLine, BlankLine, RecordEnd}
-use Rattle.lines.specs.Got.{need}
-use Rattle.lines.specs.Judge.{firstHeaderOf, contains, begins}
-use Rattle.lines.specs.Agree.{header-agrees}
+use Rattle.line_judge.specs.Got.{need}
+use Rattle.line_judge.specs.Judge.{firstHeaderOf, contains, begins}
+use Rattle.line_judge.specs.Agree.{header-agrees}
 
 -- ---- Lines that are the same in each file
 

@@ -1,14 +1,3 @@
-pub mod Got
-pub mod Field
-pub mod Judge
-pub mod GotLaws
-pub mod AgreeField
-pub mod AgreeLine
-pub mod AgreeProperty
-pub mod AgreeText
-pub mod AgreeItem
-pub mod Agree
 pub mod Answer
-pub mod Steps
 pub mod Lists
 pub mod Usual

@@ -1,7 +1,7 @@
 -- The lists of a bond line, asked one number after the other.
 use Prim.Native.Nat.{ℕ, zero, suc, _-_, _*_, _≤_, _<_}
 use native.Mathlib.Omega.{arith}
-use mathlib.Core.Path.{_≡_, refl, sym, ap, _∙_}
+use mathlib.Core.Path.{_≡_, refl, ap, _∙_}
 use mathlib.Core.List.{List, [], _∷_, map}
 use mathlib.Core.Bool.{Bool, true, false, cond}
 use lib.Dec.{eqb, leb}
@@ -9,14 +9,11 @@ use lib.IntN.{ℤ, pos, negsuc, _+ℤ_}
 use mir.Val.{SFits, toZ, ofZ}
 use mir.Syntax.{w32}
 use borrow.Author.Tests.{eq-eqb, ne-eqb, eqb-true, eqb-false, lt-leb}
-use Rattle.text.specs.Text.{Line}
 use Rattle.numbers.specs.Number.{Between}
 use Rattle.rules.specs.Forms.{stereos, centres}
-use Rattle.lines.specs.Field.{elem, elemSigned, signedAt}
-use Rattle.lines.specs.AgreeField.{signed-got}
-use Rattle.lines.specs.Answer.{signedFieldGot, nextCentres}
-use Rattle.lines.specs.Steps.{hop}
-use Rattle.lines.specs.declared.SignedField.{SignedField}
+use Rattle.line_judge.specs.Field.{elem, elemSigned}
+use Rattle.lines.specs.Answer.{nextCentres}
+use Rattle.fields.specs.Steps.{hop}
 
 pub elem-here : (k x : ℕ) (xs : List ℕ) → k ≡ x → true ≡ elem k (x ∷ xs)
 unfolding elem
@@ -125,6 +122,3 @@ next-number z h f = hop (toZ w32 (ofZ w32 z) +ℤ pos 1) (next-fits z h f) ∙ a
 pub next-small : (z : ℤ) → Between 1 13 z → nextOf z ≤ 14
 next-small (pos k) h = omega arith
 next-small (negsuc k) h = omega arith
-
-pub signed-range : (l : Line) (i j below above : ℕ) (x : SignedField) (z : ℤ) → signedFieldGot x ≡ signedAt l i j below above → x ≡ SignedField.Is z → Between below above z
-signed-range l i j below above x z e h = signed-got l i j below above z (sym e ∙ ap signedFieldGot h) .range

@@ -1,37 +1,21 @@
-// The lines of a record, judged one at a time: counts, atom and bond lines.
+// Counts lines and bond lines, judged.
 ghost use mathlib.Core.Path.{_≡_};
 ghost use mathlib.Core.Bool.{true};
-ghost use Prim.Native.Nat.{_+_, _-_, _*_, _≤_};
+ghost use Prim.Native.Nat.{_-_, _*_, _≤_};
 ghost use lib.Dec.{leb};
-ghost use Rattle.lines.specs.Field.{numberAt, signedAt, coordinateAt, symbolAt, listedAt, signedListedAt};
-ghost use Rattle.lines.specs.Judge.{countsOf, atomOf, bondOf};
-ghost use Rattle.lines.specs.Answer.{fieldGot, signedFieldGot, placeGot, codesGot, countsGot, atomGot, bondGot};
-ghost use Rattle.lines.specs.Answer.{placeOf, codesOf, atomFrom, bondFrom, afterCounts};
 ghost use Rattle.numbers.specs.Number.{Between};
 ghost use Rattle.rules.specs.Forms.{stereos, centres};
-ghost use Rattle.lines.specs.Answer.{nextCentres, exactOf};
-ghost use Rattle.lines.specs.Field.{elem, elemSigned};
-ghost use Rattle.lines.specs.Usual.{AtomZeros, BondZeros, plainAtom, plainBond};
-use coordinates::CoordinateRead;
-use numbers::NumberRead;
-use numbers::SignedRead;
-use symbols::SymbolRead;
+ghost use Rattle.line_judge.specs.Field.{listedAt, signedListedAt, elem, elemSigned};
+ghost use Rattle.line_judge.specs.Judge.{countsOf, bondOf};
+ghost use Rattle.fields.specs.Answer.{fieldGot, signedFieldGot};
+ghost use Rattle.lines.specs.Answer.{countsGot, bondGot, afterCounts, bondFrom, nextCentres};
+ghost use Rattle.lines.specs.Usual.{BondZeros, plainBond};
+use fields::Field;
+use fields::SignedField;
 use text::Found;
 
 // The most atoms, and the most bonds, of a record.
 pub const LIMIT: u32 = 255;
-
-// A number that columns hold, or the refusal.
-pub enum Field {
-    Is(u32),
-    Bad { no: u8, column: usize },
-}
-
-// The same with negatives.
-pub enum SignedField {
-    Is(i32),
-    Bad { no: u8, column: usize },
-}
 
 pub struct Counts {
     pub atoms: u32,
@@ -41,48 +25,6 @@ pub struct Counts {
 
 pub enum CountsRead {
     Is(Counts),
-    Bad { no: u8, column: usize },
-}
-
-// Where an atom stands and what it is: columns 1 to 34.
-pub struct AtomPlace {
-    pub x: i32,
-    pub y: i32,
-    pub z: i32,
-    pub symbol: u32,
-}
-
-pub enum PlaceRead {
-    Is(AtomPlace),
-    Bad { no: u8, column: usize },
-}
-
-// The codes of an atom in columns 35 to 48.
-pub struct AtomCodes {
-    pub mass_difference: i32,
-    pub charge_code: u32,
-    pub parity: u32,
-    pub hydrogen_count: u32,
-    pub stereo_care: u32,
-}
-
-pub enum CodesRead {
-    Is(AtomCodes),
-    Bad { no: u8, column: usize },
-}
-
-pub struct Atom {
-    pub place: AtomPlace,
-    pub codes: AtomCodes,
-    pub valence: u32,
-    pub h0: u32,
-    pub atom_map: u32,
-    pub inversion: u32,
-    pub exact_change: u32,
-}
-
-pub enum AtomRead {
-    Is(Atom),
     Bad { no: u8, column: usize },
 }
 
@@ -100,69 +42,23 @@ pub enum BondRead {
     Bad { no: u8, column: usize },
 }
 
-// Columns i to j as a number from `least` to `most`.
-pub fn number_field(line: &[u8], i: usize, j: usize, least: u32, most: u32) -> Field
-    requires { ⌜ (1 ≤ i) × ((i ≤ j) × ((j ≤ i + 8) × (j ≤ 1000))) ⌝ }
-    ensures { λ r. ⌜ fieldGot r ≡ numberAt (now (line .entry)) i j least most ⌝ }
-{
-    match numbers::number(line, i, j, least, most) {
-        NumberRead::Is(k) => Field::Is(k),
-        NumberRead::Malformed => Field::Bad { no: 7, column: i },
-        NumberRead::Outside => Field::Bad { no: 8, column: i },
-    }
-}
-
-// Columns i to j as a number from minus `below` to `above`.
-pub fn signed_field(line: &[u8], i: usize, j: usize, below: u32, above: u32) -> SignedField
-    requires { ⌜ (1 ≤ i) × ((i ≤ j) × ((j ≤ i + 8) × (j ≤ 1000))) ⌝ }
-    ensures { λ r. ⌜ signedFieldGot r ≡ signedAt (now (line .entry)) i j below above ⌝ }
-{
-    match numbers::signed_number(line, i, j, below, above) {
-        SignedRead::Is(z) => SignedField::Is(z),
-        SignedRead::Malformed => SignedField::Bad { no: 7, column: i },
-        SignedRead::Outside => SignedField::Bad { no: 8, column: i },
-    }
-}
-
-// Ten columns from column i as a coordinate.
-fn coordinate_field(line: &[u8], i: usize) -> SignedField
-    requires { ⌜ (1 ≤ i) × (i ≤ 1000) ⌝ }
-    ensures { λ r. ⌜ signedFieldGot r ≡ coordinateAt (now (line .entry)) i (i + 9) ⌝ }
-{
-    match coordinates::coordinate(line, i) {
-        CoordinateRead::Is(z) => SignedField::Is(z),
-        CoordinateRead::Malformed => SignedField::Bad { no: 7, column: i },
-    }
-}
-
-// Three columns from column i as a symbol.
-fn symbol_field(line: &[u8], i: usize) -> Field
-    requires { ⌜ (1 ≤ i) × (i ≤ 1000) ⌝ }
-    ensures { λ r. ⌜ fieldGot r ≡ symbolAt (now (line .entry)) i (i + 2) ⌝ }
-{
-    match symbols::symbol(line, i) {
-        SymbolRead::Is(k) => Field::Is(k),
-        SymbolRead::Unknown => Field::Bad { no: 9, column: i },
-    }
-}
-
 // The counts line from column 7 on.
 fn counts_rest(line: &[u8], atoms: u32, bonds: u32) -> CountsRead
     ensures { λ r. ⌜ countsGot r ≡ afterCounts atoms bonds (now (line .entry)) ⌝ }
 {
-    let _lists = match number_field(line, 7, 9, 0, 0) {
+    let _lists = match fields::number_field(line, 7, 9, 0, 0) {
         Field::Is(k) => k,
         Field::Bad { no, column } => {
             return CountsRead::Bad { no, column };
         }
     };
-    let chiral = match number_field(line, 13, 15, 0, 1) {
+    let chiral = match fields::number_field(line, 13, 15, 0, 1) {
         Field::Is(k) => k,
         Field::Bad { no, column } => {
             return CountsRead::Bad { no, column };
         }
     };
-    let _stext = match number_field(line, 16, 18, 0, 0) {
+    let _stext = match fields::number_field(line, 16, 18, 0, 0) {
         Field::Is(k) => k,
         Field::Bad { no, column } => {
             return CountsRead::Bad { no, column };
@@ -187,13 +83,13 @@ pub fn counts_line(line: &[u8], limit: u32) -> CountsRead
     requires { ⌜ limit ≤ 999 ⌝ }
     ensures { λ r. ⌜ countsGot r ≡ countsOf limit (now (line .entry)) ⌝ }
 {
-    let atoms = match number_field(line, 1, 3, 0, limit) {
+    let atoms = match fields::number_field(line, 1, 3, 0, limit) {
         Field::Is(k) => k,
         Field::Bad { no, column } => {
             return CountsRead::Bad { no, column };
         }
     };
-    let bonds = match number_field(line, 4, 6, 0, limit) {
+    let bonds = match fields::number_field(line, 4, 6, 0, limit) {
         Field::Is(k) => k,
         Field::Bad { no, column } => {
             return CountsRead::Bad { no, column };
@@ -217,192 +113,11 @@ fn enough_pairs(n: u32, m: u32) -> bool
     2 * m <= n * (n - 1)
 }
 
-// Columns 1 to 34 of an atom line.
-fn atom_place(line: &[u8]) -> PlaceRead
-    ensures { λ r. ⌜ placeGot r ≡ placeOf (now (line .entry)) ⌝ }
-{
-    let x = match coordinate_field(line, 1) {
-        SignedField::Is(v) => v,
-        SignedField::Bad { no, column } => {
-            return PlaceRead::Bad { no, column };
-        }
-    };
-    let y = match coordinate_field(line, 11) {
-        SignedField::Is(v) => v,
-        SignedField::Bad { no, column } => {
-            return PlaceRead::Bad { no, column };
-        }
-    };
-    let z = match coordinate_field(line, 21) {
-        SignedField::Is(v) => v,
-        SignedField::Bad { no, column } => {
-            return PlaceRead::Bad { no, column };
-        }
-    };
-    if text::column(line, 31) != 32 {
-        return PlaceRead::Bad { no: 15, column: 31 };
-    }
-    match symbol_field(line, 32) {
-        Field::Is(symbol) => PlaceRead::Is(AtomPlace { x, y, z, symbol }),
-        Field::Bad { no, column } => PlaceRead::Bad { no, column },
-    }
-}
-
-// Columns 35 to 48 of an atom line.
-fn atom_codes(line: &[u8]) -> CodesRead
-    ensures { λ r. ⌜ codesGot r ≡ codesOf (now (line .entry)) ⌝ }
-{
-    let mass_difference = match signed_field(line, 35, 36, 3, 4) {
-        SignedField::Is(v) => v,
-        SignedField::Bad { no, column } => {
-            return CodesRead::Bad { no, column };
-        }
-    };
-    let charge_code = match number_field(line, 37, 39, 0, 7) {
-        Field::Is(k) => k,
-        Field::Bad { no, column } => {
-            return CodesRead::Bad { no, column };
-        }
-    };
-    let parity = match number_field(line, 40, 42, 0, 3) {
-        Field::Is(k) => k,
-        Field::Bad { no, column } => {
-            return CodesRead::Bad { no, column };
-        }
-    };
-    let hydrogen_count = match number_field(line, 43, 45, 0, 5) {
-        Field::Is(k) => k,
-        Field::Bad { no, column } => {
-            return CodesRead::Bad { no, column };
-        }
-    };
-    match number_field(line, 46, 48, 0, 1) {
-        Field::Is(stereo_care) => CodesRead::Is(AtomCodes {
-            mass_difference,
-            charge_code,
-            parity,
-            hydrogen_count,
-            stereo_care,
-        }),
-        Field::Bad { no, column } => CodesRead::Bad { no, column },
-    }
-}
-
-// Columns 67 on of an atom line.
-fn exact_field(line: &[u8]) -> Field
-    ensures { λ r. ⌜ fieldGot r ≡ exactOf (now (line .entry)) ⌝ }
-{
-    let exact = match number_field(line, 67, 69, 0, 1) {
-        Field::Is(k) => k,
-        Field::Bad { no, column } => {
-            return Field::Bad { no, column };
-        }
-    };
-    match text::ink_column(line, 70) {
-        Found::Nothing => Field::Is(exact),
-        Found::At(column) => Field::Bad { no: 15, column },
-    }
-}
-
-// Columns 49 on of an atom line.
-fn atom_rest(line: &[u8], n: u32, place: AtomPlace, codes: AtomCodes) -> AtomRead
-    ensures { λ r. ⌜ atomGot r ≡ atomFrom n place codes (now (line .entry)) ⌝ }
-{
-    let valence = match number_field(line, 49, 51, 0, 15) {
-        Field::Is(k) => k,
-        Field::Bad { no, column } => {
-            return AtomRead::Bad { no, column };
-        }
-    };
-    let h0 = match number_field(line, 52, 54, 0, 1) {
-        Field::Is(k) => k,
-        Field::Bad { no, column } => {
-            return AtomRead::Bad { no, column };
-        }
-    };
-    let atom_map = match number_field(line, 61, 63, 0, n) {
-        Field::Is(k) => k,
-        Field::Bad { no, column } => {
-            return AtomRead::Bad { no, column };
-        }
-    };
-    let inversion = match number_field(line, 64, 66, 0, 2) {
-        Field::Is(k) => k,
-        Field::Bad { no, column } => {
-            return AtomRead::Bad { no, column };
-        }
-    };
-    match exact_field(line) {
-        Field::Is(exact_change) => AtomRead::Is(Atom {
-            place,
-            codes,
-            valence,
-            h0,
-            atom_map,
-            inversion,
-            exact_change,
-        }),
-        Field::Bad { no, column } => AtomRead::Bad { no, column },
-    }
-}
-
-// Whether an atom line has zeros in columns 35 to 69 and nothing after them: most have.
-fn atom_zeros(line: &[u8]) -> bool
-    ensures { λ r. ⌜ (r ≡ true → AtomZeros (now (line .entry))) ⌝ }
-{
-    if line.len() < 69 {
-        return false;
-    }
-    if 69 < line.len() {
-        return false;
-    }
-    text::text_differs(line, 35, b" 0  0  0  0  0  0  0  0  0  0  0  0") == 0
-}
-
-fn plain_atom(place: AtomPlace) -> Atom
-    ensures { λ r. ⌜ r ≡ plainAtom place ⌝ }
-{
-    Atom {
-        place,
-        codes: AtomCodes {
-            mass_difference: 0,
-            charge_code: 0,
-            parity: 0,
-            hydrogen_count: 0,
-            stereo_care: 0,
-        },
-        valence: 0,
-        h0: 0,
-        atom_map: 0,
-        inversion: 0,
-        exact_change: 0,
-    }
-}
-
-// xxxxx.xxxxyyyyy.yyyyzzzzz.zzzz aaaddcccssshhhbbbvvvHHHrrriiimmmnnneee
-pub fn atom_line(line: &[u8], n: u32) -> AtomRead
-    ensures { λ r. ⌜ atomGot r ≡ atomOf n (now (line .entry)) ⌝ }
-{
-    let place = match atom_place(line) {
-        PlaceRead::Is(p) => p,
-        PlaceRead::Bad { no, column } => {
-            return AtomRead::Bad { no, column };
-        }
-    };
-    if atom_zeros(line) {
-        return AtomRead::Is(plain_atom(place));
-    }
-    match atom_codes(line) {
-        CodesRead::Is(codes) => atom_rest(line, n, place, codes),
-        CodesRead::Bad { no, column } => AtomRead::Bad { no, column },
-    }
-}
-
 // Columns 10 to 12 of a bond line: what its type allows.
 fn stereo_field(line: &[u8], order: u32) -> Field
     ensures { λ r. ⌜ fieldGot r ≡ listedAt (now (line .entry)) 10 12 6 (stereos order) ⌝ }
 {
-    let stereo = match number_field(line, 10, 12, 0, 6) {
+    let stereo = match fields::number_field(line, 10, 12, 0, 6) {
         Field::Is(k) => k,
         Field::Bad { no, column } => {
             return Field::Bad { no, column };
@@ -451,7 +166,7 @@ fn stereo_allowed(order: u32, stereo: u32) -> bool
 fn centre_field(line: &[u8]) -> SignedField
     ensures { λ r. ⌜ signedFieldGot r ≡ signedListedAt (now (line .entry)) 19 21 1 13 centres ⌝ }
 {
-    let centre = match signed_field(line, 19, 21, 1, 13) {
+    let centre = match fields::signed_field(line, 19, 21, 1, 13) {
         SignedField::Is(z) => z,
         SignedField::Bad { no, column } => {
             return SignedField::Bad { no, column };
@@ -501,7 +216,7 @@ fn next_allowed(k: u32) -> bool
 fn bond_rest(line: &[u8], first: u32, second: u32, order: u32, stereo: u32) -> BondRead
     ensures { λ r. ⌜ bondGot r ≡ bondFrom first second order stereo (now (line .entry)) ⌝ }
 {
-    let topology = match number_field(line, 16, 18, 0, 2) {
+    let topology = match fields::number_field(line, 16, 18, 0, 2) {
         Field::Is(k) => k,
         Field::Bad { no, column } => {
             return BondRead::Bad { no, column };
@@ -564,19 +279,19 @@ fn plain_bond(first: u32, second: u32, order: u32) -> BondRead
 pub fn bond_line(line: &[u8], n: u32) -> BondRead
     ensures { λ r. ⌜ bondGot r ≡ bondOf n (now (line .entry)) ⌝ }
 {
-    let first = match number_field(line, 1, 3, 1, n) {
+    let first = match fields::number_field(line, 1, 3, 1, n) {
         Field::Is(k) => k,
         Field::Bad { no, column } => {
             return BondRead::Bad { no, column };
         }
     };
-    let second = match number_field(line, 4, 6, 1, n) {
+    let second = match fields::number_field(line, 4, 6, 1, n) {
         Field::Is(k) => k,
         Field::Bad { no, column } => {
             return BondRead::Bad { no, column };
         }
     };
-    let order = match number_field(line, 7, 9, 1, 8) {
+    let order = match fields::number_field(line, 7, 9, 1, 8) {
         Field::Is(k) => k,
         Field::Bad { no, column } => {
             return BondRead::Bad { no, column };

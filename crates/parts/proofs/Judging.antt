@@ -1,30 +1,27 @@
--- Laws of the loop over a part's lines: what is found from here on is what is found of the whole part, and the text grows by no more than the lines passed.
+-- Laws of the loop over a part's lines: the text grows by no more than the lines passed.
 use Prim.Native.Nat.{ℕ, _+_, _-_, _*_, _≤_, _<_, _^_}
 use native.Mathlib.Omega.{arith}
-use native.Mathlib.Numerals.{add-one}
 use mathlib.Core.Path.{_≡_, refl, sym, ap, ap₂, _∙_, subst}
 use mathlib.Core.List.{[], _∷_, _++_}
-use lib.ListN.{length, take, drop, length-append, length-take, length-drop, drop-of-length-le, length-replicate}
+use lib.ListN.{length, take, drop, length-append, length-take, length-drop, length-replicate}
 use mir.Syntax.{w64}
 use mir.Val.{Fits}
 use Rattle.text.specs.Text.{Bytes, Line, LF, bytes}
 use Rattle.text.specs.Columns.{Within, spaces}
 use Rattle.text.specs.Find.{lineAt}
-use Rattle.text.specs.Cut.{split, cut, line-within, line-cut, line-rest}
+use Rattle.text.specs.Cut.{line-within}
 use Rattle.text.specs.declared.LineAt.{LineAt}
 use Rattle.rules.specs.Forms.{DataHeader}
-use Rattle.lines.specs.Got.{Got, got, bad, then}
-use Rattle.lines.specs.GotLaws.{got-inj, bad-got, then-got}
-use Rattle.lines.specs.Judge.{firstHeaderOf, itemOf, ItemOrEnd, title, close, valueOf, ValueOrBlank, value, blank}
-use Rattle.lines.specs.Agree.{within-got, header-agrees, title-agrees}
-use Rattle.parts.specs.Part.{PartVerdict, refused, finish}
-use Rattle.parts.specs.Written.{judged}
-use Rattle.parts.specs.Step.{ended, Taken, taken, itemTaken, valueTaken, lineAs, longest, turnAs, turned, standingTurn, standingEnd, endsAt, endsAs, writtenFrom}
-use Rattle.parts.specs.Runs.{fromCut, from-start, from-next, from-stop, from-end}
+use Rattle.line_judge.specs.Got.{Got, got, bad, then}
+use Rattle.line_judge.specs.GotLaws.{got-inj, bad-got, then-got}
+use Rattle.line_judge.specs.Judge.{firstHeaderOf, itemOf, ItemOrEnd, title, close, valueOf, ValueOrBlank, value, blank}
+use Rattle.line_judge.specs.Agree.{within-got, header-agrees, title-agrees}
+use Rattle.parts.specs.Lengths.{title-length}
+use Rattle.parts.specs.Step.{ended, Taken, taken, itemTaken, valueTaken, lineAs, longest, turnAs, turned, endsAt, judged, endsAs, writtenFrom}
+use Rattle.parts.specs.Here.{fromHere, here-start, here-next, here-stop, here-cut, here-end}
 use Rattle.parts.specs.declared.Place.{Place}
 use Rattle.parts.specs.declared.Turn.{Turn}
 use Rattle.parts.specs.declared.PartJudged.{PartJudged}
-use Rattle.parts.proofs.Turns.{title-length}
 
 -- ---- a line's canonical text is longer by two bytes at most: its LF, and a second space in a data header
 
@@ -104,48 +101,6 @@ turn-bad p l x a column e h = go (turnAs p l) refl
         let ba : b ≡ a = cc in
         let dc : d ≡ column = cc in
         k ∙ ap₂ bad ba dc
-
--- ---- the part from here on
-
--- from a place, with the text before it, at line i and position `at`
-unfoldable pub fromHere : Place → Bytes → ℕ → Bytes → ℕ → PartVerdict Bytes
-fromHere p out i s at = fromCut standingTurn standingEnd (record { place = p; out = out }) i (cut (drop at s))
-
-pub here-start : (p : Place) (s : Bytes) → writtenFrom p s ≡ fromHere p [] 1 s 0
-unfolding writtenFrom fromHere
-here-start p s = from-start standingTurn standingEnd (record { place = p; out = [] }) s
-
-module _ (p : Place) (out : Bytes) (i : ℕ) (s : Bytes) (at e n : ℕ) (line : lineAt s at ≡ LineAt.Line e n) where
-  pub here-next : (q : Place) (bs : Bytes) → turnAs p (take (e - at) (drop at s)) ≡ taken q bs → fromHere p out i s at ≡ fromHere q (out ++ bs) (i + 1) s n
-  unfolding fromHere standingTurn then
-  here-next q bs h =
-      ap (fromCut standingTurn standingEnd (record { place = p; out = out }) i) (line-cut s at e n line)
-      ∙ from-next standingTurn standingEnd (record { place = p; out = out }) (record { place = q; out = out ++ bs }) i (take (e - at) (drop at s)) (cut (drop n s)) (rw h)
-      ∙ rw (add-one i)
-
-  pub here-stop : (a column : ℕ) → turnAs p (take (e - at) (drop at s)) ≡ bad a column → fromHere p out i s at ≡ refused a i column
-  unfolding fromHere standingTurn then
-  here-stop a column h =
-      ap (fromCut standingTurn standingEnd (record { place = p; out = out }) i) (line-cut s at e n line)
-      ∙ from-stop standingTurn standingEnd (record { place = p; out = out }) i (take (e - at) (drop at s)) (cut (drop n s)) a column (rw h)
-
-module _ (p : Place) (out : Bytes) (i : ℕ) (s : Bytes) (at : ℕ) where
-  rest-first : lineAt s at ≡ LineAt.Unfinished → fromHere p out i s at ≡ finish standingEnd (record { place = p; out = out }) (drop at s) i
-  unfolding fromHere
-  rest-first h =
-      ap (fromCut standingTurn standingEnd (record { place = p; out = out }) i) (line-rest s at h)
-      ∙ from-end standingTurn standingEnd (record { place = p; out = out }) i (drop at s)
-
-  pub here-cut : at < length s → lineAt s at ≡ LineAt.Unfinished → fromHere p out i s at ≡ refused 19 i 1
-  here-cut some h = rest-first h ∙ go (drop at s) (omega (arith, length-drop at s))
-    where
-      go : (t : Bytes) → 0 < length t → finish standingEnd (record { place = p; out = out }) t i ≡ refused 19 i 1
-      go [] k = absurd (omega arith)
-      go (b ∷ t) k = refl
-
-  pub here-end : length s ≤ at → fromHere p out i s at ≡ endsAt p out i
-  unfolding fromHere cut split
-  here-end h = rw (drop-of-length-le s h) (from-end standingTurn standingEnd (record { place = p; out = out }) i [])
 
 -- ---- judging a part
 

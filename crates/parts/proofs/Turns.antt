@@ -1,40 +1,27 @@
 -- Laws on one line of a part: what each of the code's answers says of its turn.
 use Prim.Native.Nat.{ℕ, suc, _+_, _-_, _≤_, _<_}
 use native.Mathlib.Omega.{arith}
-use mathlib.Core.Path.{_≡_, sym, ap, _∙_}
-use mathlib.Core.List.{[], _∷_, _++_}
-use lib.ListN.{length, take, drop, length-append, length-take, length-drop}
+use mathlib.Core.Path.{_≡_, ap}
+use lib.ListN.{length, take, drop}
 use mir.Syntax.{w64}
 use mir.Val.{Fits}
 use borrow.Author.Tests.{le-leb, lt-leb}
-use Rattle.text.specs.Text.{Bytes, Line, LF, bytes}
+use Rattle.text.specs.Text.{Line}
 use Rattle.text.specs.Find.{badColumn}
 use Rattle.text.specs.declared.Found.{Found}
-use Rattle.rules.specs.Write.{headerText}
-use Rattle.lines.specs.Got.{then, need}
-use Rattle.lines.specs.Field.{within}
-use Rattle.lines.specs.Judge.{firstHeaderOf, itemOf, valueOf}
+use Rattle.line_judge.specs.Got.{then, need}
+use Rattle.line_judge.specs.Field.{within}
+use Rattle.line_judge.specs.Judge.{firstHeaderOf, itemOf, valueOf}
 use Rattle.items.specs.Answer.{headerGot, itemGot, itemIn, valueGot}
 use Rattle.items.specs.Within.{title-order, title-end}
 use Rattle.items.specs.declared.HeaderJudged.{HeaderJudged}
 use Rattle.items.specs.declared.ItemRead.{ItemRead}
 use Rattle.items.specs.declared.ValueRead.{ValueRead}
-use Rattle.parts.specs.Step.{ended, lineAs, longest, allowedAs, turnAs, turned, endsAs}
+use Rattle.parts.specs.Lengths.{line-length, title-length, name-length}
+use Rattle.parts.specs.Step.{lineAs, longest, allowedAs, turnAs, turned, endsAs}
 use Rattle.parts.specs.declared.Place.{Place}
 use Rattle.parts.specs.declared.Turn.{Turn}
 use Rattle.parts.specs.declared.PartJudged.{PartJudged}
-
--- ---- lengths
-
-line-length : (l : Line) → length l + 1 ≡ length (ended l)
-line-length l = sym (length-append l (LF ∷ []))
-
-pub title-length : (name : Bytes) → length (ended (headerText name)) ≡ length name + 6
-unfolding headerText
-title-length name = omega (arith, length-append (bytes ">  <" ++ (name ++ bytes ">")) (LF ∷ []), length-append (bytes ">  <") (name ++ bytes ">"), length-append name (bytes ">"))
-
-pub name-length : (l : Line) (from to : ℕ) → from ≤ to → to ≤ length l → length (take (to - from) (drop from l)) ≡ to - from
-name-length l from to h k = length-take (to - from) (drop from l) ∙ omega (arith, length-drop from l)
 
 -- ---- the first header line
 

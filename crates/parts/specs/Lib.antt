@@ -1,10 +1,4 @@
-pub mod Part
-pub mod Written
 pub mod Step
-pub mod Put
-pub mod Runs
-pub mod AnyPart
-pub mod PartFrom
-pub mod PartAgree
-pub mod PartText
-pub mod Samples
+pub mod Lengths
+pub mod Here
+pub mod Beside

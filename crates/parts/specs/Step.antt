@@ -4,11 +4,11 @@ use mathlib.Core.List.{[], _∷_, _++_}
 use lib.ListN.{length}
 use Rattle.text.specs.Text.{Bytes, Line, LF}
 use Rattle.rules.specs.Write.{headerText}
-use Rattle.lines.specs.Got.{Got, got, bad, then}
+use Rattle.line_judge.specs.Got.{Got, got, bad, then}
 use Rattle.text.specs.Find.{badColumn}
-use Rattle.lines.specs.Field.{noneFound, within}
-use Rattle.lines.specs.Judge.{firstHeaderOf, itemOf, ItemOrEnd, title, close, valueOf, ValueOrBlank, value, blank}
-use Rattle.parts.specs.Part.{PartVerdict, good, refused, verdictFrom}
+use Rattle.line_judge.specs.Field.{noneFound, within}
+use Rattle.line_judge.specs.Judge.{firstHeaderOf, itemOf, ItemOrEnd, title, close, valueOf, ValueOrBlank, value, blank}
+use Rattle.part_judge.specs.Part.{PartVerdict, good, refused, verdictFrom}
 use Rattle.parts.specs.declared.Place.{Place}
 use Rattle.parts.specs.declared.Turn.{Turn}
 use Rattle.parts.specs.declared.PartJudged.{PartJudged}
@@ -79,6 +79,11 @@ endsAt Place.Third bs i = refused 19 i 1
 endsAt Place.Full bs i = good bs
 endsAt Place.Items bs i = good bs
 endsAt Place.Values bs i = refused 19 i 1
+
+-- what the code answers: the length of the text, or the refusal
+abbrev pub judged : PartVerdict Bytes → PartJudged
+judged (good bs) = PartJudged.Good (length bs)
+judged (refused e i column) = PartJudged.Refused e i column
 
 -- the same by the length of the text
 abbrev pub endsAs : Place → ℕ → ℕ → PartJudged

@@ -8,7 +8,7 @@ use lib.IntN.{ℤ}
 use Rattle.text.specs.Text.{Bytes, Line}
 use Rattle.text.specs.Cut.{Cut, cut, split}
 use Rattle.rules.specs.Record.{Raw, limit}
-use Rattle.lines.specs.Got.{Got, got, bad}
+use Rattle.line_judge.specs.Got.{Got, got, bad}
 use Rattle.judge.specs.Place.{sdfile, Place, first, Turn, next, done, turnOf}
 use Rattle.judge.specs.One.{One, oneFrom, oneRecord}
 use Rattle.walk.specs.Outcome.{Outcome, refused, ofOne, outcomeOf, one-next, one-done, one-bad}

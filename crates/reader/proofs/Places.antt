@@ -1,6 +1,5 @@
 -- Laws on a step, place by place: what a callee answered decides what the step is.
 use Prim.Native.Nat.{ℕ, suc, _+_, _*_, _-_, _≤_, _<_}
-use native.Mathlib.Numerals.{add-one}
 use native.Mathlib.Omega.{arith}
 use mathlib.Core.Path.{_≡_, refl, sym, ap, _∙_, subst}
 use mathlib.Core.List.{List, []}
@@ -12,16 +11,17 @@ use Rattle.text.specs.Text.{Line}
 use Rattle.text.specs.Find.{badColumn}
 use Rattle.text.specs.declared.Found.{Found}
 use Rattle.rules.specs.Record.{limit}
-use Rattle.lines.specs.Got.{Got, got, bad, then, need}
-use Rattle.lines.specs.GotLaws.{bad-got, then-got}
-use Rattle.lines.specs.Field.{within, noneFound}
-use Rattle.lines.specs.AgreeField.{within-got}
-use Rattle.lines.specs.Judge as J
-use Rattle.lines.specs.Answer.{countsIs, countsGot, atomIs, atomGot, bondIs, bondGot}
+use Rattle.line_judge.specs.Got.{Got, got, bad, then, need}
+use Rattle.line_judge.specs.GotLaws.{bad-got, then-got}
+use Rattle.line_judge.specs.Field.{within, noneFound}
+use Rattle.line_judge.specs.AgreeField.{within-got}
+use Rattle.line_judge.specs.Judge as J
+use Rattle.atom_lines.specs.Answer.{atomIs, atomGot}
+use Rattle.lines.specs.Answer.{countsIs, countsGot, bondIs, bondGot}
 use Rattle.lines.specs.declared.Counts.{Counts}
 use Rattle.lines.specs.declared.CountsRead.{CountsRead}
-use Rattle.lines.specs.declared.Atom.{Atom}
-use Rattle.lines.specs.declared.AtomRead.{AtomRead}
+use Rattle.atom_lines.specs.declared.Atom.{Atom}
+use Rattle.atom_lines.specs.declared.AtomRead.{AtomRead}
 use Rattle.lines.specs.declared.Bond.{Bond}
 use Rattle.lines.specs.declared.BondRead.{BondRead}
 use Rattle.entries.specs.Listed.{seenOf, places}
@@ -33,14 +33,14 @@ use Rattle.items.specs.Within.{title-order, title-end}
 use Rattle.items.specs.declared.HeaderJudged.{HeaderJudged}
 use Rattle.items.specs.declared.ItemRead.{ItemRead}
 use Rattle.items.specs.declared.ValueRead.{ValueRead}
-use Rattle.reader.specs.declared.Place.{Place}
-use Rattle.reader.specs.declared.Place.the-variants as P
+use Rattle.record_places.specs.declared.Place.{Place}
+use Rattle.record_places.specs.declared.Place.the-variants as P
 use Rattle.reader.specs.declared.Reader.{Reader}
 use Rattle.reader.specs.declared.Step.{Step}
-use Rattle.reader.specs.declared.Finish.{Finish}
-use Rattle.reader.specs.declared.LineJudged.{LineJudged}
-use Rattle.reader.specs.Went.{Went, on, headed, atom, bond, ended, title, value, blank, done, moved, counted, bondsOwed, atomsOwed, afterEnd, afterProperty, enteredBy, headerIn, lineIn, longestIn, wentOf, tableAt, Kept, Owing, Sane}
-use Rattle.reader.specs.Parts.{beforeHeader, finishedAt, finished, titleIn, lineGot, KeptAt}
+use Rattle.record_places.specs.declared.LineJudged.{LineJudged}
+use Rattle.record_places.specs.Places.{bondsOwed, atomsOwed, afterEnd, longestIn, lineGot}
+use Rattle.reader.specs.Went.{Went, on, headed, atom, bond, ended, title, value, blank, done, moved, counted, afterProperty, enteredBy, headerIn, lineIn, wentOf, tableAt, Kept, Owing, Sane}
+use Rattle.reader.specs.Parts.{titleIn, KeptAt}
 
 -- ---- a step that is no title
 
@@ -83,23 +83,6 @@ refused-in l e column = tt
 
 pub ruleset untitled = (next-in, headed-in, atom-in, bond-in, ended-in, value-in, blank-in, done-in, refused-in)
 
--- ---- length and bytes
-
-module _ (longest : ℕ) (l : Line) (x : Got Line) where
-  pub line-long : longest < length l → bad 3 (longest + 1) ≡ within longest l x
-  unfolding within need
-  line-long h = rw (add-one, lt-leb (length l) longest h)
-
-  pub line-byte : (found : Found) (column : ℕ) → length l ≤ longest → found ≡ badColumn l → found ≡ Found.At column → bad 4 column ≡ within longest l x
-  unfolding within need
-  line-byte found column h e f = rw (le-leb (length l) longest h, ← e, f)
-
-  pub line-good : (found : Found) → length l ≤ longest → found ≡ badColumn l → found ≡ Found.Nothing → x ≡ within longest l x
-  unfolding within need
-  line-good found h e f = rw (le-leb (length l) longest h, ← e, f)
-
-pub ruleset line-laws = (line-long, line-byte, line-good)
-
 -- ---- header lines
 
 module _ (r : Reader) (l : Line) (v : HeaderJudged) (e : headerGot l v ≡ J.firstHeaderOf l) where
@@ -126,24 +109,6 @@ module _ (r : Reader) (owed : ℕ) (l : Line) where
 pub ruleset header-laws = (first-next, first-stop, header-first, header-second, header-third)
 
 -- ---- the counts line
-
-pub no-bonds : (k : ℕ) → k ≡ 0 → P.Properties ≡ bondsOwed k
-unfolding bondsOwed
-no-bonds k h = rw h
-
-pub some-bonds : (k : ℕ) → (k ≡ 0 → ⊥) → P.Bonds k ≡ bondsOwed k
-unfolding bondsOwed
-some-bonds k h = rw (ne-eqb k 0 h)
-
-pub no-atoms : (k m : ℕ) (p : Place) → k ≡ 0 → p ≡ bondsOwed m → p ≡ atomsOwed k m
-unfolding atomsOwed
-no-atoms k m p h e = rw h e
-
-pub some-atoms : (k m : ℕ) → (k ≡ 0 → ⊥) → P.Atoms k ≡ atomsOwed k m
-unfolding atomsOwed
-some-atoms k m h = rw (ne-eqb k 0 h)
-
-pub ruleset owed-laws = (no-bonds, some-bonds, no-atoms, some-atoms)
 
 pub counted-is : (r : Reader) (c : Counts) (p : Place) → p ≡ atomsOwed (c .atoms) (c .bonds) → _≡_ {A = Reader} (record { sd = r .sd; place = p; counts = c }) (counted r (countsIs c))
 counted-is r c p e = rw e
@@ -277,24 +242,6 @@ module _ (r : Reader) (t : List ℕ) (l : Line) (v : ValueRead) (e : valueGot v 
   values-stop number column h = rw (← e, h)
 
 pub ruleset values-laws = (values-value, values-blank, values-stop)
-
--- ---- the end of the input
-
-pub may-begin : (sd : Bool) (owed : ℕ) → owed ≡ 3 → sd ≡ true → Finish.MayEnd ≡ beforeHeader sd owed
-may-begin sd owed h e = rw (h, e)
-
-pub molfile-owes : (sd : Bool) (owed : ℕ) → owed ≡ 3 → sd ≡ false → Finish.Owes ≡ beforeHeader sd owed
-molfile-owes sd owed h e = rw (h, e)
-
-pub header-owes : (sd : Bool) (owed : ℕ) → (owed ≡ 3 → ⊥) → Finish.Owes ≡ beforeHeader sd owed
-header-owes true owed h = rw (ne-eqb owed 3 h)
-header-owes false owed h = refl
-
-pub finish-at : (r : Reader) (p : Place) (x : Finish) → r .place ≡ p → x ≡ finishedAt (r .sd) p → x ≡ finished r
-unfolding finished
-finish-at r p x e h = rw e h
-
-pub ruleset finish-laws = (may-begin, molfile-owes, header-owes, finish-at)
 
 -- ---- all places
 

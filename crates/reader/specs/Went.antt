@@ -2,20 +2,22 @@
 use Prim.Native.Nat.{ℕ, zero, suc, _-_, _≤_}
 use mathlib.Core.Path.{_≡_}
 use mathlib.Core.List.{List, [], _∷_}
-use mathlib.Core.Bool.{Bool, true, false, cond}
+use mathlib.Core.Bool.{cond}
 use lib.Dec.{eqb}
 use lib.ListN.{take, drop, replicate}
 use Rattle.text.specs.Text.{Bytes, Line}
 use Rattle.rules.specs.Forms as R
 use Rattle.rules.specs.Record.{limit}
-use Rattle.lines.specs.Got.{Got, got, bad, then}
-use Rattle.lines.specs.Field.{within}
-use Rattle.lines.specs.Judge as J
-use Rattle.lines.specs.Answer.{countsIs, atomIs, bondIs}
+use Rattle.line_judge.specs.Got.{Got, got, bad, then}
+use Rattle.line_judge.specs.Field.{within}
+use Rattle.line_judge.specs.Judge as J
+use Rattle.atom_lines.specs.Answer.{atomIs}
+use Rattle.lines.specs.Answer.{countsIs, bondIs}
 use Rattle.lines.specs.declared.Counts.{Counts}
 use Rattle.entries.specs.Listed.{seenOf, enter, places}
-use Rattle.reader.specs.declared.Place.{Place}
-use Rattle.reader.specs.declared.Place.the-variants as P
+use Rattle.record_places.specs.declared.Place.{Place}
+use Rattle.record_places.specs.declared.Place.the-variants as P
+use Rattle.record_places.specs.Places.{bondsOwed, atomsOwed, afterEnd, longestIn}
 use Rattle.reader.specs.declared.Reader.{Reader}
 use Rattle.reader.specs.declared.Step.{Step}
 
@@ -47,14 +49,6 @@ stepGot l (Step.Refused e column) = bad e column
 abbrev pub moved : Reader → Place → Reader
 moved r p = record { sd = r .sd; place = p; counts = r .counts }
 
--- so many bond lines owed, or none
-unfoldable pub bondsOwed : ℕ → Place
-bondsOwed k = cond (eqb k 0) P.Properties (P.Bonds k)
-
--- so many atom lines owed, or none: then the bonds
-unfoldable pub atomsOwed : ℕ → ℕ → Place
-atomsOwed k m = cond (eqb k 0) (bondsOwed m) (P.Atoms k)
-
 -- the state after a counts line
 abbrev pub counted : Reader → R.Counts → Reader
 counted r c =
@@ -63,10 +57,6 @@ counted r c =
       place = atomsOwed (c .atoms) (c .bonds);
       counts = record { atoms = c .atoms; bonds = c .bonds; chiral = c .chiral };
     }
-
-abbrev pub afterEnd : Bool → Place
-afterEnd true = P.Items
-afterEnd false = P.Over
 
 abbrev pub afterProperty : Reader → J.PropertyOrEnd → Went
 afterProperty r (J.property p) = on r
@@ -98,17 +88,6 @@ lineIn r P.Properties t l =
 lineIn r P.Over t l = bad 18 1
 lineIn r P.Items t l = then (J.itemOf l) λ i. got (afterItem r i)
 lineIn r P.Values t l = then (J.valueOf l) λ v. got (afterValue r v)
-
--- the longest line of a place
-abbrev pub longestIn : Place → ℕ
-longestIn (P.Header owed) = 80
-longestIn P.Counts = 80
-longestIn (P.Atoms owed) = 80
-longestIn (P.Bonds owed) = 80
-longestIn P.Properties = 80
-longestIn P.Over = 80
-longestIn P.Items = 80
-longestIn P.Values = 200
 
 unfoldable pub wentOf : Reader → List ℕ → Line → Got Went
 wentOf r t l = within (longestIn (r .place)) l (lineIn r (r .place) t l)

@@ -3,38 +3,25 @@ ghost use mathlib.Core.Path.{_≡_};
 ghost use mathlib.Core.List.{[]};
 ghost use Prim.Native.Nat.{_*_, _≤_};
 ghost use lib.ListN.{length};
-ghost use Rattle.lines.specs.Got.{got};
-ghost use Rattle.lines.specs.Field.{within};
 ghost use Rattle.lines.specs.Answer.{countsIs};
 ghost use Rattle.entries.specs.Listed.{places};
-ghost use Rattle.reader.specs.Went.{stepGot, wentOf, Kept, Sane, lineIn, headerIn, longestIn, moved, bondsOwed, atomsOwed, counted, afterEnd};
-ghost use Rattle.reader.specs.Parts.{begun, finished, beforeHeader, titleIn, lineGot, KeptAt};
+ghost use Rattle.reader.specs.Went.{stepGot, wentOf, Kept, Sane, lineIn, headerIn, moved, counted};
+ghost use Rattle.reader.specs.Parts.{begun, finished, titleIn, KeptAt};
+use atom_lines::Atom;
+use atom_lines::AtomRead;
 use entries::LISTED;
 use entries::PropertyRead;
 use items::HeaderJudged;
 use items::ItemRead;
 use items::ValueRead;
-use lines::Atom;
-use lines::AtomRead;
 use lines::Bond;
 use lines::BondRead;
 use lines::Counts;
 use lines::CountsRead;
 use lines::LIMIT;
-use text::Found;
-
-// `owed` counts the lines that still belong to the place, the next one among them.
-pub enum Place {
-    Header { owed: u32 },
-    Counts,
-    Atoms { owed: u32 },
-    Bonds { owed: u32 },
-    Properties,
-    // After a molfile's `M  END`.
-    Over,
-    Items,
-    Values,
-}
+use record_places::Finish;
+use record_places::LineJudged;
+use record_places::Place;
 
 pub struct Reader {
     // An SDfile, or else a molfile.
@@ -67,18 +54,6 @@ pub enum Step {
         no: u8,
         column: usize,
     },
-}
-
-// What a line is found to be by its length and its bytes.
-enum LineJudged {
-    Good,
-    Bad { no: u8, column: usize },
-}
-
-// Whether the input may end at a state.
-pub enum Finish {
-    MayEnd,
-    Owes,
 }
 
 impl Reader {
@@ -116,7 +91,7 @@ impl Reader {
         ensures { λ r. ⌜ titleIn (now (line .entry)) r ⌝ }
     {
         let place = self.place;
-        match line_judged(line, longest(place)) {
+        match record_places::line_judged(line, record_places::longest(place)) {
             LineJudged::Good => at_place(self, line, listed),
             LineJudged::Bad { no, column } => Step::Refused { no, column },
         }
@@ -128,62 +103,7 @@ impl Reader {
     {
         let place = self.place;
         let sd = self.sd;
-        match place {
-            Place::Header { owed } => before_header(sd, owed),
-            Place::Counts => Finish::Owes,
-            Place::Atoms { owed: _ } => Finish::Owes,
-            Place::Bonds { owed: _ } => Finish::Owes,
-            Place::Properties => Finish::Owes,
-            Place::Over => Finish::MayEnd,
-            Place::Items => Finish::Owes,
-            Place::Values => Finish::Owes,
-        }
-    }
-}
-
-// Whether an SDfile's record may begin: all three header lines are owed.
-fn before_header(sd: bool, owed: u32) -> Finish
-    ensures { λ r. ⌜ r ≡ beforeHeader sd owed ⌝ }
-{
-    if owed == 3 {
-        if sd {
-            return Finish::MayEnd;
-        }
-        return Finish::Owes;
-    }
-    Finish::Owes
-}
-
-// The longest line of a place.
-fn longest(place: Place) -> usize
-    ensures { λ r. ⌜ r ≡ longestIn place ⌝ }
-{
-    match place {
-        Place::Header { owed: _ } => 80,
-        Place::Counts => 80,
-        Place::Atoms { owed: _ } => 80,
-        Place::Bonds { owed: _ } => 80,
-        Place::Properties => 80,
-        Place::Over => 80,
-        Place::Items => 80,
-        Place::Values => 200,
-    }
-}
-
-// A line's length, then its bytes.
-fn line_judged(line: &[u8], longest: usize) -> LineJudged
-    requires { ⌜ longest ≤ 200 ⌝ }
-    ensures { λ r. ⌜ lineGot (now (line .entry)) r ≡ within longest (now (line .entry)) (got (now (line .entry))) ⌝ }
-{
-    if longest < line.len() {
-        return LineJudged::Bad {
-            no: 3,
-            column: longest + 1,
-        };
-    }
-    match text::bad_column(line) {
-        Found::At(column) => LineJudged::Bad { no: 4, column },
-        Found::Nothing => LineJudged::Good,
+        record_places::may_end(sd, place)
     }
 }
 
@@ -234,32 +154,12 @@ fn at_header(reader: Reader, owed: u32, line: &[u8]) -> Step
     Step::Headed(reader.moved(Place::Counts))
 }
 
-// So many bond lines owed, or none.
-fn bonds_owed(k: u32) -> Place
-    ensures { λ r. ⌜ r ≡ bondsOwed k ⌝ }
-{
-    if k == 0 {
-        return Place::Properties;
-    }
-    Place::Bonds { owed: k }
-}
-
-// So many atom lines owed, or none: then the bonds.
-fn atoms_owed(k: u32, m: u32) -> Place
-    ensures { λ r. ⌜ r ≡ atomsOwed k m ⌝ }
-{
-    if k == 0 {
-        return bonds_owed(m);
-    }
-    Place::Atoms { owed: k }
-}
-
 // The state after a counts line.
 fn counted(reader: Reader, counts: Counts) -> Reader
     ensures { λ r. ⌜ r ≡ counted reader (countsIs counts) ⌝ }
 {
     let sd = reader.sd;
-    let place = atoms_owed(counts.atoms, counts.bonds);
+    let place = record_places::atoms_owed(counts.atoms, counts.bonds);
     Reader { sd, place, counts }
 }
 
@@ -287,8 +187,13 @@ fn at_atoms(reader: Reader, owed: u32, line: &[u8]) -> Step
     ensures { λ r. ⌜ titleIn (now (line .entry)) r ⌝ }
 {
     let counts = reader.counts;
-    match lines::atom_line(line, counts.atoms) {
-        AtomRead::Is(atom) => { Step::Atom(reader.moved(atoms_owed(owed - 1, counts.bonds)), atom) }
+    match atom_lines::atom_line(line, counts.atoms) {
+        AtomRead::Is(atom) => {
+            Step::Atom(
+                reader.moved(record_places::atoms_owed(owed - 1, counts.bonds)),
+                atom,
+            )
+        }
         AtomRead::Bad { no, column } => Step::Refused { no, column },
     }
 }
@@ -301,19 +206,9 @@ fn at_bonds(reader: Reader, owed: u32, line: &[u8]) -> Step
 {
     let counts = reader.counts;
     match lines::bond_line(line, counts.atoms) {
-        BondRead::Is(bond) => Step::Bond(reader.moved(bonds_owed(owed - 1)), bond),
+        BondRead::Is(bond) => Step::Bond(reader.moved(record_places::bonds_owed(owed - 1)), bond),
         BondRead::Bad { no, column } => Step::Refused { no, column },
     }
-}
-
-// The place after `M  END`.
-fn after_end(sd: bool) -> Place
-    ensures { λ r. ⌜ r ≡ afterEnd sd ⌝ }
-{
-    if sd {
-        return Place::Items;
-    }
-    Place::Over
 }
 
 // A property line, which is then in the table, or `M  END`.
@@ -329,7 +224,7 @@ fn at_properties(reader: Reader, line: &[u8], listed: &mut [u32; LISTED]) -> Ste
     let counts = reader.counts;
     match entries::property_line(line, counts.atoms, listed) {
         PropertyRead::Listed => Step::Next(reader),
-        PropertyRead::End => Step::Ended(reader.moved(after_end(sd))),
+        PropertyRead::End => Step::Ended(reader.moved(record_places::after_end(sd))),
         PropertyRead::Bad { no, column } => Step::Refused { no, column },
     }
 }

@@ -13,7 +13,7 @@ use borrow.Author.Tests.{eq-eqb, ne-eqb, le-leb, lt-leb}
 use Rattle.numbers.specs.Read.{signed}
 use Rattle.rules.specs.Meaning.{chargeOfCode, radicalOfCode}
 use Rattle.entries.specs.Listed.{places}
-use Rattle.lines.specs.Steps.{hop}
+use Rattle.fields.specs.Steps.{hop}
 use Rattle.tables.specs.Mean.{anyAfter, numberKept, chargeBy, radicalBy, massBy, codeIn}
 use Rattle.tables.specs.declared.Kinds.{Kinds}
 

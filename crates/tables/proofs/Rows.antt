@@ -14,7 +14,7 @@ use mir.Syntax.{w32}
 use Rattle.rules.specs.Forms.{CHG, RAD, ISO}
 use Rattle.rules.specs.Record.{limit}
 use Rattle.entries.specs.Listed.{places}
-use Rattle.lines.specs.Steps.{hop}
+use Rattle.fields.specs.Steps.{hop}
 use Rattle.tables.specs.Mean.{anyAfter, kindsIn, Kept, numberKept, chargeBy, radicalBy, massBy, codeIn, meantRow, meantFrom, meant}
 use Rattle.tables.specs.declared.Kinds.{Kinds}
 

@@ -9,9 +9,9 @@ use lib.IntN.{ℤ, pos}
 use mir.Val.{SFits, toZ, ofZ}
 use mir.Syntax.{w32}
 use mir.Facts.{toZ-pos}
-use Rattle.lines.specs.Steps.{hop}
-use Rattle.lines.specs.Answer.{atomIs}
-use Rattle.lines.specs.declared.Atom.{Atom}
+use Rattle.fields.specs.Steps.{hop}
+use Rattle.atom_lines.specs.Answer.{atomIs}
+use Rattle.atom_lines.specs.declared.Atom.{Atom}
 use Rattle.tables.specs.Row.{rawRow}
 use Rattle.tables.specs.Parts.{placeRow, codesRow, restRow}
 use Rattle.tables.specs.Held.{sets-append}

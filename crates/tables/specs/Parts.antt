@@ -2,9 +2,9 @@
 use Prim.Native.Nat.{_≤_}
 use mathlib.Core.List.{List, [], _∷_}
 use lib.IntN.{ℤ, pos}
-use Rattle.lines.specs.declared.AtomPlace.{AtomPlace}
-use Rattle.lines.specs.declared.AtomCodes.{AtomCodes}
-use Rattle.lines.specs.declared.Atom.{Atom}
+use Rattle.atom_lines.specs.declared.AtomPlace.{AtomPlace}
+use Rattle.atom_lines.specs.declared.AtomCodes.{AtomCodes}
+use Rattle.atom_lines.specs.declared.Atom.{Atom}
 
 abbrev pub placeRow : AtomPlace → List ℤ
 placeRow p = p .x ∷ p .y ∷ p .z ∷ pos (p .symbol) ∷ []

@@ -9,9 +9,9 @@ use Rattle.text.specs.Text.{Line}
 use Rattle.text.specs.Columns.{Within}
 use Rattle.numbers.specs.Number.{OneOf}
 use Rattle.rules.specs.Forms.{Atom, AtomLine, Bond, BondLine}
-use Rattle.lines.specs.Got.{got}
-use Rattle.lines.specs.Judge.{atomOf, bondOf}
-use Rattle.lines.specs.AgreeLine.{atom-got, bond-got}
+use Rattle.line_judge.specs.Got.{got}
+use Rattle.line_judge.specs.Judge.{atomOf, bondOf}
+use Rattle.line_judge.specs.AgreeLine.{atom-got, bond-got}
 use Rattle.tables.specs.Row.{SmallAtom, SmallBond}
 
 pub atom-small : (n : ℕ) (l : Line) (a : Atom) → n ≤ 999 → AtomLine n l a → SmallAtom a

@@ -4,7 +4,8 @@ ghost use Prim.Native.Nat.{_+_, _*_, _≤_, _<_};
 ghost use mathlib.Core.List.{[], _∷_};
 ghost use lib.ListN.{length};
 ghost use lib.Seq.{sets};
-ghost use Rattle.lines.specs.Answer.{atomIs, bondIs};
+ghost use Rattle.atom_lines.specs.Answer.{atomIs};
+ghost use Rattle.lines.specs.Answer.{bondIs};
 ghost use Rattle.rules.specs.Record.{limit};
 ghost use Rattle.rules.specs.Meaning.{bondNumbers};
 ghost use Rattle.entries.specs.Listed.{places};
@@ -12,10 +13,10 @@ ghost use Rattle.tables.specs.Row.{rawRow, SmallAtom, SmallBond};
 ghost use Rattle.tables.specs.Parts.{placeRow, codesRow, restRow, SmallCodes};
 ghost use Rattle.tables.specs.Filled.{cleared};
 ghost use Rattle.tables.specs.Mean.{anyAfter, numberKept, chargeBy, radicalBy, massBy, codeIn, Kept, kindsIn, meantRow, meant};
+use atom_lines::Atom;
+use atom_lines::AtomCodes;
+use atom_lines::AtomPlace;
 use entries::LISTED;
-use lines::Atom;
-use lines::AtomCodes;
-use lines::AtomPlace;
 use lines::Bond;
 
 // Places of one kind in the table of listed numbers.

@@ -9,15 +9,15 @@ use lib.Seq.{sets}
 use lib.IntN.{ℤ}
 use borrow.Author.Tests.{lt-ltb, le-ltb, eq-eqb, ne-eqb}
 use Rattle.text.specs.Text.{Line}
-use Rattle.lines.specs.Got.{Got}
-use Rattle.lines.specs.Answer.{atomIs}
-use Rattle.lines.specs.declared.Atom.{Atom}
+use Rattle.line_judge.specs.Got.{Got}
+use Rattle.atom_lines.specs.Answer.{atomIs}
+use Rattle.atom_lines.specs.declared.Atom.{Atom}
 use Rattle.lines.specs.declared.Bond.{Bond}
 use Rattle.entries.specs.Listed.{places}
 use Rattle.tables.specs.Row.{rawRow, SmallAtom}
 use Rattle.reader.specs.declared.Reader.{Reader}
 use Rattle.reader.specs.declared.Step.{Step}
-use Rattle.reader.specs.declared.Finish.{Finish}
+use Rattle.record_places.specs.declared.Finish.{Finish}
 use Rattle.reader.specs.Went.{Went, stepGot, wentOf, Kept}
 use Rattle.reader.specs.Parts.{finished}
 use Rattle.walk.specs.declared.Notes.{Notes}

@@ -18,9 +18,10 @@ use Rattle.judge.specs.Place.{molfile}
 use Rattle.judge.specs.Place.{first, second, third, counts, atoms, bonds, properties, over, items, values}
 use Rattle.judge.specs.WalkText.{afterLines}
 use Rattle.reader.specs.declared.Reader.{Reader}
-use Rattle.reader.specs.declared.Finish.{Finish}
-use Rattle.reader.specs.declared.Place.{Place}
-use Rattle.reader.specs.Parts.{finished, finishedAt}
+use Rattle.record_places.specs.declared.Finish.{Finish}
+use Rattle.record_places.specs.declared.Place.{Place}
+use Rattle.record_places.specs.Places.{finishedAt}
+use Rattle.reader.specs.Parts.{finished}
 use Rattle.walk.specs.declared.Notes.{Notes}
 use Rattle.walk.specs.declared.Walked.{Walked}
 use Rattle.walk.specs.Outcome.{Outcome, outcomeOf, endAt, recordFrom}

@@ -12,7 +12,7 @@ use Rattle.text.specs.Text.{Bytes, Line}
 use Rattle.text.specs.Cut.{cut}
 use Rattle.rules.specs.Record.{Raw, limit}
 use Rattle.entries.specs.Listed.{places}
-use Rattle.lines.specs.Got.{Got, got, bad}
+use Rattle.line_judge.specs.Got.{Got, got, bad}
 use Rattle.lines.specs.declared.Counts.{Counts}
 use Rattle.judge.specs.Place.{FileKind, molfile, sdfile, Place, first, Turn, next, done, turnOf}
 use Rattle.judge.specs.Verdict.{Verdict, verdict}

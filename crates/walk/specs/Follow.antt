@@ -17,12 +17,12 @@ use Rattle.rules.specs.Forms.{Atom, Bond, Property}
 use Rattle.rules.specs.Record.{Headers, Molecule, Item, Raw, listed, limit}
 use Rattle.rules.specs.Meaning.{bondNumbers}
 use Rattle.pairs.specs.Taken.{pairTaken}
-use Rattle.lines.specs.Got.{Got, got, bad, then, need}
-use Rattle.lines.specs.Field.{within, noneFound}
-use Rattle.lines.specs.Agree.{within-got}
-use Rattle.lines.specs.AgreeLine.{counts-got, atom-got, bond-got}
-use Rattle.lines.specs.Judge.{firstHeaderOf, countsOf, atomOf, bondOf, propertyOf, itemOf, valueOf}
-use Rattle.lines.specs.Judge as L
+use Rattle.line_judge.specs.Got.{Got, got, bad, then, need}
+use Rattle.line_judge.specs.Field.{within, noneFound}
+use Rattle.line_judge.specs.Agree.{within-got}
+use Rattle.line_judge.specs.AgreeLine.{counts-got, atom-got, bond-got}
+use Rattle.line_judge.specs.Judge.{firstHeaderOf, countsOf, atomOf, bondOf, propertyOf, itemOf, valueOf}
+use Rattle.line_judge.specs.Judge as L
 use Rattle.lines.specs.Answer.{countsIs}
 use Rattle.lines.specs.declared.Counts.{Counts}
 use Rattle.entries.specs.Listed.{enter, seenOf}
@@ -35,11 +35,12 @@ use Rattle.judge.specs.Place.{FileKind, molfile, sdfile, toAtoms, toBonds, line
 use Rattle.judge.specs.Place as J
 use Rattle.judge.specs.Place.{first, second, third, counts, atoms, bonds, properties, over, items, values, Turn, next}
 use Rattle.judge.specs.WalkText.{afterLines}
-use Rattle.reader.specs.declared.Place.{Place}
-use Rattle.reader.specs.declared.Place.the-variants as P
+use Rattle.record_places.specs.declared.Place.{Place}
+use Rattle.record_places.specs.declared.Place.the-variants as P
 use Rattle.reader.specs.declared.Reader.{Reader}
 use Rattle.reader.specs.Went as W
-use Rattle.reader.specs.Went.{Went, moved, bondsOwed, atomsOwed, counted, headerIn, lineIn, wentOf, tableAt, enteredBy}
+use Rattle.record_places.specs.Places.{bondsOwed, atomsOwed}
+use Rattle.reader.specs.Went.{Went, moved, counted, headerIn, lineIn, wentOf, tableAt, enteredBy}
 use Rattle.walk.specs.declared.Notes.{Notes}
 use Rattle.walk.specs.Keys.{keyOf, keysOf, SmallEnds, AllSmall, small-more}
 use Rattle.walk.specs.Took.{headedAt, endedAt, atomMore, bondMore}

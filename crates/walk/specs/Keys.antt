@@ -13,7 +13,7 @@ use Rattle.rules.specs.Forms.{Bond}
 use Rattle.rules.specs.Record.{SamePair, along, against}
 use Rattle.pairs.specs.Taken.{samePair, pairTaken}
 use Rattle.pairs.specs.Agree.{true-false, same-sound, same-complete}
-use Rattle.lines.specs.Field.{elem}
+use Rattle.line_judge.specs.Field.{elem}
 
 -- the lower number first
 unfoldable pub pairKey : ℕ → ℕ → ℕ

@@ -7,7 +7,7 @@ use lib.ListN.{length}
 use Rattle.text.specs.Text.{Bytes, Line}
 use Rattle.text.specs.Cut.{cut}
 use Rattle.rules.specs.Record.{Raw, limit}
-use Rattle.lines.specs.Got.{Got, got, bad}
+use Rattle.line_judge.specs.Got.{Got, got, bad}
 use Rattle.judge.specs.Place.{FileKind, molfile, sdfile, turnOf}
 use Rattle.judge.specs.Place.{Place, first, second, third, counts, atoms, bonds, properties, over, items, values, Turn, next, done}
 use Rattle.judge.specs.Verdict.{Run, at, run, Verdict, accepted, finish, conclude, verdict}

@@ -11,7 +11,7 @@ use Rattle.text.specs.Text.{Bytes}
 use Rattle.text.specs.Find.{lineAt}
 use Rattle.text.specs.declared.LineAt.{LineAt}
 use Rattle.rules.specs.Meaning.{bondNumbers}
-use Rattle.lines.specs.Field.{elem}
+use Rattle.line_judge.specs.Field.{elem}
 use Rattle.lines.specs.Answer.{bondIs}
 use Rattle.lines.specs.declared.Bond.{Bond}
 use Rattle.tables.specs.Held.{drop-sets}

@@ -17,8 +17,8 @@ use Rattle.judge.specs.Place.{FileKind, molfile, sdfile}
 use Rattle.judge.specs.Place as J
 use Rattle.judge.specs.Place.{first, second, third, counts, atoms, bonds, properties, over, items, values}
 use Rattle.judge.specs.WalkText.{afterLines}
-use Rattle.reader.specs.declared.Place.{Place}
-use Rattle.reader.specs.declared.Place.the-variants as P
+use Rattle.record_places.specs.declared.Place.{Place}
+use Rattle.record_places.specs.declared.Place.the-variants as P
 use Rattle.reader.specs.declared.Reader.{Reader}
 use Rattle.walk.specs.declared.Notes.{Notes}
 use Rattle.walk.specs.Keys.{keysOf, AllSmall}

@@ -8,7 +8,7 @@ use lib.IntN.{ℤ}
 use Rattle.text.specs.Text.{Line}
 use Rattle.rules.specs.Forms as R
 use Rattle.rules.specs.Record.{limit}
-use Rattle.lines.specs.Got.{Got, got, bad}
+use Rattle.line_judge.specs.Got.{Got, got, bad}
 use Rattle.lines.specs.Answer.{bondIs}
 use Rattle.lines.specs.declared.Counts.{Counts}
 use Rattle.lines.specs.declared.Bond.{Bond}

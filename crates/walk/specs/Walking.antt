@@ -17,8 +17,8 @@ use Rattle.rules.specs.Forms as R
 use Rattle.rules.specs.Record.{Raw, limit}
 use Rattle.rules.specs.Meaning.{bondNumbers}
 use Rattle.pairs.specs.Taken.{pairTaken}
-use Rattle.lines.specs.Got.{Got, got, bad}
-use Rattle.lines.specs.Field.{elem}
+use Rattle.line_judge.specs.Got.{Got, got, bad}
+use Rattle.line_judge.specs.Field.{elem}
 use Rattle.lines.specs.Answer.{bondIs}
 use Rattle.lines.specs.declared.Counts.{Counts}
 use Rattle.lines.specs.declared.Bond.{Bond}

@@ -20,9 +20,9 @@ ghost use Rattle.walk.specs.Checking.{saidOf, answerBy, Promised};
 use entries::LISTED;
 use lines::Bond;
 use lines::Counts;
-use reader::Finish;
 use reader::Reader;
 use reader::Step;
+use record_places::Finish;
 use text::LineAt;
 
 // What has been noted of a record: how many rows the tables hold, and where its header lines end and its items begin.

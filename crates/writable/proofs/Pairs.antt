@@ -10,7 +10,7 @@ use lib.IntN.{ℤ, pos}
 use lib.ListN.{getD}
 use mir.Syntax.{w32}
 use mir.Val.{SFits, ofZ}
-use Rattle.lines.specs.Field.{sameInteger}
+use Rattle.line_judge.specs.Field.{sameInteger}
 use Rattle.writable.specs.Tables.{sameEnds, sameAt, against, walkFrom, firstRepeat}
 use Rattle.writable.specs.AgreeNumber.{same-refl, same-is}
 use Rattle.writable.specs.declared.Repeat.the-variants.{Pair, Nothing}

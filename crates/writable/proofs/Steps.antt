@@ -16,8 +16,8 @@ use mir.Val.{SFits, toZ, ofZ}
 use mir.ValLaws.{toZ-pos}
 use Rattle.rules.specs.Forms.{stereos}
 use Rattle.rules.specs.Record.{limit}
-use Rattle.lines.specs.Field.{sameInteger, elemSigned}
-use Rattle.lines.specs.Steps.{hop}
+use Rattle.line_judge.specs.Field.{sameInteger, elemSigned}
+use Rattle.fields.specs.Steps.{hop}
 use Rattle.writable.specs.Tables.{inRange, marks, isNothing, countsHold}
 use Rattle.writable.specs.AgreeNumber.{same-refl, same-is, left-true, right-true}
 use Rattle.writable.specs.declared.Repeat.{Repeat}

@@ -12,8 +12,8 @@ use Rattle.numbers.specs.Number.{Between, OneOf}
 use Rattle.rules.specs.Forms.{stereos}
 use Rattle.rules.specs.Canon.{FromTo, isZero}
 use Rattle.pairs.specs.Agree.{true-false}
-use Rattle.lines.specs.GotLaws.{cond-by}
-use Rattle.lines.specs.Field.{sameInteger, elemSigned}
+use Rattle.line_judge.specs.GotLaws.{cond-by}
+use Rattle.line_judge.specs.Field.{sameInteger, elemSigned}
 use Rattle.writable.specs.Tables.{inRange, minus, marks}
 
 -- ---- Two tests

@@ -13,7 +13,7 @@ use Rattle.numbers.specs.Number.{OneOf}
 use Rattle.rules.specs.Forms.{stereos, centres, ISO}
 use Rattle.rules.specs.Canon.{AtomRow, atomRow, BondRow, isZero, entriesFrom, FromTo, WritableAtom, WritableBond, Rows}
 use Rattle.pairs.specs.Agree.{true-false}
-use Rattle.lines.specs.Field.{elemSigned}
+use Rattle.line_judge.specs.Field.{elemSigned}
 use Rattle.rules.specs.Rows.{rowsOf}
 use Rattle.writable.specs.Tables.{marks, placeHolds, numbersHold, codesHold, changesHold, atomHolds, kindHolds, bondHolds, allRows, allZero, massesHold}
 use Rattle.writable.specs.AgreeNumber.{and-agrees, from-to, between, differ-agrees, zero-agrees, listed-agrees, marks-are}

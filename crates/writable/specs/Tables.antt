@@ -9,7 +9,7 @@ use lib.Signed.{leZ}
 use Rattle.rules.specs.Forms.{stereos, centres}
 use Rattle.rules.specs.Record.{limit}
 use Rattle.rules.specs.Canon.{AtomRow, atomRow, BondRow, bondRow, isZero}
-use Rattle.lines.specs.Field.{sameInteger, elemSigned}
+use Rattle.line_judge.specs.Field.{sameInteger, elemSigned}
 use Rattle.symbols.specs.Symbol.{names}
 use Rattle.rules.specs.Rows.{rowAt, rowsOf}
 use Rattle.writable.specs.declared.Repeat.{Repeat}

@@ -7,7 +7,7 @@ ghost use lib.ListN.{length, getD};
 ghost use lib.IntN.{pos};
 ghost use Rattle.rules.specs.Record.{limit};
 ghost use Rattle.rules.specs.Canon.{atomRow, bondRow, isZero};
-ghost use Rattle.lines.specs.Field.{elemSigned, sameInteger};
+ghost use Rattle.line_judge.specs.Field.{elemSigned, sameInteger};
 ghost use Rattle.rules.specs.Rows.{rowAt, rowsOf};
 ghost use Rattle.writable.specs.Tables.{inRange, marks, placeHolds, numbersHold, codesHold, changesHold, atomHolds, kindHolds, bondHolds};
 ghost use Rattle.writable.specs.Tables.{atomsHold, bondsHold, allZero, massesHold, sameAt, firstRepeat, countsHold, tablesHold, writableTables};

@@ -19,10 +19,11 @@ use Rattle.put.specs.Laid.{Laid, laid-sets, laid-join}
 use Rattle.put.specs.Lines.{WritableAtoms}
 use Rattle.put.specs.Body.{bodyLines, molecule-lines, bodyText, body-any, bodySize}
 use Rattle.put.specs.Sizes.{body-length}
-use Rattle.parts.specs.Part.{PartVerdict, good, refused, headersVerdict, itemsVerdict}
-use Rattle.parts.specs.Written.{headersText, itemLines, itemsText, mapGood, judged, textOf, writtenHeaders, writtenItems}
+use Rattle.part_judge.specs.Part.{PartVerdict, good, refused, headersVerdict, itemsVerdict}
+use Rattle.part_judge.specs.Written.{headersText, itemLines, itemsText, mapGood, textOf, writtenHeaders, writtenItems}
+use Rattle.parts.specs.Step.{judged}
 use Rattle.parts.specs.declared.PartJudged.{PartJudged}
-use Rattle.parts.specs.Put.{Room}
+use Rattle.put_parts.specs.Put.{Room}
 use Rattle.writable.specs.Tables.{writableTables}
 use Rattle.writable.specs.Agree.{writable-agrees}
 use Rattle.writable.specs.AgreeNumber.{and-agrees, up-agrees}

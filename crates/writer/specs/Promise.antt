@@ -17,9 +17,9 @@ use Rattle.rules.specs.Canon.{HeaderPart, ItemPart, Writable, Good, AllGood, ca
 use Rattle.rules.specs.CanonGood.{canon-text, canon-only}
 use Rattle.rules.specs.Handed.{header-part-good, item-part-good}
 use Rattle.put.specs.Laid.{Laid}
-use Rattle.parts.specs.Part.{PartVerdict, good, refused, headersVerdict, itemsVerdict}
-use Rattle.parts.specs.AnyPart.{PartRefusal, good-refused, good-inj}
-use Rattle.parts.specs.PartAgree.{AHeaderPart, AnItemPart, good-headers, refused-headers, good-items, refused-items}
+use Rattle.part_judge.specs.Part.{PartVerdict, good, refused, headersVerdict, itemsVerdict}
+use Rattle.part_judge.specs.AnyPart.{PartRefusal, good-refused, good-inj}
+use Rattle.part_judge.specs.PartAgree.{AHeaderPart, AnItemPart, good-headers, refused-headers, good-items, refused-items}
 use Rattle.writable.specs.Tables.{writableTables}
 use Rattle.writer.specs.Write.{Given, Roomy, handed, canonText, demand, andThen, roomy, recordFor, textFor, writeOf, roomAfter}
 use Rattle.writer.specs.Write as W

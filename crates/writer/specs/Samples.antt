@@ -17,12 +17,12 @@ use Rattle.symbols.specs.Write.{symbolText}
 use Rattle.rules.specs.Write.{joined, countsText, atomText, bondText, entryFields, propertyText, headerText, itemsLines, moleculeLines, recordLines}
 use Rattle.rules.specs.Canon.{chargeCode, atomOf, bondOf, entriesFrom, eights, propertiesOf, canon}
 use Rattle.rules.specs.Samples.{atom, bond, drumLines}
-use Rattle.lines.specs.Got.{then, need}
-use Rattle.lines.specs.Field.{within, elemSigned}
-use Rattle.lines.specs.Judge.{begins, contains, firstHeaderOf, blankb, nameOn, opened, spaced, arrowed, headerOf, itemOf, valueOf}
+use Rattle.line_judge.specs.Got.{then, need}
+use Rattle.line_judge.specs.Field.{within, elemSigned}
+use Rattle.line_judge.specs.Judge.{begins, contains, firstHeaderOf, blankb, nameOn, opened, spaced, arrowed, headerOf, itemOf, valueOf}
 use Rattle.rules.specs.Rows.{rowsOf}
-use Rattle.parts.specs.Part.{run, verdictFrom, headerLine, headerTurn, headersVerdict, itemTurn, itemsVerdict}
-use Rattle.parts.specs.Samples.{lines}
+use Rattle.part_judge.specs.Part.{run, verdictFrom, headerLine, headerTurn, headersVerdict, itemTurn, itemsVerdict}
+use Rattle.part_judge.specs.Samples.{lines}
 use Rattle.writable.specs.Tables.{inRange, marks, placeHolds, numbersHold, codesHold, changesHold, atomHolds, kindHolds, bondHolds, allRows, massesHold}
 use Rattle.writable.specs.Tables.{sameEnds, sameAt, against, walkFrom, countsHold, tablesHold, writableTables}
 use Rattle.writer.specs.Write.{Given, roomy, recordFor, textFor, writeOf, roomAfter}

@@ -6,7 +6,7 @@ ghost use lib.ListN.{length};
 ghost use Rattle.rules.specs.Record.{limit};
 ghost use Rattle.put.specs.Laid.{Laid};
 ghost use Rattle.put.specs.Body.{bodySize};
-ghost use Rattle.parts.specs.Written.{writtenHeaders, writtenItems};
+ghost use Rattle.part_judge.specs.Written.{writtenHeaders, writtenItems};
 ghost use Rattle.writer.specs.Write.{writeOf};
 ghost use Rattle.writer.specs.Measure.{sized, afterItems, afterHeaders, recordText, Ready, closeLine};
 ghost use Rattle.writer.specs.Promise.{Promise};
@@ -149,9 +149,9 @@ fn lay_record(
     requires { ⌜ Ready (record { atoms = now atoms; bonds = now bonds; n = n; m = m; chiral = chiral; headers = now headers; items = now items }) (length (now room)) ⌝ }
     ensures { λ r. ⌜ Laid (now (room .entry)) (now (room .exit)) 0 (recordText (record { atoms = now (atoms .entry); bonds = now (bonds .entry); n = n; m = m; chiral = chiral; headers = now (headers .entry); items = now (items .entry) })) r ⌝ }
 {
-    let a = parts::put_headers(headers, room, 0);
+    let a = put_parts::put_headers(headers, room, 0);
     let b = put::put_molecule(room, a, atoms, bonds, n, m, chiral);
-    let c = parts::put_items(items, room, b);
+    let c = put_parts::put_items(items, room, b);
     put_close(room, c)
 }
 

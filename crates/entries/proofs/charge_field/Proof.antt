@@ -1,8 +1,8 @@
 -- `entries::charge_field` meets its contract.
-use Rattle.lines.specs.Steps.{steps}
+use Rattle.fields.specs.Steps.{steps}
 use Rattle.entries.specs.Entering.{charge-fits, charge-cast, charge-next}
 use Rattle.entries.specs.Answer.{notedAt}
-use Rattle.lines.specs.Judge.{entryNumberAt}
+use Rattle.line_judge.specs.Judge.{entryNumberAt}
 use borrow.Author.Needs.{needs}
 use Rattle.entries.proofs.charge_field.Statement.{statement}
 use Rattle.entries.proofs.charge_field.Tie as tie

@@ -1,5 +1,5 @@
 -- `entries::entry` meets its contract.
-use Rattle.lines.specs.Steps.{steps}
+use Rattle.fields.specs.Steps.{steps}
 use Rattle.entries.specs.Entering.{place-below}
 use Rattle.entries.specs.Answer.{enteredAt}
 use borrow.Author.Needs.{needs}

@@ -1,5 +1,5 @@
 -- `entries::entry_place` meets its contract.
-use Rattle.lines.specs.Steps.{steps}
+use Rattle.fields.specs.Steps.{steps}
 use Rattle.entries.specs.Entering.{free-places, small-places}
 use Rattle.entries.specs.Answer.{placeAt}
 use borrow.Author.Needs.{needs}

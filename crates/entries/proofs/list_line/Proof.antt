@@ -1,5 +1,5 @@
 -- `entries::list_line` meets its contract.
-use Rattle.lines.specs.Steps.{field-most}
+use Rattle.fields.specs.Steps.{field-most}
 use Rattle.entries.specs.Entering.{list-laws}
 use borrow.Author.Needs.{needs}
 use Rattle.entries.proofs.list_line.Statement.{statement}

@@ -1,5 +1,5 @@
 -- `entries::plain_field` meets its contract.
-use Rattle.lines.specs.Steps.{steps}
+use Rattle.fields.specs.Steps.{steps}
 use Rattle.entries.specs.Entering.{plain-fits}
 use Rattle.entries.specs.Answer.{plainAt}
 use borrow.Author.Needs.{needs}

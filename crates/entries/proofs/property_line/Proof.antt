@@ -1,7 +1,7 @@
 -- `entries::property_line` meets its contract.
 use Rattle.text.specs.Find.{hasText}
-use Rattle.lines.specs.Judge.{propertyOf}
-use Rattle.lines.specs.Steps.{flag-true, flag-false}
+use Rattle.line_judge.specs.Judge.{propertyOf}
+use Rattle.fields.specs.Steps.{flag-true, flag-false}
 use Rattle.entries.specs.Entering.{tag-laws, line-kept}
 use borrow.Author.Needs.{needs}
 use Rattle.entries.proofs.property_line.Statement.{statement}

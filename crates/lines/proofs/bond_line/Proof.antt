@@ -1,7 +1,7 @@
 -- `lines::bond_line` meets its contract.
 use borrow.Author.Needs.{needs}
-use Rattle.lines.specs.Steps.{steps}
-use Rattle.lines.specs.Judge.{bondOf}
+use Rattle.fields.specs.Steps.{steps}
+use Rattle.line_judge.specs.Judge.{bondOf}
 use Rattle.lines.specs.Answer.{bondFrom}
 use Rattle.lines.specs.Usual.{bond-plain}
 use Rattle.lines.proofs.bond_line.Statement.{statement}

@@ -1,5 +1,5 @@
 -- `lines::bond_rest` meets its contract.
-use Rattle.lines.specs.Steps.{steps}
+use Rattle.fields.specs.Steps.{steps}
 use Rattle.lines.specs.Answer.{bondFrom}
 use borrow.Author.Needs.{needs}
 use Rattle.lines.proofs.bond_rest.Statement.{statement}

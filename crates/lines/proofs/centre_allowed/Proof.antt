@@ -2,7 +2,7 @@
 use native.Mathlib.Omega.{arith}
 use mathlib.Core.Path.{ap, _∙_}
 use lib.IntN.{ℤ, natAbs}
-use Rattle.lines.specs.Field.{elem}
+use Rattle.line_judge.specs.Field.{elem}
 use Rattle.lines.specs.Answer.{nextCentres}
 use Rattle.lines.specs.Lists.{next-fits, next-number, next-small, centre-next}
 use borrow.Author.Needs.{needs}

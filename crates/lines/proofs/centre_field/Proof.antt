@@ -1,10 +1,10 @@
 -- `lines::centre_field` meets its contract.
 use mir.Val.{SFits}
 use mir.Syntax.{w32}
-use Rattle.lines.specs.Steps.{hop}
-use Rattle.lines.specs.Lists.{signed-range}
-use Rattle.lines.specs.Steps.{steps}
-use Rattle.lines.specs.Field.{listedAt, signedListedAt}
+use Rattle.fields.specs.Steps.{hop}
+use Rattle.fields.specs.Steps.{signed-range}
+use Rattle.fields.specs.Steps.{steps}
+use Rattle.line_judge.specs.Field.{listedAt, signedListedAt}
 use borrow.Author.Needs.{needs}
 use Rattle.lines.proofs.centre_field.Statement.{statement}
 use Rattle.lines.proofs.centre_field.Tie as tie

@@ -1,7 +1,7 @@
 -- `lines::counts_line` meets its contract.
 use native.Mathlib.Omega.{arith}
-use Rattle.lines.specs.Steps.{steps, field-most}
-use Rattle.lines.specs.Judge.{countsOf}
+use Rattle.fields.specs.Steps.{steps, field-most}
+use Rattle.line_judge.specs.Judge.{countsOf}
 use Rattle.lines.specs.Answer.{afterCounts}
 use borrow.Author.Needs.{needs}
 use Rattle.lines.proofs.counts_line.Statement.{statement}

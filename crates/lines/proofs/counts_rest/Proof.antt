@@ -1,5 +1,5 @@
 -- `lines::counts_rest` meets its contract.
-use Rattle.lines.specs.Steps.{steps}
+use Rattle.fields.specs.Steps.{steps}
 use Rattle.text.specs.Find.{hasText}
 use Rattle.lines.specs.Answer.{afterCounts}
 use borrow.Author.Needs.{needs}

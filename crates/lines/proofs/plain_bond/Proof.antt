@@ -1,5 +1,5 @@
 -- `lines::plain_bond` meets its contract.
-use Rattle.lines.specs.Steps.{steps}
+use Rattle.fields.specs.Steps.{steps}
 use Rattle.lines.specs.Usual.{plainBond}
 use Rattle.lines.proofs.plain_bond.Statement.{statement}
 use Rattle.lines.proofs.plain_bond.Tie as tie

@@ -1,6 +1,6 @@
 -- `lines::stereo_field` meets its contract.
-use Rattle.lines.specs.Steps.{steps}
-use Rattle.lines.specs.Field.{listedAt, signedListedAt}
+use Rattle.fields.specs.Steps.{steps}
+use Rattle.line_judge.specs.Field.{listedAt, signedListedAt}
 use borrow.Author.Needs.{needs}
 use Rattle.lines.proofs.stereo_field.Statement.{statement}
 use Rattle.lines.proofs.stereo_field.Tie as tie

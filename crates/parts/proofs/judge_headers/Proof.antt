@@ -1,5 +1,5 @@
 -- `parts::judge_headers` meets its contract.
-use Rattle.parts.proofs.Beside.{headers-judged}
+use Rattle.parts.specs.Beside.{headers-judged}
 use borrow.Author.Needs.{needs}
 use Rattle.parts.proofs.judge_headers.Statement.{statement}
 use Rattle.parts.proofs.judge_headers.Tie as tie

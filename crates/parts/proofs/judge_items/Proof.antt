@@ -1,5 +1,5 @@
 -- `parts::judge_items` meets its contract.
-use Rattle.parts.proofs.Beside.{items-judged}
+use Rattle.parts.specs.Beside.{items-judged}
 use borrow.Author.Needs.{needs}
 use Rattle.parts.proofs.judge_items.Statement.{statement}
 use Rattle.parts.proofs.judge_items.Tie as tie

@@ -1,0 +1,10 @@
+pub mod Got
+pub mod Field
+pub mod Judge
+pub mod GotLaws
+pub mod AgreeField
+pub mod AgreeLine
+pub mod AgreeProperty
+pub mod AgreeText
+pub mod AgreeItem
+pub mod Agree

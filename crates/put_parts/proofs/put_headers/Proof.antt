@@ -1,0 +1,17 @@
+-- `put_parts::put_headers` meets its contract.
+use Rattle.put_parts.proofs.Putting.{part-laws}
+use borrow.Author.Needs.{needs}
+use Rattle.put_parts.proofs.put_headers.Statement.{statement}
+use Rattle.put_parts.proofs.put_headers.Tie as tie
+
+put-part-requires : tie.Need-put-part-requires
+put-part-requires c κs = search (needs, part-laws)
+
+same-length : tie.Need-same-length
+same-length c = search needs
+
+returns : tie.Need-returns
+returns c = search (needs, part-laws)
+
+pub put-headers-spec : {M : Type 1} → statement M
+put-headers-spec = tie.close (tie.spec put-part-requires same-length returns)
