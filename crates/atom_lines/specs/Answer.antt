@@ -4,12 +4,18 @@ use Rattle.text.specs.Text.{Line}
 use Rattle.rules.specs.Forms as R
 use Rattle.line_judge.specs.Got.{Got, got, bad, then}
 use Rattle.line_judge.specs.Field.{numberAt, signedAt, coordinateAt, symbolAt, spaceAt, spacesFrom}
+use Rattle.position.specs.declared.Position.{Position}
+use Rattle.atom_lines.specs.declared.PositionRead.{PositionRead}
 use Rattle.atom_lines.specs.declared.AtomPlace.{AtomPlace}
 use Rattle.atom_lines.specs.declared.PlaceRead.{PlaceRead}
 use Rattle.atom_lines.specs.declared.AtomCodes.{AtomCodes}
 use Rattle.atom_lines.specs.declared.CodesRead.{CodesRead}
 use Rattle.atom_lines.specs.declared.Atom.{Atom}
 use Rattle.atom_lines.specs.declared.AtomRead.{AtomRead}
+
+abbrev pub positionGot : PositionRead → Got Position
+positionGot (PositionRead.Is p) = got p
+positionGot (PositionRead.Bad e column) = bad e column
 
 abbrev pub placeGot : PlaceRead → Got AtomPlace
 placeGot (PlaceRead.Is p) = got p
@@ -19,15 +25,21 @@ abbrev pub codesGot : CodesRead → Got AtomCodes
 codesGot (CodesRead.Is c) = got c
 codesGot (CodesRead.Bad e column) = bad e column
 
--- columns 1 to 34
-unfoldable pub placeOf : Line → Got AtomPlace
-placeOf l =
+-- columns 1 to 30
+unfoldable pub positionOf : Line → Got Position
+positionOf l =
     then (coordinateAt l 1 10) λ x.
     then (coordinateAt l 11 20) λ y.
     then (coordinateAt l 21 30) λ z.
+    got (record { x = x; y = y; z = z })
+
+-- columns 1 to 34
+unfoldable pub placeOf : Line → Got AtomPlace
+placeOf l =
+    then (positionOf l) λ p.
     spaceAt l 31
     (then (symbolAt l 32 34) λ symbol.
-    got (record { x = x; y = y; z = z; symbol = symbol }))
+    got (record { x = p .x; y = p .y; z = p .z; symbol = symbol }))
 
 -- columns 35 to 48
 unfoldable pub codesOf : Line → Got AtomCodes

@@ -3,11 +3,18 @@ ghost use mathlib.Core.Path.{_≡_};
 ghost use mathlib.Core.Bool.{true};
 ghost use Rattle.line_judge.specs.Judge.{atomOf};
 ghost use Rattle.fields.specs.Answer.{fieldGot};
-ghost use Rattle.atom_lines.specs.Answer.{placeGot, codesGot, atomGot, placeOf, codesOf, exactOf, atomFrom};
+ghost use Rattle.atom_lines.specs.Answer.{positionGot, positionOf, placeGot, codesGot, atomGot, placeOf, codesOf, exactOf, atomFrom};
 ghost use Rattle.atom_lines.specs.Usual.{AtomZeros, plainAtom};
 use fields::Field;
 use fields::SignedField;
+use position::Position;
+use position::Usual;
 use text::Found;
+
+pub enum PositionRead {
+    Is(Position),
+    Bad { no: u8, column: usize },
+}
 
 // Where an atom stands and what it is: columns 1 to 34.
 pub struct AtomPlace {
@@ -51,25 +58,45 @@ pub enum AtomRead {
     Bad { no: u8, column: usize },
 }
 
-// Columns 1 to 34 of an atom line.
-fn atom_place(line: &[u8]) -> PlaceRead
-    ensures { λ r. ⌜ placeGot r ≡ placeOf (now (line .entry)) ⌝ }
+// The three coordinates, one after the other.
+fn any_position(line: &[u8]) -> PositionRead
+    ensures { λ r. ⌜ positionGot r ≡ positionOf (now (line .entry)) ⌝ }
 {
     let x = match fields::coordinate_field(line, 1) {
         SignedField::Is(v) => v,
         SignedField::Bad { no, column } => {
-            return PlaceRead::Bad { no, column };
+            return PositionRead::Bad { no, column };
         }
     };
     let y = match fields::coordinate_field(line, 11) {
         SignedField::Is(v) => v,
         SignedField::Bad { no, column } => {
-            return PlaceRead::Bad { no, column };
+            return PositionRead::Bad { no, column };
         }
     };
-    let z = match fields::coordinate_field(line, 21) {
-        SignedField::Is(v) => v,
-        SignedField::Bad { no, column } => {
+    match fields::coordinate_field(line, 21) {
+        SignedField::Is(z) => PositionRead::Is(Position { x, y, z }),
+        SignedField::Bad { no, column } => PositionRead::Bad { no, column },
+    }
+}
+
+// Columns 1 to 30 of an atom line: most have the usual form.
+fn atom_position(line: &[u8]) -> PositionRead
+    ensures { λ r. ⌜ positionGot r ≡ positionOf (now (line .entry)) ⌝ }
+{
+    match position::usual_position(line) {
+        Usual::At(p) => PositionRead::Is(p),
+        Usual::Other => any_position(line),
+    }
+}
+
+// Columns 1 to 34 of an atom line.
+fn atom_place(line: &[u8]) -> PlaceRead
+    ensures { λ r. ⌜ placeGot r ≡ placeOf (now (line .entry)) ⌝ }
+{
+    let p = match atom_position(line) {
+        PositionRead::Is(found) => found,
+        PositionRead::Bad { no, column } => {
             return PlaceRead::Bad { no, column };
         }
     };
@@ -77,7 +104,12 @@ fn atom_place(line: &[u8]) -> PlaceRead
         return PlaceRead::Bad { no: 15, column: 31 };
     }
     match fields::symbol_field(line, 32) {
-        Field::Is(symbol) => PlaceRead::Is(AtomPlace { x, y, z, symbol }),
+        Field::Is(symbol) => PlaceRead::Is(AtomPlace {
+            x: p.x,
+            y: p.y,
+            z: p.z,
+            symbol,
+        }),
         Field::Bad { no, column } => PlaceRead::Bad { no, column },
     }
 }
