@@ -1,5 +1,5 @@
 -- Laws on the bytes that a coordinate is written as: its parts laid one after the other, and its sign.
-use Prim.Native.Nat.{ℕ, suc, _+_, _-_, _/_}
+use Prim.Native.Nat.{ℕ, suc, _+_, _-_, _/_, _%_, _≤_}
 use native.Mathlib.Nat.{add-zero, add-suc, suc-add}
 use native.Mathlib.Numerals.{add-one}
 use native.Mathlib.Omega.{arith}
@@ -16,10 +16,10 @@ use mir.Syntax.{w32}
 use mir.Val.{SFits, toZ, ofZ}
 use mir.Facts.{toZ-ofZ, toZ-pos}
 use Rattle.text.specs.Text.{Bytes}
-use Rattle.numbers.specs.Write.{sizedText}
+use Rattle.numbers.specs.Write.{textBy, sizedText}
 use Rattle.numbers.specs.Written.{text-length}
 use Rattle.numbers.proofs.Signs.{less-fits, less-sign, less-cast, less-plus, same-sign, same-cast}
-use Rattle.coordinates.specs.Write.{lastDigit, afterPoint, pointText, coordinateText}
+use Rattle.coordinates.specs.Write.{lastDigit, signColumn, afterPoint, pointText, coordinateText}
 
 -- stores of one byte each, from the left
 pub after-stored : (l : Bytes) (at k : ℕ) →
@@ -31,6 +31,27 @@ after-stored l at k =
     let r : at + 3 ≡ suc (suc (suc at)) = omega arith in
     let s : at + 4 ≡ suc (suc (suc (suc at))) = omega arith in
     rw (p, q, r, s)
+
+-- the column before the digits, and one digit
+pub sign-is : (minus : Bool) → minus ≡ true → 45 ≡ signColumn minus
+sign-is minus h = rw h
+
+pub sign-not : (minus : Bool) → minus ≡ false → 32 ≡ signColumn minus
+sign-not minus h = rw h
+
+digit-text : (minus : Bool) (k : ℕ) → k ≤ 9 → sizedText 5 minus k ≡ 32 ∷ 32 ∷ 32 ∷ signColumn minus ∷ (48 + k) ∷ []
+unfolding textBy
+digit-text true k h = let e : k % 10 ≡ k = omega arith in rw (le-ltb 9 k h, e)
+digit-text false k h = let e : k % 10 ≡ k = omega arith in rw (le-ltb 9 k h, e)
+
+pub digit-stored : (l : Bytes) (at k s : ℕ) (minus : Bool) → s ≡ signColumn minus → k ≤ 9 →
+    set (set (set (set (set l at 32) (at + 1) 32) (at + 2) 32) (at + 3) s) (at + 4) (48 + k) ≡ sets l at (sizedText 5 minus k)
+digit-stored l at k s minus e h =
+    let p : at + 1 ≡ suc at = omega arith in
+    let q : at + 2 ≡ suc (suc at) = omega arith in
+    let r : at + 3 ≡ suc (suc (suc at)) = omega arith in
+    let t : at + 4 ≡ suc (suc (suc (suc at))) = omega arith in
+    rw (digit-text minus k h, e, p, q, r, t)
 
 sets-append : (xs ys l : Bytes) (i : ℕ) → sets l i (xs ++ ys) ≡ sets (sets l i xs) (i + length xs) ys
 sets-append [] ys l i = rw (add-zero i)

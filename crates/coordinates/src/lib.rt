@@ -7,7 +7,8 @@ ghost use lib.Seq.{sets};
 ghost use Rattle.text.specs.Columns.{columns, columnsFor};
 ghost use Rattle.coordinates.specs.Read.{pointRead, inked, coordinateIn};
 ghost use Rattle.coordinates.specs.declared.CoordinateRead.{CoordinateRead};
-ghost use Rattle.coordinates.specs.Write.{afterPoint, pointText, coordinateText};
+ghost use Rattle.numbers.specs.Write.{sizedText};
+ghost use Rattle.coordinates.specs.Write.{signColumn, afterPoint, pointText, coordinateText};
 
 // What ten columns stand for.
 pub enum CoordinateRead {
@@ -84,12 +85,44 @@ fn put_after(out: &mut [u8], at: usize, k: u32)
     out[at + 4] = 48 + (k % 10) as u8;
 }
 
+fn sign_column(minus: bool) -> u8
+    ensures { λ r. ⌜ r ≡ signColumn minus ⌝ }
+{
+    if minus { 45 } else { 32 }
+}
+
+// One digit in five columns, with a `-` or without.
+fn put_digit(out: &mut [u8], at: usize, minus: bool, k: u32)
+    requires { ⌜ (at + 5 ≤ length (now out)) × (k ≤ 9) ⌝ }
+    ensures { λ _. ⌜ now (out .exit) ≡ sets (now (out .entry)) at (sizedText 5 minus k) ⌝ }
+{
+    let sign = sign_column(minus);
+    let digit = 48 + k as u8;
+    out[at] = 32;
+    out[at + 1] = 32;
+    out[at + 2] = 32;
+    out[at + 3] = sign;
+    out[at + 4] = digit;
+}
+
+// The digits before the point: most often one.
+fn put_before(out: &mut [u8], at: usize, minus: bool, k: u32)
+    requires { ⌜ at + 5 ≤ length (now out) ⌝ }
+    ensures { λ _. ⌜ now (out .exit) ≡ sets (now (out .entry)) at (sizedText 5 minus k) ⌝ }
+{
+    if k <= 9 {
+        put_digit(out, at, minus, k);
+        return;
+    }
+    numbers::put_sized(out, at, 5, minus, k);
+}
+
 // k ten-thousandths in ten columns from position `at` on, with a `-` or without.
 fn put_point(out: &mut [u8], at: usize, minus: bool, k: u32)
     requires { ⌜ at + 10 ≤ length (now out) ⌝ }
     ensures { λ _. ⌜ now (out .exit) ≡ sets (now (out .entry)) at (pointText minus k) ⌝ }
 {
-    numbers::put_sized(out, at, 5, minus, k / 10000);
+    put_before(out, at, minus, k / 10000);
     put_after(out, at + 5, k);
 }
 
