@@ -1,5 +1,5 @@
 -- Laws on the bytes that a coordinate is written as: its parts laid one after the other, and its sign.
-use Prim.Native.Nat.{ℕ, suc, _+_, _-_, _/_, _%_, _≤_}
+use Prim.Native.Nat.{ℕ, suc, _+_, _-_, _*_, _/_, _%_, _≤_}
 use native.Mathlib.Nat.{add-zero, add-suc, suc-add}
 use native.Mathlib.Numerals.{add-one}
 use native.Mathlib.Omega.{arith}
@@ -21,16 +21,30 @@ use Rattle.numbers.specs.Written.{text-length}
 use Rattle.numbers.proofs.Signs.{less-fits, less-sign, less-cast, less-plus, same-sign, same-cast}
 use Rattle.coordinates.specs.Write.{lastDigit, signColumn, afterPoint, pointText, coordinateText}
 
+-- two digits as one number, the first below the second
+abbrev pair : ℕ → ℕ
+pair k = 12336 + 256 * k - 2559 * (k / 10)
+
+pair-low : (k : ℕ) → k ≤ 99 → pair k % 256 ≡ 48 + k / 10
+pair-low k h = omega arith
+
+pair-high : (k : ℕ) → k ≤ 99 → pair k / 256 ≡ 48 + k % 10
+pair-high k h = omega arith
+
 -- stores of one byte each, from the left
 pub after-stored : (l : Bytes) (at k : ℕ) →
-    set (set (set (set (set l at 46) (at + 1) (lastDigit (k / 1000))) (at + 2) (lastDigit (k / 100))) (at + 3) (lastDigit (k / 10))) (at + 4) (lastDigit k) ≡
+    set (set (set (set (set l at 46) (at + 1) (pair (k % 10000 / 100) % 256)) (at + 2) (pair (k % 10000 / 100) / 256)) (at + 3) (pair (k % 10000 % 100) % 256)) (at + 4) (pair (k % 10000 % 100) / 256) ≡
     sets l at (afterPoint k)
 after-stored l at k =
     let p : at + 1 ≡ suc at = omega arith in
     let q : at + 2 ≡ suc (suc at) = omega arith in
     let r : at + 3 ≡ suc (suc (suc at)) = omega arith in
     let s : at + 4 ≡ suc (suc (suc (suc at))) = omega arith in
-    rw (p, q, r, s)
+    let a : pair (k % 10000 / 100) % 256 ≡ lastDigit (k / 1000) = pair-low (k % 10000 / 100) (omega arith) ∙ omega arith in
+    let b : pair (k % 10000 / 100) / 256 ≡ lastDigit (k / 100) = pair-high (k % 10000 / 100) (omega arith) ∙ omega arith in
+    let c : pair (k % 10000 % 100) % 256 ≡ lastDigit (k / 10) = pair-low (k % 10000 % 100) (omega arith) ∙ omega arith in
+    let d : pair (k % 10000 % 100) / 256 ≡ lastDigit k = pair-high (k % 10000 % 100) (omega arith) ∙ omega arith in
+    rw (a, b, c, d, p, q, r, s)
 
 -- the column before the digits, and one digit
 pub sign-is : (minus : Bool) → minus ≡ true → 45 ≡ signColumn minus

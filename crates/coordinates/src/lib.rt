@@ -73,16 +73,21 @@ pub fn coordinate(line: &[u8], i: usize) -> CoordinateRead
     whole_field(line, i)
 }
 
-// The point and the last four digits of k.
+// The point and the last four digits of k. Two digits are made one number, the first below the second, so that they are stored at once.
 fn put_after(out: &mut [u8], at: usize, k: u32)
     requires { ⌜ at + 5 ≤ length (now out) ⌝ }
     ensures { λ _. ⌜ now (out .exit) ≡ sets (now (out .entry)) at (afterPoint k) ⌝ }
 {
+    let part = k % 10000;
+    let high = part / 100;
+    let low = part % 100;
+    let first = 12336 + 256 * high - 2559 * (high / 10);
+    let last = 12336 + 256 * low - 2559 * (low / 10);
     out[at] = 46;
-    out[at + 1] = 48 + (k / 1000 % 10) as u8;
-    out[at + 2] = 48 + (k / 100 % 10) as u8;
-    out[at + 3] = 48 + (k / 10 % 10) as u8;
-    out[at + 4] = 48 + (k % 10) as u8;
+    out[at + 1] = (first % 256) as u8;
+    out[at + 2] = (first / 256) as u8;
+    out[at + 3] = (last % 256) as u8;
+    out[at + 4] = (last / 256) as u8;
 }
 
 fn sign_column(minus: bool) -> u8
