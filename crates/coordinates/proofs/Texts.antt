@@ -1,5 +1,5 @@
 -- Laws on the bytes that a coordinate is written as: its parts laid one after the other, and its sign.
-use Prim.Native.Nat.{ℕ, suc, _+_, _-_, _/_}
+use Prim.Native.Nat.{ℕ, suc, _+_, _-_, _*_, _/_, _%_, _≤_}
 use native.Mathlib.Nat.{add-zero, add-suc, suc-add}
 use native.Mathlib.Numerals.{add-one}
 use native.Mathlib.Omega.{arith}
@@ -16,21 +16,56 @@ use mir.Syntax.{w32}
 use mir.Val.{SFits, toZ, ofZ}
 use mir.Facts.{toZ-ofZ, toZ-pos}
 use Rattle.text.specs.Text.{Bytes}
-use Rattle.numbers.specs.Write.{sizedText}
+use Rattle.numbers.specs.Write.{textBy, sizedText}
 use Rattle.numbers.specs.Written.{text-length}
 use Rattle.numbers.proofs.Signs.{less-fits, less-sign, less-cast, less-plus, same-sign, same-cast}
-use Rattle.coordinates.specs.Write.{lastDigit, afterPoint, pointText, coordinateText}
+use Rattle.coordinates.specs.Write.{lastDigit, signColumn, afterPoint, pointText, coordinateText}
+
+-- two digits as one number, the first below the second
+abbrev pair : ℕ → ℕ
+pair k = 12336 + 256 * k - 2559 * (k / 10)
+
+pair-low : (k : ℕ) → k ≤ 99 → pair k % 256 ≡ 48 + k / 10
+pair-low k h = omega arith
+
+pair-high : (k : ℕ) → k ≤ 99 → pair k / 256 ≡ 48 + k % 10
+pair-high k h = omega arith
 
 -- stores of one byte each, from the left
 pub after-stored : (l : Bytes) (at k : ℕ) →
-    set (set (set (set (set l at 46) (at + 1) (lastDigit (k / 1000))) (at + 2) (lastDigit (k / 100))) (at + 3) (lastDigit (k / 10))) (at + 4) (lastDigit k) ≡
+    set (set (set (set (set l at 46) (at + 1) (pair (k % 10000 / 100) % 256)) (at + 2) (pair (k % 10000 / 100) / 256)) (at + 3) (pair (k % 10000 % 100) % 256)) (at + 4) (pair (k % 10000 % 100) / 256) ≡
     sets l at (afterPoint k)
 after-stored l at k =
     let p : at + 1 ≡ suc at = omega arith in
     let q : at + 2 ≡ suc (suc at) = omega arith in
     let r : at + 3 ≡ suc (suc (suc at)) = omega arith in
     let s : at + 4 ≡ suc (suc (suc (suc at))) = omega arith in
-    rw (p, q, r, s)
+    let a : pair (k % 10000 / 100) % 256 ≡ lastDigit (k / 1000) = pair-low (k % 10000 / 100) (omega arith) ∙ omega arith in
+    let b : pair (k % 10000 / 100) / 256 ≡ lastDigit (k / 100) = pair-high (k % 10000 / 100) (omega arith) ∙ omega arith in
+    let c : pair (k % 10000 % 100) % 256 ≡ lastDigit (k / 10) = pair-low (k % 10000 % 100) (omega arith) ∙ omega arith in
+    let d : pair (k % 10000 % 100) / 256 ≡ lastDigit k = pair-high (k % 10000 % 100) (omega arith) ∙ omega arith in
+    rw (a, b, c, d, p, q, r, s)
+
+-- the column before the digits, and one digit
+pub sign-is : (minus : Bool) → minus ≡ true → 45 ≡ signColumn minus
+sign-is minus h = rw h
+
+pub sign-not : (minus : Bool) → minus ≡ false → 32 ≡ signColumn minus
+sign-not minus h = rw h
+
+digit-text : (minus : Bool) (k : ℕ) → k ≤ 9 → sizedText 5 minus k ≡ 32 ∷ 32 ∷ 32 ∷ signColumn minus ∷ (48 + k) ∷ []
+unfolding textBy
+digit-text true k h = let e : k % 10 ≡ k = omega arith in rw (le-ltb 9 k h, e)
+digit-text false k h = let e : k % 10 ≡ k = omega arith in rw (le-ltb 9 k h, e)
+
+pub digit-stored : (l : Bytes) (at k s : ℕ) (minus : Bool) → s ≡ signColumn minus → k ≤ 9 →
+    set (set (set (set (set l at 32) (at + 1) 32) (at + 2) 32) (at + 3) s) (at + 4) (48 + k) ≡ sets l at (sizedText 5 minus k)
+digit-stored l at k s minus e h =
+    let p : at + 1 ≡ suc at = omega arith in
+    let q : at + 2 ≡ suc (suc at) = omega arith in
+    let r : at + 3 ≡ suc (suc (suc at)) = omega arith in
+    let t : at + 4 ≡ suc (suc (suc (suc at))) = omega arith in
+    rw (digit-text minus k h, e, p, q, r, t)
 
 sets-append : (xs ys l : Bytes) (i : ℕ) → sets l i (xs ++ ys) ≡ sets (sets l i xs) (i + length xs) ys
 sets-append [] ys l i = rw (add-zero i)

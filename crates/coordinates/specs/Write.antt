@@ -9,6 +9,11 @@ use Rattle.numbers.specs.Write.{sizedText}
 abbrev pub lastDigit : ℕ → ℕ
 lastDigit k = byte "0" + k % 10
 
+-- the column before the digits
+abbrev pub signColumn : Bool → ℕ
+signColumn true = byte "-"
+signColumn false = byte " "
+
 -- the point and the last four digits of k
 abbrev pub afterPoint : ℕ → Bytes
 afterPoint k = bytes "." ++ (lastDigit (k / 1000) ∷ lastDigit (k / 100) ∷ lastDigit (k / 10) ∷ lastDigit k ∷ [])

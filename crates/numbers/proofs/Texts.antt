@@ -1,16 +1,16 @@
 -- Laws on the walk that writes a number from its last column to its first.
-use Prim.Native.Nat.{ℕ, suc, _+_, _-_, _/_, _%_, _≤_, _<_}
+use Prim.Native.Nat.{ℕ, zero, suc, _+_, _-_, _*_, _/_, _%_, _≤_, _<_}
 use native.Mathlib.Nat.{add-zero}
 use native.Mathlib.Omega.{arith}
 use mathlib.Core.Path.{_≡_, refl, sym, ap, _∙_}
 use mathlib.Core.Bool.{Bool, true, false}
 use mathlib.Core.List.{[], _∷_, _++_}
 use lib.Dec.{ltb}
-use borrow.Author.Tests.{le-ltb}
+use borrow.Author.Tests.{le-ltb, lt-ltb, ltb-true, ltb-false}
 use lib.ListN.{length, set, length-set}
 use lib.Seq.{sets, set-comm}
 use Rattle.text.specs.Text.{Bytes}
-use Rattle.numbers.specs.Write.{textBy, sizedText}
+use Rattle.numbers.specs.Write.{textBy, sizedText, firstDigit}
 use Rattle.numbers.specs.Written.{text-length}
 
 -- a run of stores, the last one first
@@ -79,6 +79,41 @@ digit-written out at k h =
     let a : at + 1 ≡ suc at = omega arith in
     let b : at + 2 ≡ suc (suc at) = omega arith in
     rw (digit-text k h, a, b)
+
+-- two digits or three
+pub first-none : (k : ℕ) → k < 1 → 32 ≡ firstDigit k
+first-none zero h = refl
+first-none (suc k) h = absurd (omega arith)
+
+pub first-some : (k : ℕ) → 1 ≤ k → 48 + k ≡ firstDigit k
+first-some zero h = absurd (omega arith)
+first-some (suc k) h = refl
+
+digits-text : (k : ℕ) → 9 < k → k ≤ 999 → sizedText 3 false k ≡ firstDigit (k / 100) ∷ (48 + (k / 10 - 10 * (k / 100))) ∷ (48 + (k - 10 * (k / 10))) ∷ []
+unfolding textBy
+digits-text k l h = by (ltb 9 (k / 10)) refl
+  where
+    e : k % 10 ≡ k - 10 * (k / 10)
+    e = omega arith
+
+    f : k / 10 % 10 ≡ k / 10 - 10 * (k / 100)
+    f = omega arith
+
+    by : (t : Bool) → ltb 9 (k / 10) ≡ t → sizedText 3 false k ≡ firstDigit (k / 100) ∷ (48 + (k / 10 - 10 * (k / 100))) ∷ (48 + (k - 10 * (k / 10))) ∷ []
+    by true q =
+        let n : 9 < k / 10 = ltb-true 9 (k / 10) q in
+        let g : k / 10 / 10 % 10 ≡ k / 100 = omega arith in
+        rw (lt-ltb 9 k l, q, e, f, g, ← first-some (k / 100) (omega arith))
+    by false q =
+        let n : k / 10 ≤ 9 = ltb-false 9 (k / 10) q in
+        rw (lt-ltb 9 k l, q, e, f, ← first-none (k / 100) (omega arith))
+
+pub digits-written : (out : Bytes) (at k first : ℕ) → first ≡ firstDigit (k / 100) → 9 < k → k ≤ 999
+    → set (set (set out at first) (at + 1) (48 + (k / 10 - 10 * (k / 100)))) (at + 2) (48 + (k - 10 * (k / 10))) ≡ sets out at (sizedText 3 false k)
+digits-written out at k first e l h =
+    let a : at + 1 ≡ suc at = omega arith in
+    let b : at + 2 ≡ suc (suc at) = omega arith in
+    rw (digits-text k l h, e, a, b)
 
 pub three-columns : (out out₀ : Bytes) (at width k : ℕ) → width ≡ 3 → out ≡ sets out₀ at (sizedText 3 false k) → out ≡ sets out₀ at (sizedText width false k)
 three-columns out out₀ at width k w e = rw w e

@@ -24,6 +24,11 @@ abbrev pub signedText : ℕ → ℤ → Bytes
 signedText width (pos k) = sizedText width false k
 signedText width (negsuc k) = sizedText width true (suc k)
 
+-- the column of a digit that is not written where it is zero
+abbrev pub firstDigit : ℕ → ℕ
+firstDigit zero = byte " "
+firstDigit (suc k) = byte "0" + suc k
+
 -- so many columns are enough for z: its `-` takes one
 abbrev pub Fitting : ℕ → ℤ → Type 0
 Fitting width (pos k) = k < 10 ^ width

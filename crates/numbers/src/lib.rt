@@ -9,7 +9,7 @@ ghost use lib.Seq.{sets};
 ghost use Rattle.text.specs.Columns.{column, columns, columnsFor};
 ghost use Rattle.numbers.specs.Read.{afterSpaces, is, signed, ranged, numberIn, signedRanged, signedIn};
 ghost use Rattle.numbers.specs.Parts.{sizeIn, withSign, sizedIn, LoneDigit};
-ghost use Rattle.numbers.specs.Write.{sizedText, numberText, signedText};
+ghost use Rattle.numbers.specs.Write.{sizedText, numberText, signedText, firstDigit};
 
 // A number of a range without negatives, as columns hold it.
 pub enum NumberRead {
@@ -304,7 +304,33 @@ fn put_digit(out: &mut [u8], at: usize, k: u32)
     out[at + 2] = digit;
 }
 
-// A number without negatives, right-aligned in `width` columns from position `at` on: most often a digit in three.
+// A first digit: a space for zero.
+fn first_digit(k: u32) -> u8
+    requires { ⌜ k ≤ 9 ⌝ }
+    ensures { λ r. ⌜ r ≡ firstDigit k ⌝ }
+{
+    if k < 1 {
+        return 32;
+    }
+    48 + k as u8
+}
+
+// Two digits or three in three columns.
+fn put_digits(out: &mut [u8], at: usize, k: u32)
+    requires { ⌜ (at + 3 ≤ length (now out)) × ((9 < k) × (k ≤ 999)) ⌝ }
+    ensures { λ _. ⌜ now (out .exit) ≡ sets (now (out .entry)) at (numberText 3 k) ⌝ }
+{
+    let hundreds = k / 100;
+    let tens = k / 10;
+    let first = first_digit(hundreds);
+    let second = 48 + (tens - 10 * hundreds) as u8;
+    let third = 48 + (k - 10 * tens) as u8;
+    out[at] = first;
+    out[at + 1] = second;
+    out[at + 2] = third;
+}
+
+// A number without negatives, right-aligned in `width` columns from position `at` on: most often a short one in three.
 pub fn put_number(out: &mut [u8], at: usize, width: usize, k: u32)
     requires { ⌜ at + width ≤ length (now out) ⌝ }
     ensures { λ _. ⌜ now (out .exit) ≡ sets (now (out .entry)) at (numberText width k) ⌝ }
@@ -312,6 +338,10 @@ pub fn put_number(out: &mut [u8], at: usize, width: usize, k: u32)
     if width == 3 {
         if k <= 9 {
             put_digit(out, at, k);
+            return;
+        }
+        if k <= 999 {
+            put_digits(out, at, k);
             return;
         }
     }

@@ -5,6 +5,7 @@ pub mod Properties
 pub mod Body
 -- Laws for the proofs
 pub mod Signs
+pub mod Zeros
 pub mod Parts
 pub mod Walks
 pub mod Listing

@@ -4,6 +4,7 @@ use native.Mathlib.Numerals.{add-one}
 use native.Mathlib.Omega.{arith}
 use mathlib.Core.Path.{_≡_, refl, sym, ap, _∙_, subst}
 use mathlib.Core.List.{List, [], _∷_, _++_, append-assoc}
+use mathlib.Core.Bool.{Bool, true}
 use lib.ListN.{length, getD, take, set, length-append, length-set}
 use lib.Seq.{sets, take-suc, take-all}
 use lib.IntN.{ℤ, pos, natAbs}
@@ -20,8 +21,9 @@ use Rattle.symbols.specs.Write.{symbolText, symbol-length}
 use Rattle.rules.specs.Write.{joined, countsText, atomText, bondText}
 use Rattle.rules.specs.Canon.{atomOf, bondOf, chargeCode}
 use Rattle.put.specs.Laid.{Laid, Field, laid-none, laid-join, field-put, field-join, Owes, owes-start, owes-next, owes-end}
-use Rattle.put.specs.Lines.{atomLine, bondLine, columnsFrom, codeText, positionText, elementText}
+use Rattle.put.specs.Lines.{atomLine, bondLine, columnsFrom, codeText, positionText, valuesText, stereoText, areZeros, isPlain}
 use Rattle.put.specs.Signs.{hop}
+use Rattle.put.specs.Zeros.{values-plain, stereo-plain}
 
 -- ---- While bytes are copied
 
@@ -180,32 +182,40 @@ pub position-parts : (t : List ℤ) {r₀ r₁ r₂ r₃ r₄ : Bytes} {at a b c
 unfolding positionText
 position-parts t p q s l = field-join p (field-join q (field-join s l))
 
-pub element-parts : (t : List ℤ) {r₀ r₁ r₂ r₃ : Bytes} {at a b c : ℕ} →
-    Field r₀ r₁ at 3 (symbolText (natAbs (getD t 3 (pos 0)))) a → Field r₁ r₂ a 2 (signedText 2 (getD t 4 (pos 0))) b → Field r₂ r₃ b 3 (codeText t) c →
-    Field r₀ r₃ at 8 (elementText t) c
-unfolding elementText
-element-parts t p q s = field-join p (field-join q s)
-
-atom-is : (t : List ℤ) →
-    positionText t ++ (elementText t ++ (columnsFrom t 8 5 ++ (bytes "  0  0" ++ (columnsFrom t 13 3 ++ (LF ∷ []))))) ≡ text (atomLine t ∷ [])
-unfolding text atomText atomOf joined positionText elementText columnsFrom
+atom-is : (t : List ℤ) → positionText t ++ (symbolText (natAbs (getD t 3 (pos 0))) ++ valuesText t) ≡ text (atomLine t ∷ [])
+unfolding text atomText atomOf joined positionText valuesText columnsFrom
 atom-is t = simp append-assoc
 
-pub atom-parts : (t : List ℤ) {r₀ r₁ r₂ r₃ r₄ r₅ r₆ : Bytes} {at a b c d e f : ℕ} →
-    Field r₀ r₁ at 31 (positionText t) a → Field r₁ r₂ a 8 (elementText t) b → Field r₂ r₃ b 15 (columnsFrom t 8 5) c → Field r₃ r₄ c 6 (bytes "  0  0") d →
-    Field r₄ r₅ d 9 (columnsFrom t 13 3) e → Field r₅ r₆ e 1 (LF ∷ []) f → Field r₀ r₆ at 70 (text (atomLine t ∷ [])) f
-atom-parts t {r₀} {r₆ = r₆} {at} {f = f} p q s u v w =
-    subst (λ (x : Bytes). Field r₀ r₆ at 70 x f) (atom-is t) (field-join p (field-join q (field-join s (field-join u (field-join v w)))))
+pub values-parts : (t : List ℤ) {r₀ r₁ r₂ r₃ r₄ r₅ r₆ : Bytes} {at a b c d e f : ℕ} →
+    Field r₀ r₁ at 2 (signedText 2 (getD t 4 (pos 0))) a → Field r₁ r₂ a 3 (codeText t) b → Field r₂ r₃ b 15 (columnsFrom t 8 5) c → Field r₃ r₄ c 6 (bytes "  0  0") d →
+    Field r₄ r₅ d 9 (columnsFrom t 13 3) e → Field r₅ r₆ e 1 (LF ∷ []) f → Field r₀ r₆ at 36 (valuesText t) f
+unfolding valuesText
+values-parts t p q s u v w = field-join p (field-join q (field-join s (field-join u (field-join v w))))
 
-bond-is : (t : List ℤ) →
-    columnsFrom t 0 4 ++ (bytes "  0" ++ (columnsFrom t 4 1 ++ (signedText 3 (getD t 5 (pos 0)) ++ (LF ∷ [])))) ≡ text (bondLine t ∷ [])
-unfolding text bondText bondOf joined columnsFrom
+module _ (t : List ℤ) {r₀ r₁ r₂ r₃ : Bytes} {at a b c : ℕ} (p : Field r₀ r₁ at 31 (positionText t) a) (q : Field r₁ r₂ a 3 (symbolText (natAbs (getD t 3 (pos 0)))) b) where
+  pub atom-parts : Field r₂ r₃ b 36 (valuesText t) c → Field r₀ r₃ at 70 (text (atomLine t ∷ [])) c
+  atom-parts s = subst (λ (x : Bytes). Field r₀ r₃ at 70 x c) (atom-is t) (field-join p (field-join q s))
+
+  pub atom-plain : (z : Bool) → z ≡ isPlain t → z ≡ true → Field r₂ r₃ b 36 (bytes " 0  0  0  0  0  0  0  0  0  0  0  0" ++ (LF ∷ [])) c →
+      Field r₀ r₃ at 70 (text (atomLine t ∷ [])) c
+  atom-plain z e h s = atom-parts (subst (λ (x : Bytes). Field r₂ r₃ b 36 x c) (sym (values-plain t (sym e ∙ h))) s)
+
+bond-is : (t : List ℤ) → columnsFrom t 0 3 ++ stereoText t ≡ text (bondLine t ∷ [])
+unfolding text bondText bondOf joined columnsFrom stereoText
 bond-is t = simp append-assoc
 
-pub bond-parts : (t : List ℤ) {r₀ r₁ r₂ r₃ r₄ r₅ : Bytes} {at a b c d e : ℕ} →
-    Field r₀ r₁ at 12 (columnsFrom t 0 4) a → Field r₁ r₂ a 3 (bytes "  0") b → Field r₂ r₃ b 3 (columnsFrom t 4 1) c →
-    Field r₃ r₄ c 3 (signedText 3 (getD t 5 (pos 0))) d → Field r₄ r₅ d 1 (LF ∷ []) e → Field r₀ r₅ at 22 (text (bondLine t ∷ [])) e
-bond-parts t {r₀} {r₅ = r₅} {at} {e = e} p q s u v =
-    subst (λ (x : Bytes). Field r₀ r₅ at 22 x e) (bond-is t) (field-join p (field-join q (field-join s (field-join u v))))
+pub stereo-parts : (t : List ℤ) {r₀ r₁ r₂ r₃ r₄ r₅ : Bytes} {at a b c d e : ℕ} →
+    Field r₀ r₁ at 3 (columnsFrom t 3 1) a → Field r₁ r₂ a 3 (bytes "  0") b → Field r₂ r₃ b 3 (columnsFrom t 4 1) c →
+    Field r₃ r₄ c 3 (signedText 3 (getD t 5 (pos 0))) d → Field r₄ r₅ d 1 (LF ∷ []) e → Field r₀ r₅ at 13 (stereoText t) e
+unfolding stereoText
+stereo-parts t p q s u v = field-join p (field-join q (field-join s (field-join u v)))
 
-pub ruleset line-parts = (counts-parts, position-parts, element-parts, atom-parts, bond-parts)
+module _ (t : List ℤ) {r₀ r₁ r₂ : Bytes} {at a b : ℕ} (p : Field r₀ r₁ at 9 (columnsFrom t 0 3) a) where
+  pub bond-parts : Field r₁ r₂ a 13 (stereoText t) b → Field r₀ r₂ at 22 (text (bondLine t ∷ [])) b
+  bond-parts q = subst (λ (x : Bytes). Field r₀ r₂ at 22 x b) (bond-is t) (field-join p q)
+
+  pub bond-plain : (z : Bool) → z ≡ areZeros t 3 3 → z ≡ true → Field r₁ r₂ a 13 (bytes "  0  0  0  0" ++ (LF ∷ [])) b →
+      Field r₀ r₂ at 22 (text (bondLine t ∷ [])) b
+  bond-plain z e h q = bond-parts (subst (λ (x : Bytes). Field r₁ r₂ a 13 x b) (sym (stereo-plain t (sym e ∙ h))) q)
+
+pub ruleset line-parts = (counts-parts, position-parts, values-parts, atom-parts, atom-plain, stereo-parts, bond-parts, bond-plain)

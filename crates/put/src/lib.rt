@@ -15,7 +15,7 @@ ghost use Rattle.rules.specs.Forms.{tag};
 ghost use Rattle.rules.specs.Canon.{codeOfCharge, chargeCode, isZero};
 ghost use Rattle.put.specs.Laid.{Laid, Field};
 ghost use Rattle.rules.specs.Rows.{rowsOf};
-ghost use Rattle.put.specs.Lines.{atomLine, bondLine, WritableAtoms, columnsFrom, codeText, positionText, elementText};
+ghost use Rattle.put.specs.Lines.{atomLine, bondLine, WritableAtoms, columnsFrom, codeText, positionText, areZeros, isPlain, valuesText, stereoText};
 ghost use Rattle.put.specs.Properties.{kindOf, numberAt, entryAt, entriesAt, entriesText, propertiesText, Next, Eight, Entered};
 ghost use Rattle.put.specs.Body.{bodyText, restText, restSize, bodySize};
 
@@ -171,15 +171,45 @@ fn put_position(room: &mut [u8], at: usize, row: &[i32]) -> usize
     put_bytes(room, c, b" ")
 }
 
-// Columns 32 to 39.
-fn put_element(room: &mut [u8], at: usize, row: &[i32]) -> usize
-    requires { ⌜ (at + 8 ≤ length (now room)) × (7 ≤ length (now row)) ⌝ }
-    requires { ⌜ (1 ≤ natAbs (getD (now row) 3 (pos 0))) × (natAbs (getD (now row) 3 (pos 0)) ≤ 122) ⌝ }
-    ensures { λ r. ⌜ Field (now (room .entry)) (now (room .exit)) at 8 (elementText (now (row .entry))) r ⌝ }
+// Whether numbers i to e - 1 of a row are zeros: all are looked at, for eight at once are cheaper than one after the other.
+fn are_zeros(row: &[i32], i: usize, e: usize) -> bool
+    requires { ⌜ (i ≤ e) × (e ≤ length (now row)) ⌝ }
+    ensures { λ r. ⌜ r ≡ areZeros (now (row .entry)) i (e - i) ⌝ }
 {
-    let a = put_symbol(room, at, row);
-    let b = put_signed(room, a, 2, row, 4);
-    put_code(room, b, row)
+    let mut k = i;
+    let mut zeros = true;
+    while k < e {
+        let v = row[k];
+        k += 1;
+        if v != 0 {
+            zeros = false;
+        }
+    }
+    zeros
+}
+
+// Whether an atom line has zeros only after its symbol, as most have.
+fn is_plain(row: &[i32]) -> bool
+    requires { ⌜ length (now row) ≡ 16 ⌝ }
+    ensures { λ r. ⌜ r ≡ isPlain (now (row .entry)) ⌝ }
+{
+    if are_zeros(row, 8, 16) {
+        return are_zeros(row, 4, 7);
+    }
+    false
+}
+
+// What follows the symbol in an atom line, its LF included.
+fn put_values(room: &mut [u8], at: usize, row: &[i32]) -> usize
+    requires { ⌜ (at + 36 ≤ length (now room)) × (length (now row) ≡ 16) ⌝ }
+    ensures { λ r. ⌜ Field (now (room .entry)) (now (room .exit)) at 36 (valuesText (now (row .entry))) r ⌝ }
+{
+    let a = put_signed(room, at, 2, row, 4);
+    let b = put_code(room, a, row);
+    let c = put_columns(room, b, row, 8, 13);
+    let d = put_bytes(room, c, b"  0  0");
+    let e = put_columns(room, d, row, 13, 16);
+    put_bytes(room, e, b"\n")
 }
 
 // xxxxx.xxxxyyyyy.yyyyzzzzz.zzzz aaaddcccssshhhbbbvvvHHHrrriiimmmnnneee
@@ -189,11 +219,23 @@ fn put_atom(room: &mut [u8], at: usize, row: &[i32]) -> usize
     ensures { λ r. ⌜ Field (now (room .entry)) (now (room .exit)) at 70 (text (atomLine (now (row .entry)) ∷ [])) r ⌝ }
 {
     let a = put_position(room, at, row);
-    let b = put_element(room, a, row);
-    let c = put_columns(room, b, row, 8, 13);
-    let d = put_bytes(room, c, b"  0  0");
-    let e = put_columns(room, d, row, 13, 16);
-    put_bytes(room, e, b"\n")
+    let b = put_symbol(room, a, row);
+    if is_plain(row) {
+        return put_bytes(room, b, b" 0  0  0  0  0  0  0  0  0  0  0  0\n");
+    }
+    put_values(room, b, row)
+}
+
+// What follows the type in a bond line, its LF included.
+fn put_stereo(room: &mut [u8], at: usize, row: &[i32]) -> usize
+    requires { ⌜ (at + 13 ≤ length (now room)) × (length (now row) ≡ 6) ⌝ }
+    ensures { λ r. ⌜ Field (now (room .entry)) (now (room .exit)) at 13 (stereoText (now (row .entry))) r ⌝ }
+{
+    let a = put_columns(room, at, row, 3, 4);
+    let b = put_bytes(room, a, b"  0");
+    let c = put_columns(room, b, row, 4, 5);
+    let d = put_signed(room, c, 3, row, 5);
+    put_bytes(room, d, b"\n")
 }
 
 // 111222tttsssxxxrrrccc
@@ -201,11 +243,11 @@ fn put_bond(room: &mut [u8], at: usize, row: &[i32]) -> usize
     requires { ⌜ (at + 22 ≤ length (now room)) × (length (now row) ≡ 6) ⌝ }
     ensures { λ r. ⌜ Field (now (room .entry)) (now (room .exit)) at 22 (text (bondLine (now (row .entry)) ∷ [])) r ⌝ }
 {
-    let a = put_columns(room, at, row, 0, 4);
-    let b = put_bytes(room, a, b"  0");
-    let c = put_columns(room, b, row, 4, 5);
-    let d = put_signed(room, c, 3, row, 5);
-    put_bytes(room, d, b"\n")
+    let a = put_columns(room, at, row, 0, 3);
+    if are_zeros(row, 3, 6) {
+        return put_bytes(room, a, b"  0  0  0  0\n");
+    }
+    put_stereo(room, a, row)
 }
 
 fn put_atoms(room: &mut [u8], at: usize, atoms: &[i32], n: usize) -> usize

@@ -4,8 +4,8 @@ use borrow.Author.Needs.{needs}
 use Rattle.coordinates.proofs.put_point.Statement.{statement}
 use Rattle.coordinates.proofs.put_point.Tie as tie
 
-put-sized-requires : tie.Need-put-sized-requires
-put-sized-requires c κs = search needs
+put-before-requires : tie.Need-put-before-requires
+put-before-requires c κs = search needs
 
 add-put-after : tie.Need-add-put-after
 add-put-after c = search needs
@@ -21,4 +21,4 @@ returns c = search (needs, both-laid)
 
 pub put-point-spec : {M : Type 1} → statement M
 put-point-spec =
-    tie.close (tie.spec put-sized-requires add-put-after put-after-requires same-length returns)
+    tie.close (tie.spec put-before-requires add-put-after put-after-requires same-length returns)

@@ -1,17 +1,17 @@
 -- `put::put_atom` meets its contract.
 use borrow.Author.Needs.{needs}
-use Rattle.put.specs.Parts.{atom-parts}
+use Rattle.put.specs.Parts.{atom-parts, atom-plain}
 use Rattle.put.proofs.put_atom.Statement.{statement}
 use Rattle.put.proofs.put_atom.Tie as tie
 
 put-position-requires : tie.Need-put-position-requires
 put-position-requires c κs = search needs
 
-put-element-requires : tie.Need-put-element-requires
-put-element-requires c κs = search needs
+put-symbol-requires : tie.Need-put-symbol-requires
+put-symbol-requires c κs = search needs
 
-put-columns-requires : tie.Need-put-columns-requires
-put-columns-requires c κs = search needs
+is-plain-requires : tie.Need-is-plain-requires
+is-plain-requires c κs = search needs
 
 slice-aggregate-put-bytes : tie.Need-slice-aggregate-put-bytes
 slice-aggregate-put-bytes c = search needs
@@ -19,39 +19,32 @@ slice-aggregate-put-bytes c = search needs
 put-bytes-requires : tie.Need-put-bytes-requires
 put-bytes-requires c κs = search needs
 
-put-columns-requires-2 : tie.Need-put-columns-requires-2
-put-columns-requires-2 c κs = search needs
-
-slice-aggregate-put-bytes-2 : tie.Need-slice-aggregate-put-bytes-2
-slice-aggregate-put-bytes-2 c = search needs
-
-put-bytes-requires-2 : tie.Need-put-bytes-requires-2
-put-bytes-requires-2 c κs = search needs
-
 same-length : tie.Need-same-length
 same-length c = search needs
 
 returns : tie.Need-returns
-returns c =
-    let p₆ = c .before .before in
-    let p₅ = p₆ .before .before .before .before .before in
-    let p₄ = p₅ .before .before .before .before in
-    let p₃ = p₄ .before .before .before .before .before in
-    let p₂ = p₃ .before .before .before .before in
-    let p₁ = p₂ .before .before .before .before in
-    atom-parts _ (p₁ .put-position .ensures) (p₂ .put-element .ensures) (p₃ .put-columns .ensures) (p₄ .put-bytes .ensures) (p₅ .put-columns2 .ensures) (p₆ .put-bytes2 .ensures)
+returns c = search (needs, atom-plain)
+
+put-values-requires : tie.Need-put-values-requires
+put-values-requires c κs = search needs
+
+same-length-2 : tie.Need-same-length-2
+same-length-2 c = search needs
+
+returns-2 : tie.Need-returns-2
+returns-2 c = search (needs, atom-parts)
 
 pub put-atom-spec : {M : Type 1} → statement M
 put-atom-spec =
     tie.close
     (tie.spec
     put-position-requires
-    put-element-requires
-    put-columns-requires
+    put-symbol-requires
+    is-plain-requires
     slice-aggregate-put-bytes
     put-bytes-requires
-    put-columns-requires-2
-    slice-aggregate-put-bytes-2
-    put-bytes-requires-2
     same-length
-    returns)
+    returns
+    put-values-requires
+    same-length-2
+    returns-2)
