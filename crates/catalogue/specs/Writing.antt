@@ -22,13 +22,10 @@ use Rattle.read.specs.declared.RecordRead.{RecordRead}
 use Rattle.read.specs.Read.{readOf, atomsAfter, bondsAfter}
 use Rattle.writer.specs.declared.Written.{Written}
 use Rattle.writer.specs.Write.{Given, canonText}
-use Rattle.writer.specs.Promise.{Accepted, Promise, accepted-one}
+use Rattle.writer.specs.Measure.{recordText, Ready}
+use Rattle.writer.specs.Promise.{Accepted, Promise, accepted-one, accepted-ready, accepted-laid}
 use Rattle.catalogue.specs.declared.Wrote.{Wrote}
 use Rattle.catalogue.specs.Bridge.{givenOf, Front, front, read-atoms, read-bonds, read-refused}
-
-abbrev pub lengthOf : Written → ℕ
-lengthOf (Written.Done l) = l
-lengthOf (Written.Refused e i c) = 0
 
 -- ---- What remains of the room
 
@@ -70,28 +67,34 @@ module _ (g : Given) (r : Bytes) (to : ℕ) (h : Handed g r to) where
   put-to : to ≤ length r
   put-to = omega (arith, h .enough)
 
-  module _ (w : Written) (tail : Bytes) (p : Promise g (take (length r - to) (drop to r)) w tail) where
-    abbrev txt : Bytes
-    txt = canonText (h .x)
+  abbrev txt : Bytes
+  txt = canonText (h .x)
 
-    lent : take (length r - to) (drop to r) ≡ drop to r
-    lent = take-all (length r - to) (drop to r) (omega (arith, length-drop to r))
+  lent : take (length r - to) (drop to r) ≡ drop to r
+  lent = take-all (length r - to) (drop to r) (omega (arith, length-drop to r))
 
-    few : length txt ≤ length (take (length r - to) (drop to r))
-    few = omega (arith, h .enough, ap length lent, length-drop to r)
+  few : length txt ≤ length (take (length r - to) (drop to r))
+  few = omega (arith, h .enough, ap length lent, length-drop to r)
 
-    said : w ≡ Written.Done (length txt)
-    said = p .accepted (length txt) .1 (h .x, h .accepted, refl, few)
+  pub put-ready : Ready g (length (take (length r - to) (drop to r)))
+  put-ready = accepted-ready g (h .x) (h .accepted) (length (take (length r - to) (drop to r))) few
+
+  module _ (tail : Bytes) (v : ℕ) (l : Laid (take (length r - to) (drop to r)) tail 0 (recordText g) v) where
+    written : Promise g (take (length r - to) (drop to r)) (Written.Done v) tail
+    written = accepted-laid g (h .x) (h .accepted) (take (length r - to) (drop to r)) tail v few l
+
+    said : v ≡ length txt
+    said = let w = written .accepted (length txt) .1 (h .x, h .accepted, refl, few) in cc
 
     did : tail ≡ txt ++ drop (length txt) (drop to r)
-    did = p .written (h .x) (h .accepted) few ∙ ap (λ (z : Bytes). txt ++ drop (length txt) z) lent
+    did = written .written (h .x) (h .accepted) few ∙ ap (λ (z : Bytes). txt ++ drop (length txt) z) lent
 
-    pub put-fits : (v : ℕ) → v ≡ lengthOf w → length r * 1 < 2 ^ 63 → Fits w64 (to + v)
-    put-fits v e s = let l = e ∙ ap lengthOf said in record { fits = omega (arith, h .enough) }
+    pub put-fits : length r * 1 < 2 ^ 63 → Fits w64 (to + v)
+    put-fits s = record { fits = omega (arith, said, h .enough) }
 
-    pub put-laid : (v : ℕ) → v ≡ lengthOf w → Put g r (putMid to (length r - to) r tail) to (to + v)
-    put-laid v e =
-        let f : to + length txt ≡ to + v = ap (λ (z : ℕ). to + z) (sym (e ∙ ap lengthOf said)) in
+    pub put-laid : Put g r (putMid to (length r - to) r tail) to (to + v)
+    put-laid =
+        let f : to + length txt ≡ to + v = ap (λ (z : ℕ). to + z) (sym said) in
         let d = laid-tail r (putMid to (length r - to) r tail) txt to (h .enough) (put-tail r to tail put-to ∙ ap (λ (z : Bytes). take to r ++ z) did) in
         record {
           laid = λ x a.
