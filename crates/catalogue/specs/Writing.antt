@@ -13,6 +13,7 @@ use Rattle.text.specs.Text.{Bytes, Line}
 use Rattle.text.specs.Cut.{cut}
 use Rattle.rules.specs.Record.{Raw, limit}
 use Rattle.rules.specs.Meaning.{Reading, meaning}
+use Rattle.judge.specs.Place.{sdfile}
 use Rattle.judge.specs.One.{One, oneRecord}
 use Rattle.judge.specs.WalkText.{afterLines}
 use Rattle.walk.specs.Outcome.{whole, refused, ofOne, outcomeOf}
@@ -25,7 +26,8 @@ use Rattle.writer.specs.Write.{Given, canonText}
 use Rattle.writer.specs.Measure.{recordText, Ready}
 use Rattle.writer.specs.Promise.{Accepted, Promise, accepted-one, accepted-ready, accepted-laid}
 use Rattle.catalogue.specs.declared.Wrote.{Wrote}
-use Rattle.catalogue.specs.Bridge.{givenOf, Front, front, read-atoms, read-bonds, read-refused}
+use Rattle.canon.specs.Bridge.{givenOf, Front}
+use Rattle.catalogue.specs.Reading.{front, read-atoms, read-bonds, read-refused}
 
 -- ---- What remains of the room
 
@@ -119,8 +121,9 @@ pub record WroteNext (t r₀ r : Bytes) (to : ℕ) (w : Wrote) : Type 0 where
   pub laid : (x : Raw) (k : ℕ) (rest : List Line) → oneRecord limit (cut t .lines) ≡ One.whole x k rest → Laid r₀ r to (canonText (meaning x)) (w .to)
   pub taken : (x : Raw) (k : ℕ) (rest : List Line) → oneRecord limit (cut t .lines) ≡ One.whole x k rest → w .taken ≡ afterLines t 0 k
 
-same-one : {x y : Raw} {k j : ℕ} {u v : List Line} → One.whole x k u ≡ One.whole y j v → (x ≡ y) × (k ≡ j)
-same-one e = (cc, cc)
+same-one : (t : Bytes) {x y : Raw} {k j : ℕ} {rest : List Line} → outcomeOf sdfile t ≡ whole x k → oneRecord limit (cut t .lines) ≡ One.whole y j rest → (x ≡ y) × (k ≡ j)
+unfolding outcomeOf
+same-one t {x} {y} {k} {j} p q = let e : whole x k ≡ whole y j = sym p ∙ ap ofOne q in (cc, cc)
 
 module _ (t : Bytes) (ta tb ta′ tb′ : List ℤ) (r : Bytes) (to : ℕ) (g : Next t ta tb r to) (ea : ta′ ≡ atomsAfter 1 (length tb) t ta) (eb : tb′ ≡ bondsAfter 1 (length ta) t tb)
     (a : RecordRead) (er : a ≡ readOf 1 (length ta) (length tb) t) where
@@ -131,7 +134,7 @@ module _ (t : Bytes) (ta tb ta′ tb′ : List ℤ) (r : Bytes) (to : ℕ) (g : 
   wrote-bonds = read-bonds t ta tb ta′ tb′ (g .atoms) (g .bonds) ea eb
 
   module _ (n m chiral len k h i j : ℕ) (q : a ≡ RecordRead.Read n m chiral len k h i j) where
-    it : Front t ta′ tb′ n m chiral len k h i j
+    it : Front sdfile t ta′ tb′ n m chiral len k h i j
     it = front t ta tb ta′ tb′ (g .atoms) (g .bonds) ea eb a er n m chiral len k h i j q
 
     pub wrote-headers : h ≤ length t
@@ -145,14 +148,14 @@ module _ (t : Bytes) (ta tb ta′ tb′ : List ℤ) (r : Bytes) (to : ℕ) (g : 
 
     pub wrote-handed : Handed (givenOf t ta′ tb′ n m chiral h i j) r to
     wrote-handed =
-        let e = ap (λ (y : Raw). length (canonText (meaning y))) (same-one (sym (it .is) ∙ g .is) .0) in
+        let e = ap (λ (y : Raw). length (canonText (meaning y))) (same-one t (it .is) (g .is) .0) in
         record { x = meaning (it .x); accepted = it .accepted; enough = omega (arith, g .enough) }
 
     pub wrote-next : (r′ : Bytes) (e : ℕ) → Put (givenOf t ta′ tb′ n m chiral h i j) r r′ to e → WroteNext t r r′ to (record { taken = len; to = e })
     wrote-next r′ e p =
         record {
-          laid = λ x u rest o. subst (λ (z : Raw). Laid r r′ to (canonText (meaning z)) e) (same-one (sym (it .is) ∙ o) .0) (p .laid (meaning (it .x)) (it .accepted));
-          taken = λ x u rest o. it .size ∙ ap (afterLines t 0) (same-one (sym (it .is) ∙ o) .1);
+          laid = λ x u rest o. subst (λ (z : Raw). Laid r r′ to (canonText (meaning z)) e) (same-one t (it .is) o .0) (p .laid (meaning (it .x)) (it .accepted));
+          taken = λ x u rest o. it .size ∙ ap (afterLines t 0) (same-one t (it .is) o .1);
         }
 
   -- a record that begins the text is read
