@@ -19,7 +19,7 @@ use Rattle.judge.specs.Place.{sdfile}
 use Rattle.judge.specs.Verdict.{Verdict, verdict}
 use Rattle.judge.specs.One.{One, oneRecord}
 use Rattle.judge.specs.OneAgree.{one-whole, one-rest}
-use Rattle.judge.specs.WalkText.{afterLines, after-cut}
+use Rattle.judge.specs.WalkText.{afterLines, after-cut, text-room}
 use Rattle.judge.specs.Promise.{accepted-sd}
 use Rattle.walk.specs.Outcome.{whole, refused}
 use Rattle.walk.specs.Walked.{Beside}
@@ -32,9 +32,8 @@ use Rattle.writer.specs.Write.{canonText, demand}
 use Rattle.catalogue.specs.declared.Catalogue.{Catalogue}
 use Rattle.catalogue.specs.declared.Wrote.{Wrote}
 use Rattle.catalogue.specs.Catalogue.{catalogueText, ofFile, fitting, fileFor, answerBy, roomBy}
-use Rattle.catalogue.specs.Bridge.{record-shorter, some-lines, in-order}
 use Rattle.catalogue.specs.Sizes.{text-none, text-more}
-use Rattle.catalogue.specs.Measuring.{beside-same, beside-join}
+use Rattle.catalogue.specs.Measuring.{record-shorter, some-lines, beside-same, beside-join}
 use Rattle.catalogue.specs.Writing.{Next, WroteNext}
 
 -- ---- The file
@@ -162,9 +161,9 @@ module _ (s : Bytes) (ta₀ tb₀ : List ℤ) (r₀ : Bytes) (ta tb : List ℤ) 
 
       onward : (1 ≤ w .taken) × (at + w .taken ≤ length s)
       onward =
-          let o = in-order (drop at s) (here .y) (here .k) (here .rest) (here .is) in
+          let o = text-room limit [] 1 (drop at s) (here .y) (here .k) (here .rest) (here .is) in
           let l = some-lines (drop at s) (here .y) (here .k) (here .rest) (here .is) in
-          (omega (arith, o .3, taken), omega (arith, o .4, taken, length-drop at s))
+          (omega (arith, o .0, taken), omega (arith, o .1, taken, length-drop at s))
 
       pub filling-less : length s - (at + w .taken) < length s - at
       filling-less = let o = onward in omega (arith, o .0, o .1)

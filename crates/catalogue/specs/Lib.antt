@@ -2,7 +2,7 @@
 pub mod Catalogue
 pub mod Promise
 -- Laws for the proofs
-pub mod Bridge
+pub mod Reading
 pub mod Sizes
 pub mod Measuring
 pub mod Writing

@@ -13,13 +13,14 @@ use mir.Val.{Fits}
 use borrow.Author.Tests.{leb-true, leb-false, lt-ltb, le-ltb}
 use Rattle.text.specs.Text.{Bytes, Line}
 use Rattle.text.specs.Cut.{cut}
-use Rattle.rules.specs.Record.{Raw, limit}
+use Rattle.rules.specs.Record.{Raw, Parts1to5, Record, limit}
 use Rattle.rules.specs.Meaning.{meaning}
 use Rattle.judge.specs.Place.{sdfile}
 use Rattle.judge.specs.Verdict.{Verdict, verdict}
 use Rattle.judge.specs.One.{One, oneRecord}
-use Rattle.judge.specs.OneAgree.{one-refused, one-short}
-use Rattle.judge.specs.WalkText.{afterLines, after-within, fileText, verdict-text, text-end, text-whole, text-refused, text-short}
+use Rattle.judge.specs.OneAgree.{one-whole, one-refused, one-short}
+use Rattle.judge.specs.Front.{record-front}
+use Rattle.judge.specs.WalkText.{afterLines, after-within, fileText, verdict-text, text-room, text-end, text-whole, text-refused, text-short}
 use Rattle.walk.specs.Outcome.{whole, refused, ofOne, outcomeOf}
 use Rattle.walk.specs.Walked.{Beside}
 use Rattle.part_judge.specs.Part.{good}
@@ -27,7 +28,6 @@ use Rattle.writer.specs.Write.{canonText, demand}
 use Rattle.catalogue.specs.declared.Catalogue.{Catalogue}
 use Rattle.catalogue.specs.declared.Measured.{Measured}
 use Rattle.catalogue.specs.Catalogue.{catalogueText, ofFile, fitting, fileFor, answerBy, upTo}
-use Rattle.catalogue.specs.Bridge.{some-lines, in-order}
 use Rattle.catalogue.specs.Sizes.{up-in, up-over, up-more, text-none, text-last, measuredBy}
 
 -- ---- The end of a good file
@@ -55,6 +55,19 @@ concluded xs k = go (leb (length (catalogueText xs)) k) refl
     go false e =
         let h = leb-false (length (catalogueText xs)) k e in
         ap (λ (n : ℕ). concludeBy n (length xs) k) (up-over k (length (catalogueText xs)) h) ∙ sym (conclude-over (k + 1) (length xs) k (omega arith))
+
+-- ---- A record takes lines
+
+some-line : {ls rest : List Line} {x : Raw} → Record limit ls x rest → 0 < length ls
+some-line (Record.record-of (Parts1to5.parts f g h l a b w q o) i) = omega arith
+
+pub record-shorter : {ls rest : List Line} {x : Raw} → Record limit ls x rest → length rest < length ls
+record-shorter {rest = rest} r =
+    let f = record-front r in
+    omega (arith, ap length (f .parts), length-append (f .before) rest, some-line (f .any []), length-append (f .before) [])
+
+pub some-lines : (t : Bytes) (x : Raw) (k : ℕ) (rest : List Line) → oneRecord limit (cut t .lines) ≡ One.whole x k rest → 1 ≤ k
+some-lines t x k rest e = let f = one-whole limit (cut t .lines) x k rest .0 e in omega (arith, f .1, record-shorter (f .0))
 
 -- ---- Record by record
 
@@ -150,8 +163,8 @@ module _ (s : Bytes) (ta₀ tb₀ ta tb : List ℤ) (k at i c needed : ℕ) (g :
       ahead : (1 ≤ j) × (j ≤ len) × (at + len ≤ length s)
       ahead =
           let n = found in
-          let w = in-order (drop at s) (n .y) j (n .rest) (n .is) in
-          (some-lines (drop at s) (n .y) j (n .rest) (n .is), omega (arith, w .3, n .len-is), omega (arith, w .4, n .len-is, length-drop at s))
+          let w = text-room limit [] 1 (drop at s) (n .y) j (n .rest) (n .is) in
+          (some-lines (drop at s) (n .y) j (n .rest) (n .is), omega (arith, w .0, n .len-is), omega (arith, w .1, n .len-is, length-drop at s))
 
       pub measuring-less : length s - (at + len) < length s - at
       measuring-less = let r = ahead in omega (arith, r .0, r .1, r .2)

@@ -30,9 +30,10 @@ use Rattle.read.specs.Read.{readOf, atomsAfter, bondsAfter}
 use Rattle.writer.specs.declared.Written.{Written}
 use Rattle.writer.specs.Write.{canonText}
 use Rattle.writer.specs.Measure.{sized, afterHeaders, text-length}
+use Rattle.canon.specs.Bridge.{Front}
 use Rattle.catalogue.specs.declared.Measured.{Measured}
 use Rattle.catalogue.specs.Catalogue.{catalogueText, upTo}
-use Rattle.catalogue.specs.Bridge.{Front, front, read-refused}
+use Rattle.catalogue.specs.Reading.{front, read-refused}
 
 -- ---- Lengths as far as the room goes
 
@@ -134,7 +135,7 @@ abbrev pub measuredBy : Bytes → ℕ → ℕ → Outcome → Measured
 measuredBy t needed k (whole x j) = Measured.Record (afterLines t 0 j) j (upTo k (needed + length (canonText (meaning x))))
 measuredBy t needed k (refused e i c) = Measured.Refused e i c
 
-module _ (t : Bytes) (ta tb : List ℤ) (n m chiral len j h a b : ℕ) (f : Front t ta tb n m chiral len j h a b) where
+module _ (t : Bytes) (ta tb : List ℤ) (n m chiral len j h a b : ℕ) (f : Front sdfile t ta tb n m chiral len j h a b) where
   front-headers : writtenHeaders (take (h - 0) (drop 0 t)) ≡ good (headersText (meaning (f .x) .headers))
   unfolding writtenHeaders
   front-headers = rw (good-headers (take (h - 0) (drop 0 t)) (meaning (f .x) .headers) .1 (f .accepted .headers))
@@ -168,14 +169,10 @@ module _ (t : Bytes) (ta tb : List ℤ) (n m chiral len j h a b : ℕ) (f : Fron
       (text-length (record { atoms = ta; bonds = tb; n = n; m = m; chiral = chiral; headers = take (h - 0) (drop 0 t); items = take (b - a) (drop a t) }) (meaning (f .x) .headers) (meaning (f .x) .items)
       ∙ ap (λ (y : Reading). length (canonText y)) (sym (f .accepted .tables)))
 
-outcome-whole : (t : Bytes) (x : Raw) (j : ℕ) (rest : List Line) → oneRecord limit (cut t .lines) ≡ One.whole x j rest → outcomeOf sdfile t ≡ whole x j
-unfolding outcomeOf
-outcome-whole t x j rest e = ap ofOne e
-
 module _ (t : Bytes) (ta tb ta′ tb′ : List ℤ) (ra : 4080 ≤ length ta) (rb : 1530 ≤ length tb) (ea : ta′ ≡ atomsAfter 1 (length tb) t ta) (eb : tb′ ≡ bondsAfter 1 (length ta) t tb)
     (r : RecordRead) (er : r ≡ readOf 1 (length ta) (length tb) t) where
   module _ (n m chiral len j h a b : ℕ) (q : r ≡ RecordRead.Read n m chiral len j h a b) where
-    it : Front t ta′ tb′ n m chiral len j h a b
+    it : Front sdfile t ta′ tb′ n m chiral len j h a b
     it = front t ta tb ta′ tb′ ra rb ea eb r er n m chiral len j h a b q
 
     pub next-headers : h ≤ length t
@@ -195,7 +192,7 @@ module _ (t : Bytes) (ta tb ta′ tb′ : List ℤ) (ra : 4080 ≤ length ta) (r
     next-whole needed k v e =
         let f = it in
         let z : v ≡ upTo k (needed + length (canonText (meaning (f .x)))) = e ∙ ap (λ (i : ℕ). upTo k (needed + i)) (front-size t ta′ tb′ n m chiral len j h a b f) in
-        ap₂ (λ (y w : ℕ). Measured.Record y j w) (f .size) z ∙ sym (ap (measuredBy t needed k) (outcome-whole t (f .x) j (f .rest) (f .is)))
+        ap₂ (λ (y w : ℕ). Measured.Record y j w) (f .size) z ∙ sym (ap (measuredBy t needed k) (f .is))
 
   pub next-refused : (e i c needed k : ℕ) → r ≡ RecordRead.Refused e i c → Measured.Refused e i c ≡ measuredBy t needed k (outcomeOf sdfile t)
   next-refused e i c needed k q = rw (read-refused t ta tb ta′ tb′ ra rb ea eb r er e i c q)

@@ -13,6 +13,7 @@ use Rattle.text.specs.Text.{Bytes, Line}
 use Rattle.text.specs.Cut.{cut}
 use Rattle.rules.specs.Record.{Raw, limit}
 use Rattle.rules.specs.Meaning.{Reading, meaning}
+use Rattle.judge.specs.Place.{sdfile}
 use Rattle.judge.specs.One.{One, oneRecord}
 use Rattle.judge.specs.WalkText.{afterLines}
 use Rattle.walk.specs.Outcome.{whole, refused, ofOne, outcomeOf}
@@ -22,13 +23,11 @@ use Rattle.read.specs.declared.RecordRead.{RecordRead}
 use Rattle.read.specs.Read.{readOf, atomsAfter, bondsAfter}
 use Rattle.writer.specs.declared.Written.{Written}
 use Rattle.writer.specs.Write.{Given, canonText}
-use Rattle.writer.specs.Promise.{Accepted, Promise, accepted-one}
+use Rattle.writer.specs.Measure.{recordText, Ready}
+use Rattle.writer.specs.Promise.{Accepted, Promise, accepted-one, accepted-ready, accepted-laid}
 use Rattle.catalogue.specs.declared.Wrote.{Wrote}
-use Rattle.catalogue.specs.Bridge.{givenOf, Front, front, read-atoms, read-bonds, read-refused}
-
-abbrev pub lengthOf : Written → ℕ
-lengthOf (Written.Done l) = l
-lengthOf (Written.Refused e i c) = 0
+use Rattle.canon.specs.Bridge.{givenOf, Front}
+use Rattle.catalogue.specs.Reading.{front, read-atoms, read-bonds, read-refused}
 
 -- ---- What remains of the room
 
@@ -70,28 +69,34 @@ module _ (g : Given) (r : Bytes) (to : ℕ) (h : Handed g r to) where
   put-to : to ≤ length r
   put-to = omega (arith, h .enough)
 
-  module _ (w : Written) (tail : Bytes) (p : Promise g (take (length r - to) (drop to r)) w tail) where
-    abbrev txt : Bytes
-    txt = canonText (h .x)
+  abbrev txt : Bytes
+  txt = canonText (h .x)
 
-    lent : take (length r - to) (drop to r) ≡ drop to r
-    lent = take-all (length r - to) (drop to r) (omega (arith, length-drop to r))
+  lent : take (length r - to) (drop to r) ≡ drop to r
+  lent = take-all (length r - to) (drop to r) (omega (arith, length-drop to r))
 
-    few : length txt ≤ length (take (length r - to) (drop to r))
-    few = omega (arith, h .enough, ap length lent, length-drop to r)
+  few : length txt ≤ length (take (length r - to) (drop to r))
+  few = omega (arith, h .enough, ap length lent, length-drop to r)
 
-    said : w ≡ Written.Done (length txt)
-    said = p .accepted (length txt) .1 (h .x, h .accepted, refl, few)
+  pub put-ready : Ready g (length (take (length r - to) (drop to r)))
+  put-ready = accepted-ready g (h .x) (h .accepted) (length (take (length r - to) (drop to r))) few
+
+  module _ (tail : Bytes) (v : ℕ) (l : Laid (take (length r - to) (drop to r)) tail 0 (recordText g) v) where
+    written : Promise g (take (length r - to) (drop to r)) (Written.Done v) tail
+    written = accepted-laid g (h .x) (h .accepted) (take (length r - to) (drop to r)) tail v few l
+
+    said : v ≡ length txt
+    said = let w = written .accepted (length txt) .1 (h .x, h .accepted, refl, few) in cc
 
     did : tail ≡ txt ++ drop (length txt) (drop to r)
-    did = p .written (h .x) (h .accepted) few ∙ ap (λ (z : Bytes). txt ++ drop (length txt) z) lent
+    did = written .written (h .x) (h .accepted) few ∙ ap (λ (z : Bytes). txt ++ drop (length txt) z) lent
 
-    pub put-fits : (v : ℕ) → v ≡ lengthOf w → length r * 1 < 2 ^ 63 → Fits w64 (to + v)
-    put-fits v e s = let l = e ∙ ap lengthOf said in record { fits = omega (arith, h .enough) }
+    pub put-fits : length r * 1 < 2 ^ 63 → Fits w64 (to + v)
+    put-fits s = record { fits = omega (arith, said, h .enough) }
 
-    pub put-laid : (v : ℕ) → v ≡ lengthOf w → Put g r (putMid to (length r - to) r tail) to (to + v)
-    put-laid v e =
-        let f : to + length txt ≡ to + v = ap (λ (z : ℕ). to + z) (sym (e ∙ ap lengthOf said)) in
+    pub put-laid : Put g r (putMid to (length r - to) r tail) to (to + v)
+    put-laid =
+        let f : to + length txt ≡ to + v = ap (λ (z : ℕ). to + z) (sym said) in
         let d = laid-tail r (putMid to (length r - to) r tail) txt to (h .enough) (put-tail r to tail put-to ∙ ap (λ (z : Bytes). take to r ++ z) did) in
         record {
           laid = λ x a.
@@ -116,8 +121,9 @@ pub record WroteNext (t r₀ r : Bytes) (to : ℕ) (w : Wrote) : Type 0 where
   pub laid : (x : Raw) (k : ℕ) (rest : List Line) → oneRecord limit (cut t .lines) ≡ One.whole x k rest → Laid r₀ r to (canonText (meaning x)) (w .to)
   pub taken : (x : Raw) (k : ℕ) (rest : List Line) → oneRecord limit (cut t .lines) ≡ One.whole x k rest → w .taken ≡ afterLines t 0 k
 
-same-one : {x y : Raw} {k j : ℕ} {u v : List Line} → One.whole x k u ≡ One.whole y j v → (x ≡ y) × (k ≡ j)
-same-one e = (cc, cc)
+same-one : (t : Bytes) {x y : Raw} {k j : ℕ} {rest : List Line} → outcomeOf sdfile t ≡ whole x k → oneRecord limit (cut t .lines) ≡ One.whole y j rest → (x ≡ y) × (k ≡ j)
+unfolding outcomeOf
+same-one t {x} {y} {k} {j} p q = let e : whole x k ≡ whole y j = sym p ∙ ap ofOne q in (cc, cc)
 
 module _ (t : Bytes) (ta tb ta′ tb′ : List ℤ) (r : Bytes) (to : ℕ) (g : Next t ta tb r to) (ea : ta′ ≡ atomsAfter 1 (length tb) t ta) (eb : tb′ ≡ bondsAfter 1 (length ta) t tb)
     (a : RecordRead) (er : a ≡ readOf 1 (length ta) (length tb) t) where
@@ -128,7 +134,7 @@ module _ (t : Bytes) (ta tb ta′ tb′ : List ℤ) (r : Bytes) (to : ℕ) (g : 
   wrote-bonds = read-bonds t ta tb ta′ tb′ (g .atoms) (g .bonds) ea eb
 
   module _ (n m chiral len k h i j : ℕ) (q : a ≡ RecordRead.Read n m chiral len k h i j) where
-    it : Front t ta′ tb′ n m chiral len k h i j
+    it : Front sdfile t ta′ tb′ n m chiral len k h i j
     it = front t ta tb ta′ tb′ (g .atoms) (g .bonds) ea eb a er n m chiral len k h i j q
 
     pub wrote-headers : h ≤ length t
@@ -142,14 +148,14 @@ module _ (t : Bytes) (ta tb ta′ tb′ : List ℤ) (r : Bytes) (to : ℕ) (g : 
 
     pub wrote-handed : Handed (givenOf t ta′ tb′ n m chiral h i j) r to
     wrote-handed =
-        let e = ap (λ (y : Raw). length (canonText (meaning y))) (same-one (sym (it .is) ∙ g .is) .0) in
+        let e = ap (λ (y : Raw). length (canonText (meaning y))) (same-one t (it .is) (g .is) .0) in
         record { x = meaning (it .x); accepted = it .accepted; enough = omega (arith, g .enough) }
 
     pub wrote-next : (r′ : Bytes) (e : ℕ) → Put (givenOf t ta′ tb′ n m chiral h i j) r r′ to e → WroteNext t r r′ to (record { taken = len; to = e })
     wrote-next r′ e p =
         record {
-          laid = λ x u rest o. subst (λ (z : Raw). Laid r r′ to (canonText (meaning z)) e) (same-one (sym (it .is) ∙ o) .0) (p .laid (meaning (it .x)) (it .accepted));
-          taken = λ x u rest o. it .size ∙ ap (afterLines t 0) (same-one (sym (it .is) ∙ o) .1);
+          laid = λ x u rest o. subst (λ (z : Raw). Laid r r′ to (canonText (meaning z)) e) (same-one t (it .is) o .0) (p .laid (meaning (it .x)) (it .accepted));
+          taken = λ x u rest o. it .size ∙ ap (afterLines t 0) (same-one t (it .is) o .1);
         }
 
   -- a record that begins the text is read

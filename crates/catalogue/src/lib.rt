@@ -13,7 +13,7 @@ ghost use Rattle.read.specs.Read.{zeroed, rowsIn};
 ghost use Rattle.catalogue.specs.Catalogue.{fileFor, answerBy, roomBy, upTo};
 ghost use Rattle.catalogue.specs.Sizes.{partsSize, Measurable, measuredBy};
 ghost use Rattle.catalogue.specs.Measuring.{concludeBy};
-ghost use Rattle.catalogue.specs.Writing.{lengthOf, Handed, Put, Next, WroteNext};
+ghost use Rattle.catalogue.specs.Writing.{Handed, Put, Next, WroteNext};
 ghost use Rattle.catalogue.specs.Filling.{FileFits, textIn};
 ghost use Rattle.catalogue.specs.Promise.{Promise};
 
@@ -187,21 +187,7 @@ fn measure_file(s: &[u8], atoms: &mut [i32], bonds: &mut [i32], room: usize) -> 
     conclude(needed, records, room)
 }
 
-// How many bytes were written; a record that was measured is not refused.
-fn length_of(w: Written) -> usize
-    ensures { λ r. ⌜ r ≡ lengthOf w ⌝ }
-{
-    match w {
-        Written::Done { length } => length,
-        Written::Refused {
-            no: _,
-            line: _,
-            column: _,
-        } => 0,
-    }
-}
-
-// A record into what remains of the room.
+// A record into what remains of the room: it was measured, so it is judged no more.
 fn put_record(
     atoms: &[i32],
     bonds: &[i32],
@@ -216,17 +202,7 @@ fn put_record(
     requires { ⌜ Handed (record { atoms = now atoms; bonds = now bonds; n = n; m = m; chiral = chiral; headers = now headers; items = now items }) (now room) to ⌝ }
     ensures { λ r. ⌜ Put (record { atoms = now (atoms .entry); bonds = now (bonds .entry); n = n; m = m; chiral = chiral; headers = now (headers .entry); items = now (items .entry) }) (now (room .entry)) (now (room .exit)) to r ⌝ }
 {
-    to
-        + length_of(writer::write_record(
-            atoms,
-            bonds,
-            n,
-            m,
-            chiral,
-            headers,
-            items,
-            &mut room[to..],
-        ))
+    to + writer::lay_record(atoms, bonds, n, m, chiral, headers, items, &mut room[to..])
 }
 
 // The record at the front of a text, read and written.

@@ -1,5 +1,5 @@
 -- The promise of a fetch, in the words of the rules: when an item is found, which bytes are its value lines, and what a refusal says.
-use Prim.Native.Nat.{ℕ, suc, _-_, _≤_}
+use Prim.Native.Nat.{ℕ, _-_, _≤_}
 use mathlib.Core.Path.{_≡_}
 use mathlib.Core.Logic.{_≢_, _↔_}
 use mathlib.Core.List.{List, [], _∷_, _++_}

@@ -23,7 +23,7 @@ use Rattle.part_judge.specs.PartAgree.{AHeaderPart, AnItemPart, good-headers, r
 use Rattle.writable.specs.Tables.{writableTables}
 use Rattle.writer.specs.Write.{Given, Roomy, handed, canonText, demand, andThen, roomy, recordFor, textFor, writeOf, roomAfter}
 use Rattle.writer.specs.Write as W
-use Rattle.writer.specs.Measure.{roomy-agrees, tables-agree, refused-done, recordText, ready, done-answer, done-room, refused-room}
+use Rattle.writer.specs.Measure.{roomy-agrees, tables-agree, refused-done, recordText, Ready, ready, done-answer, done-room, refused-room}
 use Rattle.writer.specs.declared.Written.{Written}
 
 -- ---- In the words of the rules
@@ -234,3 +234,16 @@ module _ (g : Given) (r₀ : Bytes) where
 
   pub promise-refused : (j : Written) (n line column : ℕ) → j ≡ writeOf g (length r₀) → j ≡ Written.Refused n line column → Promise g r₀ (Written.Refused n line column) r₀
   promise-refused j n line column q h = promise (Written.Refused n line column) r₀ (sym h ∙ q) (refused-room g r₀ n line column (sym q ∙ h))
+
+-- ---- What is known to be good is laid without being judged
+
+module _ (g : Given) (x : Reading) (a : Accepted g x) where
+  accepted-done : (k : ℕ) → length (canonText x) ≤ k → writeOf g k ≡ Written.Done (length (canonText x))
+  unfolding writeOf
+  accepted-done k h = ap W.answer (text-of g k x a h)
+
+  pub accepted-ready : (k : ℕ) → length (canonText x) ≤ k → Ready g k
+  accepted-ready k h = ready g k (length (canonText x)) (accepted-done k h)
+
+  pub accepted-laid : (r₀ r : Bytes) (e : ℕ) → length (canonText x) ≤ length r₀ → Laid r₀ r 0 (recordText g) e → Promise g r₀ (Written.Done e) r
+  accepted-laid r₀ r e h p = promise-done g r₀ (writeOf g (length r₀)) (length (canonText x)) r e refl (accepted-done (length r₀) h) p

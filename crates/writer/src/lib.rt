@@ -135,8 +135,8 @@ fn put_close(room: &mut [u8], at: usize) -> usize
     at + 5
 }
 
-// The parts in their order, once all tests hold.
-fn lay_record(
+// The parts in their order, once all tests hold: a record that was read and measured is laid so.
+pub fn lay_record(
     atoms: &[i32],
     bonds: &[i32],
     n: u32,

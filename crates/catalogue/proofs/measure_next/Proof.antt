@@ -1,6 +1,6 @@
 -- `catalogue::measure_next` meets its contract.
 use borrow.Author.Needs.{needs}
-use Rattle.catalogue.specs.Bridge.{read-atoms, read-bonds}
+use Rattle.catalogue.specs.Reading.{read-atoms, read-bonds}
 use Rattle.catalogue.specs.Sizes.{next-headers, next-items, next-items-end, next-measurable, next-whole, next-refused}
 use Rattle.catalogue.proofs.measure_next.Statement.{statement}
 use Rattle.catalogue.proofs.measure_next.Tie as tie

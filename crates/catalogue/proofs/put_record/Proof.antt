@@ -1,23 +1,20 @@
 -- `catalogue::put_record` meets its contract.
 use borrow.Author.Needs.{needs}
-use Rattle.catalogue.specs.Writing.{put-fits, put-laid}
+use Rattle.catalogue.specs.Writing.{put-ready, put-fits, put-laid}
 use Rattle.catalogue.proofs.put_record.Statement.{statement}
 use Rattle.catalogue.proofs.put_record.Tie as tie
 
-sub-write-record : tie.Need-sub-write-record
-sub-write-record c = search needs
+sub-lay-record : tie.Need-sub-lay-record
+sub-lay-record c = search needs
 
-part-write-record-start : tie.Need-part-write-record-start
-part-write-record-start c = search needs
+part-lay-record-start : tie.Need-part-lay-record-start
+part-lay-record-start c = search needs
 
-part-write-record-end : tie.Need-part-write-record-end
-part-write-record-end c = search needs
+part-lay-record-end : tie.Need-part-lay-record-end
+part-lay-record-end c = search needs
 
-write-record-requires : tie.Need-write-record-requires
-write-record-requires c κs = search needs
-
-length-of-requires : tie.Need-length-of-requires
-length-of-requires c κs = search needs
+lay-record-requires : tie.Need-lay-record-requires
+lay-record-requires c κs = search (needs, put-ready)
 
 add-result : tie.Need-add-result
 add-result c = search (needs, put-fits)
@@ -32,11 +29,10 @@ pub put-record-spec : {M : Type 1} → statement M
 put-record-spec =
     tie.close
     (tie.spec
-    sub-write-record
-    part-write-record-start
-    part-write-record-end
-    write-record-requires
-    length-of-requires
+    sub-lay-record
+    part-lay-record-start
+    part-lay-record-end
+    lay-record-requires
     add-result
     same-length
     returns)

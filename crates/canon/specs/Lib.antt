@@ -1,0 +1,6 @@
+-- What the contracts cite
+pub mod Copy
+pub mod Promise
+-- Laws for the proofs
+pub mod Bridge
+pub mod Copying

@@ -1,0 +1,82 @@
+// A record read into lent tables and written in its canonical form. What was read can be written, so it is measured and laid, and not judged again.
+use read::RecordRead;
+use writer::Written;
+ghost use Rattle.canon.specs.Copying.{Sound, PutRead};
+ghost use Rattle.canon.specs.Promise.{Promise};
+
+// What is answered: the bytes and lines that the record takes and the length of its text, or the first refusal.
+pub enum Copied {
+    Done {
+        taken: usize,
+        lines: usize,
+        length: usize,
+    },
+    Refused {
+        no: u8,
+        line: usize,
+        column: usize,
+    },
+}
+
+// A record of so many bytes and lines that was read, at the front of the room if that suffices.
+fn put_read(
+    taken: usize,
+    lines: usize,
+    atoms: &[i32],
+    bonds: &[i32],
+    n: u32,
+    m: u32,
+    chiral: u32,
+    headers: &[u8],
+    items: &[u8],
+    room: &mut [u8],
+) -> Copied
+    requires { ⌜ Sound (record { atoms = now atoms; bonds = now bonds; n = n; m = m; chiral = chiral; headers = now headers; items = now items }) ⌝ }
+    ensures { λ r. ⌜ PutRead (record { atoms = now (atoms .entry); bonds = now (bonds .entry); n = n; m = m; chiral = chiral; headers = now (headers .entry); items = now (items .entry) }) taken lines (now (room .entry)) r (now (room .exit)) ⌝ }
+{
+    match writer::judge_parts(atoms, n, m, headers, items, room.len()) {
+        Written::Done { length: _ } => Copied::Done {
+            taken,
+            lines,
+            length: writer::lay_record(atoms, bonds, n, m, chiral, headers, items, room),
+        },
+        Written::Refused { no, line, column } => Copied::Refused { no, line, column },
+    }
+}
+
+// The record at the front of a text, in its canonical form at the front of the room: kind 0 is a molfile, kind 1 an SDfile. The tables are left as
+// `read_record` leaves them; after a refusal nothing is written.
+pub fn copy_record(
+    kind: u8,
+    s: &[u8],
+    atoms: &mut [i32],
+    bonds: &mut [i32],
+    room: &mut [u8],
+) -> Copied
+    ensures { λ r. ⌜ Promise kind (now (s .entry)) (now (atoms .entry)) (now (bonds .entry)) (now (room .entry)) r (now (atoms .exit)) (now (bonds .exit)) (now (room .exit)) ⌝ }
+{
+    match read::read_record(kind, s, atoms, bonds) {
+        RecordRead::Read {
+            n,
+            m,
+            chiral,
+            length,
+            lines,
+            header_end,
+            items_start,
+            items_end,
+        } => put_read(
+            length,
+            lines,
+            atoms,
+            bonds,
+            n,
+            m,
+            chiral,
+            &s[0..header_end],
+            &s[items_start..items_end],
+            room,
+        ),
+        RecordRead::Refused { no, line, column } => Copied::Refused { no, line, column },
+    }
+}
