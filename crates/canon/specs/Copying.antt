@@ -16,7 +16,7 @@ use Rattle.judge.specs.WalkText.{afterLines}
 use Rattle.walk.specs.Outcome.{Outcome, whole, refused, outcomeOf}
 use Rattle.walk.specs.Walked.{walkedBy}
 use Rattle.put.specs.Laid.{Laid}
-use Rattle.put.specs.Body.{bodySize}
+use Rattle.molecule.specs.Body.{bodySize}
 use Rattle.part_judge.specs.Part.{PartVerdict, good}
 use Rattle.part_judge.specs.Written.{writtenHeaders, writtenItems}
 use Rattle.read.specs.declared.RecordRead.{RecordRead}

@@ -21,7 +21,7 @@ use Rattle.judge.specs.Place.{sdfile}
 use Rattle.judge.specs.One.{One, oneRecord}
 use Rattle.judge.specs.WalkText.{afterLines}
 use Rattle.walk.specs.Outcome.{Outcome, whole, refused, ofOne, outcomeOf}
-use Rattle.put.specs.Body.{bodySize}
+use Rattle.molecule.specs.Body.{bodySize}
 use Rattle.part_judge.specs.Part.{good}
 use Rattle.part_judge.specs.Written.{textOf, writtenHeaders, writtenItems, headersText, itemsText}
 use Rattle.part_judge.specs.PartAgree.{good-headers, good-items}

@@ -17,8 +17,8 @@ use Rattle.rules.specs.Write.{closeText, itemsLines, moleculeLines, recordLines
 use Rattle.rules.specs.Canon.{canon, Writable}
 use Rattle.put.specs.Laid.{Laid, laid-sets, laid-join}
 use Rattle.put.specs.Lines.{WritableAtoms}
-use Rattle.put.specs.Body.{bodyLines, molecule-lines, bodyText, body-any, bodySize}
-use Rattle.put.specs.Sizes.{body-length}
+use Rattle.molecule.specs.Body.{bodyLines, molecule-lines, bodyText, body-any, bodySize}
+use Rattle.molecule.specs.Sizes.{body-length}
 use Rattle.part_judge.specs.Part.{PartVerdict, good, refused, headersVerdict, itemsVerdict}
 use Rattle.part_judge.specs.Written.{headersText, itemLines, itemsText, mapGood, textOf, writtenHeaders, writtenItems}
 use Rattle.parts.specs.Step.{judged}

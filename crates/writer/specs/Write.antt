@@ -11,7 +11,7 @@ use Rattle.text.specs.Written.{text}
 use Rattle.rules.specs.Record.{Headers, Item, limit}
 use Rattle.rules.specs.Meaning.{Reading}
 use Rattle.rules.specs.Canon.{canonLines}
-use Rattle.put.specs.Body.{readingOf}
+use Rattle.molecule.specs.Body.{readingOf}
 use Rattle.part_judge.specs.Part.{PartVerdict, good, refused, headersVerdict, itemsVerdict}
 use Rattle.writable.specs.Tables.{writableTables}
 use Rattle.writer.specs.declared.Written.{Written}

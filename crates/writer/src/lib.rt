@@ -5,7 +5,7 @@ ghost use Prim.Native.Nat.{_+_, _*_, _≤_};
 ghost use lib.ListN.{length};
 ghost use Rattle.rules.specs.Record.{limit};
 ghost use Rattle.put.specs.Laid.{Laid};
-ghost use Rattle.put.specs.Body.{bodySize};
+ghost use Rattle.molecule.specs.Body.{bodySize};
 ghost use Rattle.part_judge.specs.Written.{writtenHeaders, writtenItems};
 ghost use Rattle.writer.specs.Write.{writeOf};
 ghost use Rattle.writer.specs.Measure.{sized, afterItems, afterHeaders, recordText, Ready, closeLine};
@@ -61,7 +61,7 @@ fn judge_tail(atoms: &[i32], n: u32, m: u32, items: &[u8], headers: usize, room:
 {
     match parts::judge_items(items) {
         PartJudged::Good { size } => {
-            measured(room, headers, put::molecule_size(atoms, n, m), size)
+            measured(room, headers, molecule::molecule_size(atoms, n, m), size)
         }
         PartJudged::Refused { no, line, column } => Written::Refused { no, line, column },
     }
@@ -150,7 +150,7 @@ pub fn lay_record(
     ensures { λ r. ⌜ Laid (now (room .entry)) (now (room .exit)) 0 (recordText (record { atoms = now (atoms .entry); bonds = now (bonds .entry); n = n; m = m; chiral = chiral; headers = now (headers .entry); items = now (items .entry) })) r ⌝ }
 {
     let a = put_parts::put_headers(headers, room, 0);
-    let b = put::put_molecule(room, a, atoms, bonds, n, m, chiral);
+    let b = molecule::put_molecule(room, a, atoms, bonds, n, m, chiral);
     let c = put_parts::put_items(items, room, b);
     put_close(room, c)
 }
