@@ -1,9 +1,9 @@
 // The records of an accepted file, written one after the other. The file is read twice and judged first, so nothing of a refused one is written.
 mod record;
 
+use canon::Copied;
 use json::Reading;
 use read::RecordRead;
-use record::Put;
 pub use record::Task;
 use stream::Filled;
 use stream::Out;
@@ -35,14 +35,14 @@ fn plus(a: usize, b: usize) -> usize {
     a + b
 }
 
-// The pass behind a record, with its output.
-fn behind(pass: Pass, r: Reading, lines: usize, out: Out) -> Stepped {
+// The pass behind a record of so many bytes and lines, with its output.
+fn behind(pass: Pass, length: usize, lines: usize, out: Out) -> Stepped {
     if out.good {
         return Stepped::Next(Pass {
-            at: plus(pass.at, r.length),
+            at: plus(pass.at, length),
             filled: pass.filled,
             ended: pass.ended,
-            records: r.record,
+            records: plus(pass.records, 1),
             lines: plus(pass.lines, lines),
             out,
         });
@@ -50,17 +50,13 @@ fn behind(pass: Pass, r: Reading, lines: usize, out: Out) -> Stepped {
     Stepped::Failed(Verdict::Unwritten)
 }
 
-fn after(pass: Pass, r: Reading, lines: usize, put: Put) -> Stepped {
-    match put {
-        Put::Done(out) => behind(pass, r, lines, out),
-        Put::Short => Stepped::Failed(Verdict::NoRoom),
-    }
-}
-
-// What was accepted at the first reading is only cut short by the buffer.
+// What was accepted at the first reading is only cut short by the buffer, or too long for the room.
 fn refused(no: u8) -> Stepped {
     if no == 19 {
         return Stepped::Short;
+    }
+    if no == 20 {
+        return Stepped::Failed(Verdict::NoRoom);
     }
     Stepped::Failed(Verdict::Changed)
 }
@@ -69,8 +65,8 @@ fn kind_of(sd: bool) -> u8 {
     if sd { 1 } else { 0 }
 }
 
-// The record at the front of s, read and written.
-fn take_front(
+// The record at the front of s, read and written as JSON, all of it or an item.
+fn print_front(
     task: Task,
     sd: bool,
     item: &[u8],
@@ -102,14 +98,65 @@ fn take_front(
                 items_start,
                 items_end,
             };
-            let put = record::put_record(task, pass.out, room, s, r, item, atoms, bonds);
-            after(pass, r, lines, put)
+            let out = record::put_record(task, pass.out, room, s, r, item, atoms, bonds);
+            behind(pass, length, lines, out)
         }
         RecordRead::Refused {
             no,
             line: _,
             column: _,
         } => refused(no),
+    }
+}
+
+// The pass behind a record that was copied after this output.
+fn after_copy(pass: Pass, out: Out, room: &[u8], copied: Copied) -> Stepped {
+    match copied {
+        Copied::Done {
+            taken,
+            lines,
+            length,
+        } => behind(pass, taken, lines, out.more(room, length)),
+        Copied::Refused {
+            no,
+            line: _,
+            column: _,
+        } => refused(no),
+    }
+}
+
+// The record at the front of s, copied. Where what remains of the room does not suffice, it is written out first.
+fn copy_front(
+    sd: bool,
+    s: &[u8],
+    room: &mut [u8],
+    atoms: &mut [i32],
+    bonds: &mut [i32],
+    pass: Pass,
+) -> Stepped {
+    let out = pass.out;
+    let copied = record::copy_after(out, room, kind_of(sd), s, atoms, bonds);
+    if record::is_short(copied) {
+        let flushed = out.flush(room);
+        let again = record::copy_after(flushed, room, kind_of(sd), s, atoms, bonds);
+        return after_copy(pass, flushed, room, again);
+    }
+    after_copy(pass, out, room, copied)
+}
+
+fn take_front(
+    task: Task,
+    sd: bool,
+    item: &[u8],
+    s: &[u8],
+    room: &mut [u8],
+    atoms: &mut [i32],
+    bonds: &mut [i32],
+    pass: Pass,
+) -> Stepped {
+    match task {
+        Task::Canon => copy_front(sd, s, room, atoms, bonds, pass),
+        _ => print_front(task, sd, item, s, room, atoms, bonds, pass),
     }
 }
 

@@ -1,20 +1,14 @@
 // What is written of one record.
+use canon::Copied;
 use fetch::Found;
 use json::Reading;
 use stream::Out;
-use writer::Written;
 
 // Every record as JSON; the item of a name; the canonical text.
 pub enum Task {
     Readings,
     Item,
     Canon,
-}
-
-// The output after a record, unless there was no room for its text.
-pub enum Put {
-    Done(Out),
-    Short,
 }
 
 fn put_item(out: Out, room: &mut [u8], s: &[u8], r: Reading, item: &[u8]) -> Out {
@@ -28,49 +22,7 @@ fn put_item(out: Out, room: &mut [u8], s: &[u8], r: Reading, item: &[u8]) -> Out
     }
 }
 
-// The canonical text, into what remains of the room.
-fn put_canon_after(
-    out: Out,
-    room: &mut [u8],
-    s: &[u8],
-    r: Reading,
-    atoms: &[i32],
-    bonds: &[i32],
-) -> Put {
-    let used = out.used;
-    if room.len() < used {
-        return Put::Short;
-    }
-    let headers = json::part(s, 0, r.header_end);
-    let items = json::part(s, r.items_start, r.items_end);
-    match writer::write_record(
-        atoms,
-        bonds,
-        r.n,
-        r.m,
-        r.chiral,
-        headers,
-        items,
-        &mut room[used..],
-    ) {
-        Written::Done { length } => Put::Done(out.more(room, length)),
-        Written::Refused {
-            no: _,
-            line: _,
-            column: _,
-        } => Put::Short,
-    }
-}
-
-// Where what remains does not suffice, the room is written out first.
-fn put_canon(out: Out, room: &mut [u8], s: &[u8], r: Reading, atoms: &[i32], bonds: &[i32]) -> Put {
-    match put_canon_after(out, room, s, r, atoms, bonds) {
-        Put::Done(o) => Put::Done(o),
-        Put::Short => put_canon_after(out.flush(room), room, s, r, atoms, bonds),
-    }
-}
-
-// A record that stands at the front of s.
+// A record that was read, and stands at the front of s.
 pub fn put_record(
     task: Task,
     out: Out,
@@ -80,10 +32,45 @@ pub fn put_record(
     item: &[u8],
     atoms: &[i32],
     bonds: &[i32],
-) -> Put {
+) -> Out {
     match task {
-        Task::Readings => Put::Done(json::put_record(out, room, s, r, atoms, bonds)),
-        Task::Item => Put::Done(put_item(out, room, s, r, item)),
-        Task::Canon => put_canon(out, room, s, r, atoms, bonds),
+        Task::Item => put_item(out, room, s, r, item),
+        _ => json::put_record(out, room, s, r, atoms, bonds),
+    }
+}
+
+// The record at the front of s in its canonical form, into what remains of the room.
+pub fn copy_after(
+    out: Out,
+    room: &mut [u8],
+    kind: u8,
+    s: &[u8],
+    atoms: &mut [i32],
+    bonds: &mut [i32],
+) -> Copied {
+    let used = out.used;
+    if room.len() < used {
+        return Copied::Refused {
+            no: 20,
+            line: 0,
+            column: 0,
+        };
+    }
+    canon::copy_record(kind, s, atoms, bonds, &mut room[used..])
+}
+
+// Whether there was no room for its text.
+pub fn is_short(copied: Copied) -> bool {
+    match copied {
+        Copied::Done {
+            taken: _,
+            lines: _,
+            length: _,
+        } => false,
+        Copied::Refused {
+            no,
+            line: _,
+            column: _,
+        } => no == 20,
     }
 }
