@@ -27,7 +27,7 @@ use Rattle.read.specs.Read.{answered, rowsIn}
 use Rattle.read.specs.Promise.{Reply, Said, accepted, refused, Begins, Told, Reads, Roomy}
 use Rattle.read.specs.Told.{told-reply, begins-told, begins-outcome}
 use Rattle.writer.specs.Write.{Given}
-use Rattle.writer.specs.Promise.{HeadersIn, ItemsIn, Accepted}
+use Rattle.writer.specs.Promise.{Accepted}
 
 -- ---- The tables
 

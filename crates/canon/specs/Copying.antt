@@ -1,7 +1,7 @@
 -- A record read and then written: laws for the code.
-use Prim.Native.Nat.{ℕ, _-_, _*_, _≤_}
+use Prim.Native.Nat.{ℕ, _*_, _≤_}
 use native.Mathlib.Omega.{arith}
-use mathlib.Core.Path.{_≡_, refl, sym, ap, ap₂, _∙_, subst}
+use mathlib.Core.Path.{_≡_, refl, sym, ap, _∙_, subst}
 use mathlib.Core.List.{List}
 use mathlib.Core.Bool.{Bool, true, false, cond}
 use lib.Dec.{leb}
@@ -12,26 +12,25 @@ use Rattle.rules.specs.Record.{limit}
 use Rattle.rules.specs.Meaning.{Reading, meaning}
 use Rattle.rules.specs.Canon.{Writable}
 use Rattle.judge.specs.Place.{FileKind}
-use Rattle.judge.specs.WalkText.{afterLines}
 use Rattle.walk.specs.Outcome.{Outcome, whole, refused, outcomeOf}
-use Rattle.walk.specs.Walked.{walkedBy}
 use Rattle.put.specs.Laid.{Laid}
 use Rattle.molecule.specs.Body.{bodySize}
-use Rattle.part_judge.specs.Part.{PartVerdict, good}
+use Rattle.part_judge.specs.Part.{good}
 use Rattle.part_judge.specs.Written.{writtenHeaders, writtenItems}
 use Rattle.read.specs.declared.RecordRead.{RecordRead}
-use Rattle.read.specs.Read.{answered, readOf, atomsAfter, bondsAfter}
-use Rattle.read.specs.Promise.{Said, numbersOf, Roomy, Reads, kindNumber, ReadPromise}
+use Rattle.read.specs.Read.{readOf, atomsAfter, bondsAfter}
+use Rattle.read.specs.Promise.{numbersOf, Roomy, Reads, kindNumber, ReadPromise}
 use Rattle.writable.specs.Tables.{writableTables}
 use Rattle.writer.specs.declared.Written.{Written}
 use Rattle.writer.specs.Write as W
 use Rattle.writer.specs.Write.{Given, canonText, demand, textFor, writeOf}
 use Rattle.writer.specs.Measure.{tables-agree, judged-parts, afterHeaders, recordText, Ready, ready-by}
 use Rattle.writer.specs.Promise as WP
-use Rattle.writer.specs.Promise.{Accepted, record-agrees, promise-done, promise-refused}
+use Rattle.writer.specs.Promise.{Accepted, record-agrees, promise-done, promise-refused, accepted-ready, accepted-laid}
 use Rattle.canon.specs.declared.Copied.{Copied}
 use Rattle.canon.specs.Copy.{textOf, fitting, copyFor, answerBy, roomBy, copyOf, roomAfter}
 use Rattle.canon.specs.Promise.{Promise, Seen, seen, seen-walked, promise}
+use Rattle.canon.specs.Most.{copy-most, surely, surely-enough}
 use Rattle.canon.specs.Bridge.{same-refused, walked-refused, givenOf, Front, front}
 
 -- ---- What was read is measured and laid
@@ -78,6 +77,20 @@ module _ (g : Given) (s : Sound g) (taken lines : ℕ) (r₀ : Bytes) (j : Writt
   pub sound-refused : (n line column : ℕ) → j ≡ Written.Refused n line column → PutRead g taken lines r₀ (Copied.Refused n line column) r₀
   sound-refused n line column h =
       record { w = Written.Refused n line column; said = refl; written = promise-refused g r₀ j n line column (sound-judged g s (length r₀) j e) h }
+
+-- ---- Room that surely suffices
+
+module _ (g : Given) (s : Sound g) (k : ℕ) (t : Bool) (e : t ≡ surely (length (g .headers)) (length (g .items)) k) (h : t ≡ true) where
+  sure-fits : length (canonText (s .x)) ≤ k
+  sure-fits = omega (arith, copy-most g (s .x) (s .accepted), surely-enough (length (g .headers)) (length (g .items)) k (sym e ∙ h))
+
+  pub sure-ready : Ready g k
+  sure-ready = accepted-ready g (s .x) (s .accepted) k sure-fits
+
+pub sure-done : (g : Given) → Sound g → (taken lines : ℕ) (r₀ : Bytes) (t : Bool) → t ≡ surely (length (g .headers)) (length (g .items)) (length r₀) → t ≡ true →
+    (r : Bytes) (v : ℕ) → Laid r₀ r 0 (recordText g) v → PutRead g taken lines r₀ (Copied.Done taken lines v) r
+sure-done g s taken lines r₀ t e h r v p =
+    record { w = Written.Done v; said = refl; written = accepted-laid g (s .x) (s .accepted) r₀ r v (sure-fits g s (length r₀) t e h) p }
 
 -- ---- A reading that was accepted, or refused
 

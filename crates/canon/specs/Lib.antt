@@ -3,4 +3,5 @@ pub mod Copy
 pub mod Promise
 -- Laws for the proofs
 pub mod Bridge
+pub mod Most
 pub mod Copying

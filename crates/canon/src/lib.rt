@@ -1,6 +1,8 @@
-// A record read into lent tables and written in its canonical form. What was read can be written, so it is measured and laid, and not judged again.
+// A record read into lent tables and written in its canonical form. What was read can be written, so it is laid, and not judged again.
 use read::RecordRead;
 use writer::Written;
+ghost use mathlib.Core.Path.{_≡_};
+ghost use Rattle.canon.specs.Most.{surely};
 ghost use Rattle.canon.specs.Copying.{Sound, PutRead};
 ghost use Rattle.canon.specs.Promise.{Promise};
 
@@ -18,8 +20,30 @@ pub enum Copied {
     },
 }
 
-// A record of so many bytes and lines that was read, at the front of the room if that suffices.
-fn put_read(
+// The lines of 255 atoms and 255 bonds with the longest property lines, `M  END`, and the line that ends the record.
+const MOST: usize = 30592;
+
+// Whether room surely suffices for good header lines and items of so many bytes: items are written in at most twice their bytes.
+fn suffices(headers: usize, items: usize, room: usize) -> bool
+    ensures { λ r. ⌜ r ≡ surely headers items room ⌝ }
+{
+    if room < MOST {
+        return false;
+    }
+    if room - MOST < headers {
+        return false;
+    }
+    if room - MOST - headers < items {
+        return false;
+    }
+    if room - MOST - headers - items < items {
+        return false;
+    }
+    true
+}
+
+// A record of so many bytes and lines that was read, at the front of the room if its text, measured, fits.
+fn put_measured(
     taken: usize,
     lines: usize,
     atoms: &[i32],
@@ -42,6 +66,43 @@ fn put_read(
         },
         Written::Refused { no, line, column } => Copied::Refused { no, line, column },
     }
+}
+
+// The same, measured only where the room might not suffice.
+fn put_read(
+    taken: usize,
+    lines: usize,
+    atoms: &[i32],
+    bonds: &[i32],
+    n: u32,
+    m: u32,
+    chiral: u32,
+    headers: &[u8],
+    items: &[u8],
+    room: &mut [u8],
+) -> Copied
+    requires { ⌜ Sound (record { atoms = now atoms; bonds = now bonds; n = n; m = m; chiral = chiral; headers = now headers; items = now items }) ⌝ }
+    ensures { λ r. ⌜ PutRead (record { atoms = now (atoms .entry); bonds = now (bonds .entry); n = n; m = m; chiral = chiral; headers = now (headers .entry); items = now (items .entry) }) taken lines (now (room .entry)) r (now (room .exit)) ⌝ }
+{
+    if suffices(headers.len(), items.len(), room.len()) {
+        return Copied::Done {
+            taken,
+            lines,
+            length: writer::lay_record(atoms, bonds, n, m, chiral, headers, items, room),
+        };
+    }
+    put_measured(
+        taken,
+        lines,
+        atoms,
+        bonds,
+        n,
+        m,
+        chiral,
+        headers,
+        items,
+        room,
+    )
 }
 
 // The record at the front of a text, in its canonical form at the front of the room: kind 0 is a molfile, kind 1 an SDfile. The tables are left as

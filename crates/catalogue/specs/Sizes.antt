@@ -10,17 +10,15 @@ use lib.IntN.{ℤ}
 use mir.Syntax.{w64}
 use mir.Val.{Fits}
 use borrow.Author.Tests.{leb-true, leb-false, le-leb, lt-leb}
-use Rattle.text.specs.Text.{Bytes, Line}
+use Rattle.text.specs.Text.{Bytes}
 use Rattle.text.specs.Written.{text, text-append}
-use Rattle.text.specs.Cut.{cut}
 use Rattle.rules.specs.Record.{Raw, limit}
 use Rattle.rules.specs.Meaning.{Reading, meaning}
 use Rattle.rules.specs.Write.{fileLines}
 use Rattle.rules.specs.Canon.{canonLines, canonFile}
 use Rattle.judge.specs.Place.{sdfile}
-use Rattle.judge.specs.One.{One, oneRecord}
 use Rattle.judge.specs.WalkText.{afterLines}
-use Rattle.walk.specs.Outcome.{Outcome, whole, refused, ofOne, outcomeOf}
+use Rattle.walk.specs.Outcome.{Outcome, whole, refused, outcomeOf}
 use Rattle.molecule.specs.Body.{bodySize}
 use Rattle.part_judge.specs.Part.{good}
 use Rattle.part_judge.specs.Written.{textOf, writtenHeaders, writtenItems, headersText, itemsText}

@@ -1,38 +1,38 @@
 -- `canon::put_read` meets its contract.
 use borrow.Author.Needs.{needs}
-use Rattle.canon.specs.Copying.{sound-small, sound-ready, sound-done, sound-refused}
+use Rattle.canon.specs.Copying.{sure-ready, sure-done}
 use Rattle.canon.proofs.put_read.Statement.{statement}
 use Rattle.canon.proofs.put_read.Tie as tie
 
-judge-parts-requires : tie.Need-judge-parts-requires
-judge-parts-requires c κs = search (needs, sound-small)
-
-enum-told : tie.Need-enum-told
-enum-told c = search needs
+suffices-requires : tie.Need-suffices-requires
+suffices-requires c κs = search needs
 
 lay-record-requires : tie.Need-lay-record-requires
-lay-record-requires c κs = search (needs, sound-ready)
-
-enum-known-no : tie.Need-enum-known-no
-enum-known-no c = search needs
+lay-record-requires c κs = search (needs, sure-ready)
 
 same-length : tie.Need-same-length
 same-length c = search needs
 
 returns : tie.Need-returns
-returns c = search (needs, sound-done)
+returns c = search (needs, sure-done)
+
+put-measured-requires : tie.Need-put-measured-requires
+put-measured-requires c κs = search needs
+
+same-length-2 : tie.Need-same-length-2
+same-length-2 c = search needs
 
 returns-2 : tie.Need-returns-2
-returns-2 c = search (needs, sound-refused)
+returns-2 c = search needs
 
 pub put-read-spec : {M : Type 1} → statement M
 put-read-spec =
     tie.close
     (tie.spec
-    judge-parts-requires
-    enum-told
+    suffices-requires
     lay-record-requires
-    enum-known-no
     same-length
     returns
+    put-measured-requires
+    same-length-2
     returns-2)
