@@ -2,10 +2,10 @@
 mod listing;
 mod strings;
 
+use json_rows::ATOM;
+use json_rows::BOND;
+use json_rows::ROW;
 use listing::put_items;
-use rows::ATOM;
-use rows::BOND;
-use rows::ROW;
 use stream::Out;
 use strings::put_string;
 use text::LineAt;
@@ -24,7 +24,7 @@ fn put_atom(out: Out, room: &mut [u8], atoms: &[i32], i: usize) -> Out {
     let at = ready.used;
     if stream::has_more(room.len(), at, ROW) {
         if stream::has_more(atoms.len(), i, ATOM) {
-            return ready.to(rows::put_atom(room, at, atoms, i));
+            return ready.to(json_rows::put_atom(room, at, atoms, i));
         }
     }
     ready.failed()
@@ -35,7 +35,7 @@ fn put_bond(out: Out, room: &mut [u8], bonds: &[i32], i: usize) -> Out {
     let at = ready.used;
     if stream::has_more(room.len(), at, ROW) {
         if stream::has_more(bonds.len(), i, BOND) {
-            return ready.to(rows::put_bond(room, at, bonds, i));
+            return ready.to(json_rows::put_bond(room, at, bonds, i));
         }
     }
     ready.failed()

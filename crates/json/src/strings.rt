@@ -21,10 +21,10 @@ fn put_inner(room: &mut [u8], at: usize, b: u8) -> usize
     ensures { λ r. ⌜ r ≤ at + 2 ⌝ }
 {
     if is_special(b) {
-        let escaped = rows::put_byte(room, at, b'\\');
-        return rows::put_byte(room, escaped, b);
+        let escaped = json_rows::put_byte(room, at, b'\\');
+        return json_rows::put_byte(room, escaped, b);
     }
-    rows::put_byte(room, at, b)
+    json_rows::put_byte(room, at, b)
 }
 
 fn put_all_inner(room: &mut [u8], at: usize, s: &[u8]) -> usize
@@ -45,9 +45,9 @@ fn put_quoted(room: &mut [u8], at: usize, s: &[u8]) -> usize
     requires { ⌜ (length (now s) ≤ 200) × (at + 402 ≤ length (now room)) ⌝ }
     ensures { λ r. ⌜ r ≤ at + 402 ⌝ }
 {
-    let opened = rows::put_byte(room, at, b'"');
+    let opened = json_rows::put_byte(room, at, b'"');
     let behind = put_all_inner(room, opened, s);
-    rows::put_byte(room, behind, b'"')
+    json_rows::put_byte(room, behind, b'"')
 }
 
 // One byte of a string.

@@ -2,8 +2,8 @@ use Prim.Native.Nat.{_-_, _≤_}
 use mathlib.Core.Path.{_≡_}
 use lib.ListN.{length}
 use borrow.Author.Needs.{needs}
-use Rattle.rows.proofs.put_bytes.Statement.{statement}
-use Rattle.rows.proofs.put_bytes.Tie as tie
+use Rattle.json_rows.proofs.put_bytes.Statement.{statement}
+use Rattle.json_rows.proofs.put_bytes.Tie as tie
 
 abbrev Inv-loop : tie.InvT-loop
 Inv-loop room₀ at src i₀ room i = (length room ≡ length room₀) × (i ≤ length src)

@@ -1,7 +1,7 @@
 use Prim.Native.Nat.{_-_, _≤_}
 use borrow.Author.Needs.{needs}
-use Rattle.rows.proofs.any_number.Statement.{statement}
-use Rattle.rows.proofs.any_number.Tie as tie
+use Rattle.json_rows.proofs.any_number.Statement.{statement}
+use Rattle.json_rows.proofs.any_number.Tie as tie
 
 abbrev Inv-loop : tie.InvT-loop
 Inv-loop table i e w₀ k₀ w k = i ≤ k

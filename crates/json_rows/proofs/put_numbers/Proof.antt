@@ -2,8 +2,8 @@ use Prim.Native.Nat.{_+_, _-_, _*_, _≤_}
 use mathlib.Core.Path.{_≡_}
 use lib.ListN.{length}
 use borrow.Author.Needs.{needs}
-use Rattle.rows.proofs.put_numbers.Statement.{statement}
-use Rattle.rows.proofs.put_numbers.Tie as tie
+use Rattle.json_rows.proofs.put_numbers.Statement.{statement}
+use Rattle.json_rows.proofs.put_numbers.Tie as tie
 
 abbrev Inv-loop : tie.InvT-loop
 Inv-loop room₀ at table i e k₀ a₀ room k a = (length room ≡ length room₀) × ((k ≤ e) × (a + 14 * (e - k) ≤ at + 14 * (e - i)))
