@@ -1,41 +1,14 @@
 // The reading of a record as JSON, gathered for a descriptor.
 mod listing;
+mod strings;
 
+use json_rows::ATOM;
+use json_rows::BOND;
+use json_rows::ROW;
 use listing::put_items;
 use stream::Out;
+use strings::put_string;
 use text::LineAt;
-
-// Numbers of an atom, and of a bond.
-const ATOM: usize = 16;
-
-const BOND: usize = 6;
-
-// One byte of a string.
-fn put_escaped(out: Out, room: &mut [u8], b: u8) -> Out {
-    if b == b'"' {
-        return out.byte(room, b'\\').byte(room, b);
-    }
-    if b == b'\\' {
-        return out.byte(room, b'\\').byte(room, b);
-    }
-    out.byte(room, b)
-}
-
-fn put_all_escaped(out: Out, room: &mut [u8], s: &[u8]) -> Out {
-    let mut next = out;
-    let mut i: usize = 0;
-    while i < s.len() {
-        next = put_escaped(next, room, s[i]);
-        i += 1;
-    }
-    next
-}
-
-// A string of bytes that lines may hold.
-pub fn put_string(out: Out, room: &mut [u8], s: &[u8]) -> Out {
-    let opened = out.byte(room, b'"');
-    put_all_escaped(opened, room, s).byte(room, b'"')
-}
 
 // What stands before all but the first of a list.
 pub fn put_comma(out: Out, room: &mut [u8], first: bool) -> Out {
@@ -45,109 +18,34 @@ pub fn put_comma(out: Out, room: &mut [u8], first: bool) -> Out {
     out.byte(room, b',')
 }
 
-fn put_unless_space(out: Out, room: &mut [u8], b: u8) -> Out {
-    if b == b' ' {
-        return out;
+// An atom's row. The output fails where the room or the table is too short for one.
+fn put_atom(out: Out, room: &mut [u8], atoms: &[i32], i: usize) -> Out {
+    let ready = out.clear(room, ROW);
+    let at = ready.used;
+    if stream::has_more(room.len(), at, ROW) {
+        if stream::has_more(atoms.len(), i, ATOM) {
+            return ready.to(json_rows::put_atom(room, at, atoms, i));
+        }
     }
-    out.byte(room, b)
+    ready.failed()
 }
 
-// The bytes of a padded word that are not spaces.
-fn put_word(out: Out, room: &mut [u8], s: &[u8]) -> Out {
-    let mut next = out;
-    let mut i: usize = 0;
-    while i < s.len() {
-        next = put_unless_space(next, room, s[i]);
-        i += 1;
+fn put_bond(out: Out, room: &mut [u8], bonds: &[i32], i: usize) -> Out {
+    let ready = out.clear(room, ROW);
+    let at = ready.used;
+    if stream::has_more(room.len(), at, ROW) {
+        if stream::has_more(bonds.len(), i, BOND) {
+            return ready.to(json_rows::put_bond(room, at, bonds, i));
+        }
     }
-    next
-}
-
-// A number without its sign.
-fn size_of(v: i32) -> u32 {
-    if v < 0 {
-        return (-1 - v) as u32 + 1;
-    }
-    v as u32
-}
-
-// A number of a table. Most are of one digit, which is put at once.
-fn put_signed(out: Out, room: &mut [u8], v: i32) -> Out {
-    let k = size_of(v);
-    if v < 0 {
-        return out.byte(room, b'-').number(room, k as u64);
-    }
-    if k < 10 {
-        return out.byte(room, 48 + (k % 10) as u8);
-    }
-    out.number(room, k as u64)
-}
-
-// The symbol of this number; nothing where no symbol has it.
-fn put_symbol(out: Out, room: &mut [u8], k: u32) -> Out {
-    if k < 1 {
-        return out;
-    }
-    if 122 < k {
-        return out;
-    }
-    let mut name = [0u8; 3];
-    symbols::put_symbol(&mut name, 0, k);
-    put_word(out, room, &name)
-}
-
-// A number of a table; 0 past its end.
-fn entry(table: &[i32], i: usize) -> i32 {
-    if i < table.len() {
-        return table[i];
-    }
-    0
-}
-
-// Numbers `from` to before `to` of a table, with commas between them.
-fn put_numbers(out: Out, room: &mut [u8], table: &[i32], from: usize, to: usize) -> Out {
-    let mut next = out;
-    let mut i = from;
-    while i < to {
-        next = put_signed(put_comma(next, room, i == from), room, entry(table, i));
-        i += 1;
-    }
-    next
-}
-
-// The symbol of an atom as text, between its other numbers.
-fn put_element(out: Out, room: &mut [u8], k: u32) -> Out {
-    put_symbol(out.bytes(room, b",\""), room, k).bytes(room, b"\",")
-}
-
-// A row of 16 numbers, with the symbol as text.
-fn put_atom(out: Out, room: &mut [u8], row: &[i32]) -> Out {
-    let placed = put_numbers(out.byte(room, b'['), room, row, 0, 3);
-    let named = put_element(placed, room, size_of(entry(row, 3)));
-    put_numbers(named, room, row, 4, ATOM).byte(room, b']')
-}
-
-fn put_bond(out: Out, room: &mut [u8], row: &[i32]) -> Out {
-    put_numbers(out.byte(room, b'['), room, row, 0, BOND).byte(room, b']')
-}
-
-// A row of a table; a short one past its end.
-fn row_at(table: &[i32], at: usize) -> &[i32] {
-    if at < table.len() {
-        return &table[at..];
-    }
-    &table[0..0]
+    ready.failed()
 }
 
 fn put_atoms(out: Out, room: &mut [u8], atoms: &[i32], n: u32) -> Out {
     let mut next = out;
     let mut i: u32 = 0;
     while i < n {
-        next = put_atom(
-            put_comma(next, room, i == 0),
-            room,
-            row_at(atoms, ATOM * (i as usize)),
-        );
+        next = put_atom(next, room, atoms, ATOM * (i as usize));
         i += 1;
     }
     next
@@ -157,11 +55,7 @@ fn put_bonds(out: Out, room: &mut [u8], bonds: &[i32], m: u32) -> Out {
     let mut next = out;
     let mut i: u32 = 0;
     while i < m {
-        next = put_bond(
-            put_comma(next, room, i == 0),
-            room,
-            row_at(bonds, BOND * (i as usize)),
-        );
+        next = put_bond(next, room, bonds, BOND * (i as usize));
         i += 1;
     }
     next

@@ -1,7 +1,7 @@
 // Items as JSON: name and value lines of each.
 use crate::part;
 use crate::put_comma;
-use crate::put_string;
+use crate::strings::put_string;
 use items::ItemRead;
 use items::ValueRead;
 use stream::Out;

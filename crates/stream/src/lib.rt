@@ -1,6 +1,7 @@
 // Input and output of the programs: a buffer filled from a descriptor, text gathered and written.
 ghost use mathlib.Core.Path.{_≡_};
-ghost use Prim.Native.Nat.{_-_, _<_, _≤_};
+ghost use mathlib.Core.Bool.{true};
+ghost use Prim.Native.Nat.{_+_, _-_, _<_, _≤_};
 ghost use lib.ListN.{length};
 ghost use Rattle.stream.specs.Moved.{moved};
 
@@ -110,6 +111,19 @@ pub fn keep(buf: &mut [u8], from: usize, to: usize) -> usize
     move_front(buf, from, buf.len())
 }
 
+// Whether n more stand from `at` on, in so many.
+pub fn has_more(length: usize, at: usize, n: usize) -> bool
+    ensures { λ r. ⌜ (r ≡ true → at + n ≤ length) ⌝ }
+{
+    if length < n {
+        return false;
+    }
+    if length - n < at {
+        return false;
+    }
+    true
+}
+
 // Text gathered in a lent room for a descriptor: how much of the room is filled, and whether all went well so far.
 pub struct Out {
     pub fd: i32,
@@ -135,6 +149,31 @@ impl Out {
                 good: io::write_all(self.fd, front(room, self.used)),
             };
         }
+        Out {
+            fd: self.fd,
+            used: 0,
+            good: false,
+        }
+    }
+
+    // What is gathered is written unless n bytes are left.
+    pub fn clear(self, room: &[u8], n: usize) -> Out {
+        if has_more(room.len(), self.used, n) {
+            return self;
+        }
+        self.flush(room)
+    }
+
+    // The room is filled up to this place.
+    pub fn to(self, used: usize) -> Out {
+        Out {
+            fd: self.fd,
+            used,
+            good: self.good,
+        }
+    }
+
+    pub fn failed(self) -> Out {
         Out {
             fd: self.fd,
             used: 0,

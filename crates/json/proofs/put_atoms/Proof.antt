@@ -14,17 +14,11 @@ abbrev μ-loop : tie.MeasureT-loop
 loop-holds : tie.Need-loop-holds Inv-loop μ-loop
 loop-holds c = search needs
 
-put-comma-requires : tie.Need-put-comma-requires Inv-loop μ-loop
-put-comma-requires c κs = search needs
+cast-put-atom : tie.Need-cast-put-atom Inv-loop μ-loop
+cast-put-atom c = search needs
 
-cast-row-at : tie.Need-cast-row-at Inv-loop μ-loop
-cast-row-at c = search needs
-
-mul-row-at : tie.Need-mul-row-at Inv-loop μ-loop
-mul-row-at c = search needs
-
-row-at-requires : tie.Need-row-at-requires Inv-loop μ-loop
-row-at-requires c κs = search needs
+mul-put-atom : tie.Need-mul-put-atom Inv-loop μ-loop
+mul-put-atom c = search needs
 
 put-atom-requires : tie.Need-put-atom-requires Inv-loop μ-loop
 put-atom-requires c κs = search needs
@@ -51,10 +45,8 @@ put-atoms-spec =
     Inv-loop
     μ-loop
     loop-holds
-    put-comma-requires
-    cast-row-at
-    mul-row-at
-    row-at-requires
+    cast-put-atom
+    mul-put-atom
     put-atom-requires
     add-i
     loop-less

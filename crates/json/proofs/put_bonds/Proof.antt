@@ -14,17 +14,11 @@ abbrev μ-loop : tie.MeasureT-loop
 loop-holds : tie.Need-loop-holds Inv-loop μ-loop
 loop-holds c = search needs
 
-put-comma-requires : tie.Need-put-comma-requires Inv-loop μ-loop
-put-comma-requires c κs = search needs
+cast-put-bond : tie.Need-cast-put-bond Inv-loop μ-loop
+cast-put-bond c = search needs
 
-cast-row-at : tie.Need-cast-row-at Inv-loop μ-loop
-cast-row-at c = search needs
-
-mul-row-at : tie.Need-mul-row-at Inv-loop μ-loop
-mul-row-at c = search needs
-
-row-at-requires : tie.Need-row-at-requires Inv-loop μ-loop
-row-at-requires c κs = search needs
+mul-put-bond : tie.Need-mul-put-bond Inv-loop μ-loop
+mul-put-bond c = search needs
 
 put-bond-requires : tie.Need-put-bond-requires Inv-loop μ-loop
 put-bond-requires c κs = search needs
@@ -51,10 +45,8 @@ put-bonds-spec =
     Inv-loop
     μ-loop
     loop-holds
-    put-comma-requires
-    cast-row-at
-    mul-row-at
-    row-at-requires
+    cast-put-bond
+    mul-put-bond
     put-bond-requires
     add-i
     loop-less

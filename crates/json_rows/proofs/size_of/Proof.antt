@@ -1,7 +1,7 @@
 use Rattle.put.specs.Signs.{size-laws}
 use borrow.Author.Needs.{needs}
-use Rattle.json.proofs.size_of.Statement.{statement}
-use Rattle.json.proofs.size_of.Tie as tie
+use Rattle.json_rows.proofs.size_of.Statement.{statement}
+use Rattle.json_rows.proofs.size_of.Tie as tie
 
 sub-result : tie.Need-sub-result
 sub-result c = search (needs, size-laws)

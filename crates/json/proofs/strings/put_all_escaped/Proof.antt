@@ -2,8 +2,8 @@ use Prim.Native.Nat.{_-_}
 use mathlib.Core.Path.{_≡_}
 use lib.ListN.{length}
 use borrow.Author.Needs.{needs}
-use Rattle.json.proofs.put_word.Statement.{statement}
-use Rattle.json.proofs.put_word.Tie as tie
+use Rattle.json.proofs.strings.put_all_escaped.Statement.{statement}
+use Rattle.json.proofs.strings.put_all_escaped.Tie as tie
 
 abbrev Inv-loop : tie.InvT-loop
 Inv-loop room₀ s next₀ i₀ room next i = length room ≡ length room₀
@@ -14,11 +14,11 @@ abbrev μ-loop : tie.MeasureT-loop
 loop-holds : tie.Need-loop-holds Inv-loop μ-loop
 loop-holds c = search needs
 
-shared-slice-read-put-unless-space : tie.Need-shared-slice-read-put-unless-space Inv-loop μ-loop
-shared-slice-read-put-unless-space c = search needs
+shared-slice-read-put-escaped : tie.Need-shared-slice-read-put-escaped Inv-loop μ-loop
+shared-slice-read-put-escaped c = search needs
 
-put-unless-space-requires : tie.Need-put-unless-space-requires Inv-loop μ-loop
-put-unless-space-requires c κs = search needs
+put-escaped-requires : tie.Need-put-escaped-requires Inv-loop μ-loop
+put-escaped-requires c κs = search needs
 
 add-i : tie.Need-add-i Inv-loop μ-loop
 add-i c = search needs
@@ -35,15 +35,15 @@ same-length c = search needs
 returns : tie.Need-returns Inv-loop μ-loop
 returns c = search needs
 
-pub put-word-spec : {M : Type 1} → statement M
-put-word-spec =
+pub put-all-escaped-spec : {M : Type 1} → statement M
+put-all-escaped-spec =
     tie.close
     (tie.spec
     Inv-loop
     μ-loop
     loop-holds
-    shared-slice-read-put-unless-space
-    put-unless-space-requires
+    shared-slice-read-put-escaped
+    put-escaped-requires
     add-i
     loop-less
     loop-again

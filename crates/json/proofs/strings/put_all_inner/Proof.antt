@@ -1,24 +1,24 @@
-use Prim.Native.Nat.{_-_}
+use Prim.Native.Nat.{_+_, _-_, _*_, _≤_}
 use mathlib.Core.Path.{_≡_}
 use lib.ListN.{length}
 use borrow.Author.Needs.{needs}
-use Rattle.json.proofs.put_all_escaped.Statement.{statement}
-use Rattle.json.proofs.put_all_escaped.Tie as tie
+use Rattle.json.proofs.strings.put_all_inner.Statement.{statement}
+use Rattle.json.proofs.strings.put_all_inner.Tie as tie
 
 abbrev Inv-loop : tie.InvT-loop
-Inv-loop room₀ s next₀ i₀ room next i = length room ≡ length room₀
+Inv-loop room₀ at s a₀ i₀ room a i = (length room ≡ length room₀) × ((i ≤ length s) × (a ≤ at + 2 * i))
 
 abbrev μ-loop : tie.MeasureT-loop
-μ-loop room₀ s next₀ i₀ room next i = length s - i
+μ-loop room₀ at s a₀ i₀ room a i = length s - i
 
 loop-holds : tie.Need-loop-holds Inv-loop μ-loop
 loop-holds c = search needs
 
-shared-slice-read-put-escaped : tie.Need-shared-slice-read-put-escaped Inv-loop μ-loop
-shared-slice-read-put-escaped c = search needs
+shared-slice-read-put-inner : tie.Need-shared-slice-read-put-inner Inv-loop μ-loop
+shared-slice-read-put-inner c = search needs
 
-put-escaped-requires : tie.Need-put-escaped-requires Inv-loop μ-loop
-put-escaped-requires c κs = search needs
+put-inner-requires : tie.Need-put-inner-requires Inv-loop μ-loop
+put-inner-requires c κs = search needs
 
 add-i : tie.Need-add-i Inv-loop μ-loop
 add-i c = search needs
@@ -35,15 +35,15 @@ same-length c = search needs
 returns : tie.Need-returns Inv-loop μ-loop
 returns c = search needs
 
-pub put-all-escaped-spec : {M : Type 1} → statement M
-put-all-escaped-spec =
+pub put-all-inner-spec : {M : Type 1} → statement M
+put-all-inner-spec =
     tie.close
     (tie.spec
     Inv-loop
     μ-loop
     loop-holds
-    shared-slice-read-put-escaped
-    put-escaped-requires
+    shared-slice-read-put-inner
+    put-inner-requires
     add-i
     loop-less
     loop-again
