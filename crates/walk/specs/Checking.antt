@@ -1,4 +1,4 @@
--- The check of a whole text: a molfile is one record, an SDfile is walked record by record, each from the tail where it starts.
+-- What the check of a whole text says, and an SDfile walked record by record, each from the tail where it starts.
 use Prim.Native.Nat.{ℕ, zero, suc, _+_, _-_, _*_, _≤_, _<_, _^_}
 use native.Mathlib.Omega.{arith}
 use mathlib.Core.Path.{_≡_, refl, sym, ap, _∙_, subst}
@@ -11,7 +11,6 @@ use mir.Val.{Fits}
 use Rattle.text.specs.Text.{Bytes, Line}
 use Rattle.text.specs.Cut.{cut}
 use Rattle.rules.specs.Record.{Raw, limit}
-use Rattle.entries.specs.Listed.{places}
 use Rattle.line_judge.specs.Got.{Got, got, bad}
 use Rattle.lines.specs.declared.Counts.{Counts}
 use Rattle.judge.specs.Place.{FileKind, molfile, sdfile, Place, first, Turn, next, done, turnOf}
@@ -19,9 +18,8 @@ use Rattle.judge.specs.Verdict.{Verdict, verdict}
 use Rattle.judge.specs.One.{One, oneFrom, oneRecord}
 use Rattle.judge.specs.OneAgree.{one-refused, one-short}
 use Rattle.judge.specs.WalkText.{afterLines, after-within, fileText, verdict-text, text-end, text-room, text-whole, text-refused, text-short}
-use Rattle.judge.specs.Promise.{accepted-mol}
 use Rattle.walk.specs.declared.Walked.{Walked}
-use Rattle.walk.specs.Outcome.{Outcome, whole, refused, ofOne, ofVerdict, outcomeOf, one-next, one-done, one-bad}
+use Rattle.walk.specs.Outcome.{Outcome, whole, refused, ofOne, outcomeOf, one-next, one-done, one-bad}
 use Rattle.walk.specs.Walked.{walkedBy, walkOf, Left}
 use Rattle.walk.specs.Promise.{Said, accepted, saidBy}
 

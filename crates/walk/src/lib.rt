@@ -1,6 +1,6 @@
 // One record from the front of a text.
 ghost use mathlib.Core.Path.{_≡_};
-ghost use Prim.Native.Nat.{ℕ, _*_, _≤_};
+ghost use Prim.Native.Nat.{_*_, _≤_};
 ghost use lib.ListN.{length};
 ghost use Rattle.entries.specs.Listed.{places};
 ghost use Rattle.reader.specs.Parts.{finished};
