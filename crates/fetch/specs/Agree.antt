@@ -17,7 +17,8 @@ use Rattle.walk.specs.Outcome.{whole, outcomeOf, ofOne}
 use Rattle.walk.specs.Stands.{moleculeLines}
 use Rattle.fetch.specs.Find.{toOf, Said, item, refused, after, spotOf, saidBy, foundBy, foundOf, partOf}
 use Rattle.fetch.specs.Position.{Past, past-join, past-molecule}
-use Rattle.judge.specs.NoRecord.{NoRecord}
+use Rattle.refusals.specs.Because.{one-because}
+use Rattle.refusals.specs.NoRecord.{NoRecord}
 use Rattle.fetch.specs.Promise.{NoneNamed, ItemIn, Joined, Stretch, FoundAt, RefusedAt, Fetched, Promised, Handed}
 use Rattle.fetch.specs.First.{none-first, item-one, first-lead, Hunted, hunted, stretch, stretch-one}
 
@@ -152,7 +153,7 @@ module _ (s name : Bytes) where
       go : View → RefusedAt s name e i c
       go (View.stop {e = n} {i = k} {c = d} h f) =
           let m = one-refused limit (omega arith) (cut s .lines) n k d h in
-          refused-as (sym f ∙ q) (RefusedAt.no-record (NoRecord.line (cut-is s) (m .0) (m .1) (m .2) h))
+          refused-as (sym f ∙ q) (RefusedAt.no-record (NoRecord.line (cut-is s) (m .0) (m .1) (m .2) (one-because limit (cut s .lines) n k d .0 h)))
       go (View.short {i = k} h f) =
           let m = one-short limit (omega arith) (cut s .lines) k h in
           refused-as (ap (λ (j : ℕ). refused 19 j 1) (sym (m .0)) ∙ sym f ∙ q) (RefusedAt.no-record (NoRecord.cut-short (cut-is s) (m .1) (m .2)))
@@ -160,7 +161,8 @@ module _ (s name : Bytes) where
       go (View.found j it past f) = apart (sym f ∙ q)
 
   pub refused-is : {e i c : ℕ} → RefusedAt s name e i c → foundOf s name ≡ refused e i c
-  refused-is (RefusedAt.no-record (NoRecord.line {e = e} {i = i} {column = c} h m k d o)) = found-by (One.refused e i c) (ap (oneRecord limit) (sym (is-cut h)) ∙ o)
+  refused-is (RefusedAt.no-record (NoRecord.line {ls = ls} {e = e} {i = i} {column = c} h m k d o)) =
+      found-by (One.refused e i c) (ap (oneRecord limit) (sym (is-cut h)) ∙ one-because limit ls e i c .1 o)
   refused-is (RefusedAt.no-record (NoRecord.cut-short {ls = ls} h v w)) = go view
     where
       go : View → foundOf s name ≡ refused 19 (suc (length ls)) 1

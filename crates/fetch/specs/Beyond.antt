@@ -12,7 +12,8 @@ use Rattle.rules.specs.OneForm.{one-header, header-or-end}
 use Rattle.rules.specs.Unique.{values-one, parts-one}
 use Rattle.rules.specs.After.{values-after, parts-after, record-after}
 use Rattle.fetch.specs.Find.{Said, item, refused, foundOf}
-use Rattle.judge.specs.NoRecord.{NoRecord}
+use Rattle.refusals.specs.Because.{one-because}
+use Rattle.refusals.specs.NoRecord.{NoRecord}
 use Rattle.fetch.specs.Promise.{FirstItem, NoneNamed, ItemIn, Joined, Stretch, FoundAt, RefusedAt}
 use Rattle.fetch.specs.Joined.{lines-then}
 use Rattle.fetch.specs.Agree.{the-record, not-refused, found-is, is-found, refused-is, is-refused}
@@ -92,7 +93,8 @@ module _ (s t name : Bytes) {ls : List Line} {x : Raw} (lines : Lines s ls []) (
   found-after (FoundAt.no-values h it) = FoundAt.no-values (all-lines h) (item-after it (cut t .lines))
 
   refused-after : {e i c : ℕ} → RefusedAt s name e i c → RefusedAt (s ++ t) name e i c
-  refused-after (RefusedAt.no-record (NoRecord.line {ls = ms} h m k d o)) = not-refused (subst (λ (z : List Line). Record limit z x []) (lines-same lines h .0) good) o
+  refused-after (RefusedAt.no-record (NoRecord.line {ls = ms} {e = e} {i = i} {column = c} h m k d o)) =
+      not-refused (subst (λ (z : List Line). Record limit z x []) (lines-same lines h .0) good) (one-because limit ms e i c .1 o)
   refused-after (RefusedAt.no-record (NoRecord.cut-short h v w)) = absurd (w (x, [], subst (λ (z : List Line). Record limit z x []) (lines-same lines h .0) good))
   refused-after (RefusedAt.no-item h r n) = RefusedAt.no-item (all-lines h) (record-after r (cut t .lines)) n
 

@@ -7,7 +7,7 @@ use lib.ListN.{length, take, drop}
 use Rattle.text.specs.Text.{Bytes, Line, LF, Without, Ended, Lines}
 use Rattle.rules.specs.Forms.{DataHeader}
 use Rattle.rules.specs.Record.{Item, Raw, Values, Items, Parts1to5, Record, limit}
-use Rattle.judge.specs.NoRecord.{NoRecord}
+use Rattle.refusals.specs.NoRecord.{NoRecord}
 use Rattle.fetch.specs.Find.{Said, item, refused, foundOf, partOf}
 
 -- ---- The first item of a name

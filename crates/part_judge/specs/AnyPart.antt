@@ -43,10 +43,11 @@ abbrev pub Good : (List Line → Type 0) → Bytes → Type 0
 Good L s = (ls : List Line) × Lines s ls [] × L ls
 
 -- Number 19 names the line after the complete ones: these can be finished, and the text is not good. Every other number names the first line after
--- which no further lines finish a part.
-pub data PartRefusal (L : List Line → Type 0) (s : Bytes) : ℕ → ℕ → ℕ → Type 0 where
-  line : {ls : List Line} {rest : Bytes} {e i column : ℕ} → Lines s ls rest → (3 ≤ e) × (e ≤ 18) → 1 ≤ column → FirstDead L ls i → PartRefusal L s e i column
-  cut-short : {ls : List Line} {rest : Bytes} → Lines s ls rest → Viable L ls → ¬ Good L s → PartRefusal L s 19 (suc (length ls)) 1
+-- which no further lines finish a part, and `Why` says why.
+pub data PartRefusal (L : List Line → Type 0) (Why : List Line → ℕ → ℕ → ℕ → Type 0) (s : Bytes) : ℕ → ℕ → ℕ → Type 0 where
+  line : {ls : List Line} {rest : Bytes} {e i column : ℕ} → Lines s ls rest → (3 ≤ e) × (e ≤ 18) → 1 ≤ column → FirstDead L ls i → Why ls e i column →
+      PartRefusal L Why s e i column
+  cut-short : {ls : List Line} {rest : Bytes} → Lines s ls rest → Viable L ls → ¬ Good L s → PartRefusal L Why s 19 (suc (length ls)) 1
 
 module _ {P A : Type 0} (turn : P → Line → Got P) (end : P → ℕ → PartVerdict A) (From : P → List Line → A → Type 0) (fit : Fitting turn end From) where
   -- ---- Runs
@@ -110,8 +111,8 @@ module _ {P A : Type 0} (turn : P → Line → Got P) (end : P → ℕ → PartV
         ∙ run-append turn start 1 ls q h (l ∷ more)
         ∙ run-stop turn q (1 + length ls) l more e c refuses)
 
-    stopped-refusal : (e i c : ℕ) → run turn start 1 (cut s .lines) ≡ Run.stopped e i c → PartRefusal L s e i c
-    stopped-refusal e i c h =
+    stopped-refusal : (Why : List Line → ℕ → ℕ → ℕ → Type 0) → ((ls : List Line) (e i c : ℕ) → run turn start 1 ls ≡ Run.stopped e i c → Why ls e i c) → (e i c : ℕ) → run turn start 1 (cut s .lines) ≡ Run.stopped e i c → PartRefusal L Why s e i c
+    stopped-refusal Why why e i c h =
         let t = stop turn start 1 (cut s .lines) e i c h in
         let m = marked-bad (subst Marked (t .refused) (fit .marked (t .q) (t .l))) in
         PartRefusal.line (cut-is s) (m .0) (m .1)
@@ -124,6 +125,7 @@ module _ {P A : Type 0} (turn : P → Line → Got P) (end : P → ℕ → PartV
           open-before = viable (t .before) (t .q) (t .reached);
           shut-here = dead (t .before) (t .q) (t .l) e c (t .reached) (t .refused);
         })
+        (why (cut s .lines) e i c h)
 
     -- a good text ends where a part may end
     good-ends : (q : P) → run turn start 1 (cut s .lines) ≡ Run.at q → Good L s → (a : A) × (cut s .rest ≡ []) × ((j : ℕ) → end q j ≡ good a)
@@ -133,27 +135,27 @@ module _ {P A : Type 0} (turn : P → Line → Got P) (end : P → ℕ → PartV
         let e : c .q ≡ q = at-place (sym (c .is) ∙ ap (run turn start 1) (same .0) ∙ h) in
         (g .2 .0, sym (same .1), λ j. sym (ap (λ (x : P). end x j) e) ∙ c .ended j)
 
-    pub refusal : (e i c : ℕ) → verdictFrom turn end start s ≡ refused e i c → PartRefusal L s e i c
+    pub refusal : (Why : List Line → ℕ → ℕ → ℕ → Type 0) → ((ls : List Line) (e i c : ℕ) → run turn start 1 ls ≡ Run.stopped e i c → Why ls e i c) → (e i c : ℕ) → verdictFrom turn end start s ≡ refused e i c → PartRefusal L Why s e i c
     unfolding verdictFrom
-    refusal e i c h = go (run turn start 1 (cut s .lines)) refl (cut s .rest) refl h
+    refusal Why why e i c h = go (run turn start 1 (cut s .lines)) refl (cut s .rest) refl h
       where
-        cut-short : (q : P) → run turn start 1 (cut s .lines) ≡ Run.at q → ¬ Good L s → _≡_ {A = PartVerdict A} (refused 19 (suc (length (cut s .lines))) 1) (refused e i c) → PartRefusal L s e i c
+        cut-short : (q : P) → run turn start 1 (cut s .lines) ≡ Run.at q → ¬ Good L s → _≡_ {A = PartVerdict A} (refused 19 (suc (length (cut s .lines))) 1) (refused e i c) → PartRefusal L Why s e i c
         cut-short q r w k =
             let z = refused-inj {A = A} k in
-            subst (λ (x : ℕ). PartRefusal L s x i c) (z .0)
-            (subst (λ (x : ℕ). PartRefusal L s 19 x c) (z .1)
-            (subst (λ (x : ℕ). PartRefusal L s 19 (suc (length (cut s .lines))) x) (z .2) (PartRefusal.cut-short (cut-is s) (viable (cut s .lines) q r) w)))
+            subst (λ (x : ℕ). PartRefusal L Why s x i c) (z .0)
+            (subst (λ (x : ℕ). PartRefusal L Why s 19 x c) (z .1)
+            (subst (λ (x : ℕ). PartRefusal L Why s 19 (suc (length (cut s .lines))) x) (z .2) (PartRefusal.cut-short (cut-is s) (viable (cut s .lines) q r) w)))
 
-        at-end : (q : P) → Ends end q → run turn start 1 (cut s .lines) ≡ Run.at q → end q (suc (length (cut s .lines))) ≡ refused e i c → PartRefusal L s e i c
+        at-end : (q : P) → Ends end q → run turn start 1 (cut s .lines) ≡ Run.at q → end q (suc (length (cut s .lines))) ≡ refused e i c → PartRefusal L Why s e i c
         at-end q (Ends.whole a w) r k = good-refused (sym (w (suc (length (cut s .lines)))) ∙ k)
         at-end q (Ends.short w) r k =
             cut-short q r (λ g. let x = good-ends q r g in good-refused (sym (x .2 0) ∙ w 0)) (sym (w (suc (length (cut s .lines)))) ∙ k)
 
         go : (r : Run P) → run turn start 1 (cut s .lines) ≡ r → (rest : Bytes) → cut s .rest ≡ rest →
-            conclude end r rest (suc (length (cut s .lines))) ≡ refused e i c → PartRefusal L s e i c
+            conclude end r rest (suc (length (cut s .lines))) ≡ refused e i c → PartRefusal L Why s e i c
         go (Run.at q) r [] m k = at-end q (fit .ends q) r k
         go (Run.at q) r (b ∷ rest) m k =
             cut-short q r (λ g. let x = good-ends q r g in let z : b ∷ rest ≡ [] = sym m ∙ x .1 in omega (arith, ap length z)) k
         go (Run.stopped f j d) r rest m k =
             let z = refused-inj {A = A} k in
-            stopped-refusal e i c (r ∙ ap₂ (λ (x y : ℕ). Run.stopped x y d) (z .0) (z .1) ∙ ap (Run.stopped e i) (z .2))
+            stopped-refusal Why why e i c (r ∙ ap₂ (λ (x y : ℕ). Run.stopped x y d) (z .0) (z .1) ∙ ap (Run.stopped e i) (z .2))

@@ -8,6 +8,7 @@ use Rattle.rules.specs.Record.{Headers, Item}
 use Rattle.rules.specs.Canon.{HeaderPart, ItemPart}
 use Rattle.part_judge.specs.Part.{good, refused, first, headerTurn, headersEnd, headersVerdict, items, itemTurn, itemsEnd, itemsVerdict}
 use Rattle.part_judge.specs.AnyPart.{PartRefusal, accepted, refusal}
+use Rattle.part_judge.specs.PartBecause.{HeaderBecause, header-because, ItemBecause, item-because}
 use Rattle.part_judge.specs.PartFrom.{FromHeaders, fitting-headers, FromItemPlace, fitting-items}
 
 -- ---- The two languages
@@ -24,9 +25,9 @@ pub good-headers : (s : Bytes) (h : Headers) → (headersVerdict s ≡ good h) �
 unfolding headersVerdict
 good-headers s h = accepted headerTurn headersEnd FromHeaders fitting-headers first HeaderPart (λ ls h. (λ p. p, λ p. p)) s h
 
-pub refused-headers : (s : Bytes) (e i column : ℕ) → headersVerdict s ≡ refused e i column → PartRefusal AHeaderPart s e i column
+pub refused-headers : (s : Bytes) (e i column : ℕ) → headersVerdict s ≡ refused e i column → PartRefusal AHeaderPart HeaderBecause s e i column
 unfolding headersVerdict
-refused-headers s e i column h = refusal headerTurn headersEnd FromHeaders fitting-headers first HeaderPart (λ ls h. (λ p. p, λ p. p)) s e i column h
+refused-headers s e i column h = refusal headerTurn headersEnd FromHeaders fitting-headers first HeaderPart (λ ls h. (λ p. p, λ p. p)) s HeaderBecause header-because e i column h
 
 -- ---- Items
 
@@ -38,6 +39,6 @@ pub good-items : (s : Bytes) (is : List Item) → (itemsVerdict s ≡ good is) �
 unfolding itemsVerdict
 good-items s is = accepted itemTurn itemsEnd FromItemPlace fitting-items (items []) ItemPart items-start s is
 
-pub refused-items : (s : Bytes) (e i column : ℕ) → itemsVerdict s ≡ refused e i column → PartRefusal AnItemPart s e i column
+pub refused-items : (s : Bytes) (e i column : ℕ) → itemsVerdict s ≡ refused e i column → PartRefusal AnItemPart ItemBecause s e i column
 unfolding itemsVerdict
-refused-items s e i column h = refusal itemTurn itemsEnd FromItemPlace fitting-items (items []) ItemPart items-start s e i column h
+refused-items s e i column h = refusal itemTurn itemsEnd FromItemPlace fitting-items (items []) ItemPart items-start s ItemBecause item-because e i column h

@@ -12,7 +12,7 @@ use Rattle.judge.specs.Place.{sdfile}
 use Rattle.walk.specs.Walked.{walkOf}
 use Rattle.read.specs.declared.RecordRead.{RecordRead}
 use Rattle.read.specs.Read.{answered, readAs, readOf}
-use Rattle.judge.specs.NoRecord.{NoRecord}
+use Rattle.refusals.specs.NoRecord.{NoRecord}
 use Rattle.read.specs.Promise as P
 use Rattle.read.specs.Promise.{Reply, accepted, numbersOf}
 use Rattle.read.specs.Told.{told-reply}

@@ -12,7 +12,7 @@ use Rattle.rules.specs.Meaning.{meaning}
 use Rattle.rules.specs.Canon.{ItemPart}
 use Rattle.tables.specs.Row.{flat}
 use Rattle.judge.specs.Place.{FileKind, molfile, sdfile}
-use Rattle.judge.specs.NoRecord.{NoRecord}
+use Rattle.refusals.specs.NoRecord.{NoRecord}
 use Rattle.walk.specs.Promise.{RefusedAt}
 use Rattle.read.specs.declared.RecordRead.{RecordRead}
 use Rattle.read.specs.Read.{rowsIn}

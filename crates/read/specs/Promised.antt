@@ -14,7 +14,8 @@ use Rattle.rules.specs.Record.{Raw, limit}
 use Rattle.rules.specs.Viable.{Viable, FirstDead, ARecord, first-dead}
 use Rattle.judge.specs.Place.{FileKind, molfile, sdfile}
 use Rattle.judge.specs.One.{One, oneRecord}
-use Rattle.judge.specs.NoRecord.{NoRecord}
+use Rattle.refusals.specs.Because.{one-because}
+use Rattle.refusals.specs.NoRecord.{NoRecord}
 use Rattle.walk.specs.Outcome.{Outcome, whole, refused, outcomeOf}
 use Rattle.walk.specs.Stands.{moleculeLines}
 use Rattle.walk.specs.Walked.{walkedBy, walkOf}
@@ -187,7 +188,8 @@ none-viable {ls = ls} {i = i} f v = first-dead (ARecord limit) ls i f (v .0) (v 
 
 same-none : {s : Bytes} {e i c e′ i′ c′ : ℕ} → NoRecord s e i c → NoRecord s e′ i′ c′ → P.refused e i c ≡ P.refused e′ i′ c′
 same-none {e = e} {i = i} {c = c} {e′ = e′} {i′ = i′} {c′ = c′} (NoRecord.line {ls = ls} h m k f j) (NoRecord.line {ls = ls′} h′ m′ k′ f′ j′) =
-    let r : One.refused e i c ≡ One.refused e′ i′ c′ = sym j ∙ ap (oneRecord limit) (lines-same h h′ .0) ∙ j′ in
+    let r : One.refused e i c ≡ One.refused e′ i′ c′ =
+    sym (one-because limit ls e i c .1 j) ∙ ap (oneRecord limit) (lines-same h h′ .0) ∙ one-because limit ls′ e′ i′ c′ .1 j′ in
     cc
 same-none (NoRecord.line h m k f j) (NoRecord.cut-short h′ v bad) = absurd (none-viable f (subst (Viable (ARecord limit)) (sym (lines-same h h′ .0)) v))
 same-none (NoRecord.cut-short h v bad) (NoRecord.line h′ m′ k′ f′ j′) = absurd (none-viable f′ (subst (Viable (ARecord limit)) (lines-same h h′ .0) v))

@@ -15,7 +15,8 @@ use Rattle.judge.specs.Place.{FileKind, molfile, sdfile}
 use Rattle.judge.specs.Verdict.{Verdict, verdict}
 use Rattle.judge.specs.Front.{parts-front, record-front, record-before}
 use Rattle.judge.specs.One.{One, oneRecord}
-use Rattle.judge.specs.NoRecord.{NoRecord}
+use Rattle.refusals.specs.Because.{one-because}
+use Rattle.refusals.specs.NoRecord.{NoRecord}
 use Rattle.judge.specs.OneAgree.{one-whole, one-refused, one-short}
 use Rattle.judge.specs.WalkText.{afterLines, after-cut}
 use Rattle.judge.specs.Promise.{accepted-mol}
@@ -271,7 +272,7 @@ outcome-refused sdfile s e i column h = go (oneRecord limit (cut s .lines)) refl
     go (One.whole y j more) w q = apart q
     go (One.refused n j d) w q =
         let f = one-refused limit (omega arith) (cut s .lines) n j d w in
-        told-as q (NoRecord.line (cut-is s) (f .0) (f .1) (f .2) w)
+        told-as q (NoRecord.line (cut-is s) (f .0) (f .1) (f .2) (one-because limit (cut s .lines) n j d .0 w))
     go (One.short j) w q =
         let f = one-short limit (omega arith) (cut s .lines) j w in
         told-as q (short-at j (f .0) (NoRecord.cut-short (cut-is s) (f .1) (f .2)))

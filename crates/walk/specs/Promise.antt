@@ -11,10 +11,11 @@ use Rattle.rules.specs.Record.{Raw, GoodMolfile, GoodSDfile, limit}
 use Rattle.rules.specs.Viable.{Viable, FirstDead, first-dead}
 use Rattle.judge.specs.Place.{FileKind, molfile, sdfile, first}
 use Rattle.judge.specs.Verdict.{stopped, run, Verdict, verdict}
-use Rattle.judge.specs.Runs.{Stop, stop, run-append, run-stop}
+use Rattle.judge.specs.Runs.{stop, run-append, run-stop}
 use Rattle.judge.specs.Refuse.{AFile, refuses}
 use Rattle.judge.specs.Marked.{refused-marked}
 use Rattle.judge.specs.Ending.{Judged, judged}
+use Rattle.refusals.specs.Because.{Because, stop-because}
 use Rattle.judge.specs.Promise.{Good, accepted-sd, accepted-mol, Refusal, refused-text}
 
 -- what the format's description says of an answer: how many records, or number, line and column of a refusal
@@ -29,11 +30,11 @@ abbrev pub Records : FileKind → Bytes → ℕ → Type 0
 Records molfile s count = (x : Raw) × GoodMolfile s x × (count ≡ 1)
 Records sdfile s count = (xs : List Raw) × GoodSDfile s xs × (count ≡ length xs)
 
--- Numbers 3 to 18 name the first line after which no further lines make a file; number and column are the judge's for that line where it stands.
+-- Numbers 3 to 18 name the first line after which no further lines make a file; number and column are those of the first demand that it does not meet.
 -- Number 19 names the line after the complete ones: these can be finished, so none of them is such a line, and the text is not good.
 pub data RefusedAt (kind : FileKind) (s : Bytes) : ℕ → ℕ → ℕ → Type 0 where
   line : {ls : List Line} {rest : Bytes} {e i column : ℕ} → Lines s ls rest → (3 ≤ e) × (e ≤ 18) → 1 ≤ column →
-      FirstDead (AFile kind limit) ls i → Stop kind limit first [] 1 ls e i column → RefusedAt kind s e i column
+      FirstDead (AFile kind limit) ls i → Because kind limit ls e i column → RefusedAt kind s e i column
   cut-short : {ls : List Line} {rest : Bytes} → Lines s ls rest → Viable (AFile kind limit) ls → ¬ Good kind limit s →
       RefusedAt kind s 19 (suc (length ls)) 1
 
@@ -76,7 +77,7 @@ module _ (s : Bytes) where
   stops kind {e = e} {i = i} {column = column} (Judged.stop {ls = ls} h r) f =
       let st = stop kind limit first [] 1 ls e i column r in
       let m = refused-marked kind limit (st .q) (st .l) e column (st .refused) in
-      RefusedAt.line h (m .0) (m .1) (refuses kind limit (omega arith) ls e i column r) st
+      RefusedAt.line h (m .0) (m .1) (refuses kind limit (omega arith) ls e i column r) (stop-because kind limit ls e i column .0 st)
   stops kind (Judged.short h r w) f = cut f
     where
       cut : {i : ℕ} → Refusal kind limit s 19 i 1 → RefusedAt kind s 19 i 1
@@ -104,8 +105,9 @@ module _ (s : Bytes) where
 
 module _ (kind : FileKind) (s : Bytes) where
   -- where the judge stops
-  stop-run : (ls : List Line) (e i column : ℕ) → Stop kind limit first [] 1 ls e i column → run kind limit first [] 1 ls ≡ stopped e i column
-  stop-run ls e i column st =
+  stop-run : (ls : List Line) (e i column : ℕ) → Because kind limit ls e i column → run kind limit first [] 1 ls ≡ stopped e i column
+  stop-run ls e i column why =
+      let st = stop-because kind limit ls e i column .1 why in
       ap (run kind limit first [] 1) (st .whole)
       ∙ run-append kind limit first [] 1 (st .before) (st .q) (st .ys) (st .reached) (st .l ∷ (st .after))
       ∙ run-stop kind limit (st .q) (st .ys) (1 + length (st .before)) (st .l) (st .after) e column (st .refused)

@@ -19,6 +19,7 @@ use Rattle.rules.specs.Handed.{header-part-good, item-part-good}
 use Rattle.put.specs.Laid.{Laid}
 use Rattle.part_judge.specs.Part.{PartVerdict, good, refused, headersVerdict, itemsVerdict}
 use Rattle.part_judge.specs.AnyPart.{PartRefusal, good-refused, good-inj}
+use Rattle.part_judge.specs.PartBecause.{HeaderBecause, ItemBecause}
 use Rattle.part_judge.specs.PartAgree.{AHeaderPart, AnItemPart, good-headers, refused-headers, good-items, refused-items}
 use Rattle.writable.specs.Tables.{writableTables}
 use Rattle.writer.specs.Write.{Given, Roomy, handed, canonText, demand, andThen, roomy, recordFor, textFor, writeOf, roomAfter}
@@ -52,8 +53,8 @@ pub record Accepted (g : Given) (x : Reading) : Type 0 where
 pub data Refusal (g : Given) (k : ℕ) : ℕ → ℕ → ℕ → Type 0 where
   tables : ¬ Roomy g → Refusal g k 2 0 0
   writable : Roomy g → ((h : Headers) (is : List Item) → ¬ Writable limit (handed g h is)) → Refusal g k 21 0 0
-  headers : {e line column : ℕ} → Roomy g → Tables g → PartRefusal AHeaderPart (g .headers) e line column → Refusal g k e line column
-  items : {e line column : ℕ} {h : Headers} → Roomy g → Tables g → HeadersIn (g .headers) h → PartRefusal AnItemPart (g .items) e line column →
+  headers : {e line column : ℕ} → Roomy g → Tables g → PartRefusal AHeaderPart HeaderBecause (g .headers) e line column → Refusal g k e line column
+  items : {e line column : ℕ} {h : Headers} → Roomy g → Tables g → HeadersIn (g .headers) h → PartRefusal AnItemPart ItemBecause (g .items) e line column →
       Refusal g k e line column
   room : {x : Reading} → Accepted g x → k < length (canonText x) → Refusal g k 20 0 0
 
