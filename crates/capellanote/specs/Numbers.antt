@@ -4,17 +4,17 @@ use mathlib.Core.Path.{_≡_, sym, ap, _∙_}
 use mathlib.Core.List.{List, [], _∷_}
 use lib.ListN.{length}
 use Rattle.text.specs.Text.{Bytes}
-use Rattle.whole.specs.declared.Answer.{Answer}
-use Rattle.walk.specs.Promise as Check
-use Rattle.walk.specs.Checking.{checkOf}
-use Rattle.whole.specs.Promised.{numbersOf, Promised}
-use Rattle.read.specs.declared.RecordRead.{RecordRead}
-use Rattle.fetch.specs.declared.Found.{Found}
-use Rattle.fetch.specs.Find as Fetch
-use Rattle.writer.specs.declared.Written.{Written}
-use Rattle.writer.specs.Write.{Given, writeOf}
-use Rattle.writer.specs.Promise.{Promise}
-use Rattle.catalogue.specs.declared.Catalogue.{Catalogue}
+use Rattle.reader_check.specs.declared.Answer.{Answer}
+use Rattle.reader_walk.specs.Promise as Check
+use Rattle.reader_walk.specs.Checking.{checkOf}
+use Rattle.reader_check.specs.Promised.{numbersOf, Promised}
+use Rattle.reader_record.specs.declared.RecordRead.{RecordRead}
+use Rattle.reader_item.specs.declared.Found.{Found}
+use Rattle.reader_item.specs.Find as Fetch
+use Rattle.writer_record.specs.declared.Written.{Written}
+use Rattle.writer_record.specs.Write.{Given, writeOf}
+use Rattle.writer_record.specs.Promise.{Promise}
+use Rattle.writer_catalogue.specs.declared.Catalogue.{Catalogue}
 
 -- 0, records, 0
 unfoldable pub checkNumbers : Check.Said → List ℕ

@@ -1,19 +1,19 @@
 // The library for C: answers are arrays of numbers, the first 0 or that of the refusal (include/capellanote.h).
 ghost use mathlib.Core.Path.{_≡_};
 ghost use lib.ListN.{length};
-ghost use Rattle.whole.specs.Promised.{numbersOf};
-ghost use Rattle.walk.specs.Checking.{checkOf};
-ghost use Rattle.read.specs.Read.{readOf, atomsAfter, bondsAfter};
-ghost use Rattle.fetch.specs.Find.{foundOf};
-ghost use Rattle.fetch.specs.Find.{numbersOf as itemOf};
-ghost use Rattle.writer.specs.Write.{writeOf, roomAfter};
-ghost use Rattle.catalogue.specs.Catalogue.{catalogueOf, roomAfter as catalogueRoom, atomsAfter as workAtoms, bondsAfter as workBonds};
+ghost use Rattle.reader_check.specs.Promised.{numbersOf};
+ghost use Rattle.reader_walk.specs.Checking.{checkOf};
+ghost use Rattle.reader_record.specs.Read.{readOf, atomsAfter, bondsAfter};
+ghost use Rattle.reader_item.specs.Find.{foundOf};
+ghost use Rattle.reader_item.specs.Find.{numbersOf as itemOf};
+ghost use Rattle.writer_record.specs.Write.{writeOf, roomAfter};
+ghost use Rattle.writer_catalogue.specs.Catalogue.{catalogueOf, roomAfter as catalogueRoom, atomsAfter as workAtoms, bondsAfter as workBonds};
 ghost use Rattle.capellanote.specs.Numbers.{checkNumbers, readNumbers, foundNumbers, writtenNumbers, catalogueNumbers};
-use catalogue::Catalogue;
-use fetch::Found;
-use read::RecordRead;
-use whole::Answer;
-use writer::Written;
+use reader_check::Answer;
+use reader_item::Found;
+use reader_record::RecordRead;
+use writer_catalogue::Catalogue;
+use writer_record::Written;
 
 fn of_check(a: Answer) -> [u64; 3]
     ensures { λ r. ⌜ r ≡ checkNumbers (numbersOf a) ⌝ }
@@ -86,7 +86,7 @@ fn of_catalogue(c: Catalogue) -> [u64; 3]
 pub extern "C" fn capellanote_check(kind: u8, s: &[u8], answer: &mut [u64; 3])
     ensures { λ _. ⌜ now (answer .exit) ≡ checkNumbers (checkOf kind (now (s .entry))) ⌝ }
 {
-    *answer = of_check(whole::check(kind, s));
+    *answer = of_check(reader_check::check(kind, s));
 }
 
 // One record from the front of a text, into the tables.
@@ -102,7 +102,7 @@ pub extern "C" fn capellanote_read(
     ensures { λ _. ⌜ now (atoms .exit) ≡ atomsAfter kind (length (now (bonds .entry))) (now (s .entry)) (now (atoms .entry)) ⌝ }
     ensures { λ _. ⌜ now (bonds .exit) ≡ bondsAfter kind (length (now (atoms .entry))) (now (s .entry)) (now (bonds .entry)) ⌝ }
 {
-    *answer = of_reading(read::read_record(kind, s, atoms, bonds));
+    *answer = of_reading(reader_record::read_record(kind, s, atoms, bonds));
 }
 
 // The values of a record's first item of a name.
@@ -110,7 +110,7 @@ pub extern "C" fn capellanote_read(
 pub extern "C" fn capellanote_find(s: &[u8], name: &[u8], answer: &mut [u64; 3])
     ensures { λ _. ⌜ now (answer .exit) ≡ foundNumbers (foundOf (now (s .entry)) (now (name .entry))) ⌝ }
 {
-    *answer = of_found(fetch::find_item(s, name));
+    *answer = of_found(reader_item::find_item(s, name));
 }
 
 // The canonical text of a record, at the front of the room.
@@ -129,7 +129,16 @@ pub extern "C" fn capellanote_write_record(
     ensures { λ _. ⌜ now (answer .exit) ≡ writtenNumbers (writeOf (record { atoms = now (atoms .entry); bonds = now (bonds .entry); n = n; m = m; chiral = chiral; headers = now (headers .entry); items = now (items .entry) }) (length (now (room .entry)))) ⌝ }
     ensures { λ _. ⌜ now (room .exit) ≡ roomAfter (record { atoms = now (atoms .entry); bonds = now (bonds .entry); n = n; m = m; chiral = chiral; headers = now (headers .entry); items = now (items .entry) }) (now (room .entry)) ⌝ }
 {
-    *answer = of_written(writer::write_record(atoms, bonds, n, m, chiral, headers, items, room));
+    *answer = of_written(writer_record::write_record(
+        atoms,
+        bonds,
+        n,
+        m,
+        chiral,
+        headers,
+        items,
+        room,
+    ));
 }
 
 // The canonical text of a whole SDfile, at the front of the room.
@@ -146,5 +155,5 @@ pub extern "C" fn capellanote_write_catalogue(
     ensures { λ _. ⌜ now (atoms .exit) ≡ workAtoms (now (atoms .entry)) (now (bonds .entry)) ⌝ }
     ensures { λ _. ⌜ now (bonds .exit) ≡ workBonds (now (atoms .entry)) (now (bonds .entry)) ⌝ }
 {
-    *answer = of_catalogue(catalogue::write_catalogue(s, atoms, bonds, room));
+    *answer = of_catalogue(writer_catalogue::write_catalogue(s, atoms, bonds, room));
 }

@@ -1,5 +1,5 @@
 // Judges files: `molfile` or `sdfile`, perhaps `--progress`, then the names, `-` for standard input; one line a file.
-use verdict::Verdict;
+use program_verdict::Verdict;
 
 // How the files are judged.
 struct Way {
@@ -8,8 +8,8 @@ struct Way {
 }
 
 fn judge_open(fd: i32, name: &[u8], way: Way, buf: &mut [u8]) {
-    let verdict = verdict::judge(fd, way.sd, buf, way.progress);
-    verdict::report(name, true, verdict);
+    let verdict = program_verdict::judge(fd, way.sd, buf, way.progress);
+    program_verdict::report(name, true, verdict);
 }
 
 // The last byte of a buffer stands beside it: it tells whether input follows a full one.
@@ -20,7 +20,7 @@ fn judge_file(name: &[u8], way: Way, buf: &mut [u8; 1048577]) {
     }
     let fd = os::open_read(name);
     if fd < 0 {
-        verdict::report(name, true, Verdict::Unreadable);
+        program_verdict::report(name, true, Verdict::Unreadable);
         return;
     }
     judge_open(fd, name, way, buf);
@@ -31,7 +31,7 @@ fn judge_argument(i: usize, way: Way, buf: &mut [u8; 1048577]) {
     let mut name = io::buffer();
     let n = os::arg(i, &mut name);
     if os::errno() != 0 {
-        verdict::report(b"file name", true, Verdict::Unreadable);
+        program_verdict::report(b"file name", true, Verdict::Unreadable);
         return;
     }
     judge_file(&name[..n], way, buf);
@@ -48,8 +48,8 @@ fn judge_arguments(from: usize, way: Way, buf: &mut [u8; 1048577]) {
 
 fn main() {
     let mut buf = [0u8; 1048577];
-    let sd = stream::is_argument(1, b"sdfile");
-    if stream::is_argument(2, b"--progress") {
+    let sd = program_io::is_argument(1, b"sdfile");
+    if program_io::is_argument(2, b"--progress") {
         judge_arguments(3, Way { sd, progress: true }, &mut buf);
     } else {
         judge_arguments(

@@ -1,9 +1,9 @@
 // Writes the item of a name in every record of SDfiles as JSON, one object a line: the name, perhaps `--progress`, then the names of the files.
-use printer::Task;
+use program_printer::Task;
 
 // The last byte of the buffer stands beside it: it tells whether input follows a full one.
 fn print(item: &[u8], buf: &mut [u8; 1048577], room: &mut [u8; 65536]) {
-    printer::run(Task::Item, true, item, 2, buf, room);
+    program_printer::run(Task::Item, true, item, 2, buf, room);
 }
 
 fn main() {

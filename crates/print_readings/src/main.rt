@@ -1,10 +1,10 @@
 // Writes every record of files as JSON, one object a line: `molfile` or `sdfile`, perhaps `--progress`, then the names.
-use printer::Task;
+use program_printer::Task;
 
 // The last byte of the buffer stands beside it: it tells whether input follows a full one.
 fn print(buf: &mut [u8; 1048577], room: &mut [u8; 65536]) {
-    let sd = stream::is_argument(1, b"sdfile");
-    printer::run(Task::Readings, sd, b"", 2, buf, room);
+    let sd = program_io::is_argument(1, b"sdfile");
+    program_printer::run(Task::Readings, sd, b"", 2, buf, room);
 }
 
 fn main() {

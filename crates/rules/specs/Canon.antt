@@ -9,8 +9,8 @@ use lib.ListN.{getD, length, take, drop}
 use lib.IntN.{ℤ, pos, negsuc, natAbs}
 use Rattle.text.specs.Text.{Bytes, Line, byte, Each, Without}
 use Rattle.text.specs.Columns.{Allowed}
-use Rattle.numbers.specs.Number.{Between, OneOf}
-use Rattle.symbols.specs.Symbol.{names}
+use Rattle.field_numbers.specs.Number.{Between, OneOf}
+use Rattle.field_symbols.specs.Symbol.{names}
 use Rattle.rules.specs.Forms.{FirstHeaderLine, HeaderLine, DataHeader, Atom, Bond, stereos, centres, Kind, CHG, RAD, ISO, Entry, Property, ValueLine}
 use Rattle.rules.specs.Record.{Headers, Item, Raw, NoPairTwice, Values}
 use Rattle.rules.specs.Meaning.{Reading}

@@ -8,7 +8,7 @@ use mathlib.Core.Bool.{Bool, true, false, cond}
 use lib.ListN.{getD, length, drop, drop-of-length-le}
 use lib.Seq.{drop-cons}
 use lib.IntN.{ℤ, pos, negsuc, natAbs}
-use Rattle.numbers.specs.Number.{OneOf}
+use Rattle.field_numbers.specs.Number.{OneOf}
 use Rattle.rules.specs.Forms.{stereos, Kind, CHG, RAD, ISO, Entry}
 use Rattle.rules.specs.Record.{Molecule}
 use Rattle.rules.specs.Meaning.{chargeOfCode, radicalOfCode, among, has, numberIn, given, atomNumbers, atomsFrom, bondNumbers, Reading, meaning}

@@ -8,8 +8,8 @@ use mathlib.Core.Bool.{Bool, true, false, cond, _&&_}
 use lib.ListN.{length, take, drop, length-take, length-map}
 use lib.IntN.{ℤ, pos, negsuc, natAbs}
 use Rattle.text.specs.Written.{text}
-use Rattle.numbers.specs.Number.{OneOf}
-use Rattle.symbols.specs.Symbol.{names}
+use Rattle.field_numbers.specs.Number.{OneOf}
+use Rattle.field_symbols.specs.Symbol.{names}
 use Rattle.rules.specs.Forms.{stereos, Kind, CHG, RAD, ISO, Entry, Property}
 use Rattle.rules.specs.Record.{Raw, Molfile, Record, SDfile, GoodSDfile, limit, listed, NoAtomTwice}
 use Rattle.rules.specs.Meaning.{Reading, meaning}

@@ -9,9 +9,9 @@ use lib.IntN.{ℤ, pos}
 use Rattle.text.specs.Text.{Bytes, Line, Each}
 use Rattle.text.specs.Columns.{columns, Allowed, Within, SpacesFrom}
 use Rattle.text.specs.Agree.{columns-part, spaces-past}
-use Rattle.numbers.specs.Number.{Integer, Number, Signed, Listed, SignedListed, Between, OneOf}
-use Rattle.numbers.specs.Write.{numberText, signedText, Fitting}
-use Rattle.numbers.specs.Written.{number-back, signed-back}
+use Rattle.field_numbers.specs.Number.{Integer, Number, Signed, Listed, SignedListed, Between, OneOf}
+use Rattle.field_numbers.specs.Write.{numberText, signedText, Fitting}
+use Rattle.field_numbers.specs.Written.{number-back, signed-back}
 use Rattle.rules.specs.Write.{joined}
 
 -- each field has its width, and holds allowed bytes

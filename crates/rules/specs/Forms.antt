@@ -10,9 +10,9 @@ use lib.ListN.{length}
 use lib.IntN.{ℤ, pos, negsuc}
 use Rattle.text.specs.Text.{Bytes, Line, bytes, byte, Without}
 use Rattle.text.specs.Columns.{column, columns, spaces, Space, SpacesFrom, Has, Within, Blank}
-use Rattle.numbers.specs.Number.{Number, Signed, Listed, SignedListed}
-use Rattle.coordinates.specs.Coordinate.{Coordinate}
-use Rattle.symbols.specs.Symbol.{Symbol}
+use Rattle.field_numbers.specs.Number.{Number, Signed, Listed, SignedListed}
+use Rattle.field_coordinates.specs.Coordinate.{Coordinate}
+use Rattle.field_symbols.specs.Symbol.{Symbol}
 
 -- the text stands at the start of the line
 abbrev pub Begins : Line → String → Type 0

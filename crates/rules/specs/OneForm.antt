@@ -7,9 +7,9 @@ use lib.ListN.{getD, length}
 use lib.IntN.{ℤ, pos}
 use Rattle.text.specs.Text.{Bytes, Line, bytes, Each, Without}
 use Rattle.text.specs.Columns.{columnsFor, spaces, Has}
-use Rattle.numbers.specs.Agree.{one-number, one-listed, one-signed, one-signed-listed}
-use Rattle.coordinates.specs.Agree.{one-coordinate}
-use Rattle.symbols.specs.Agree.{one-symbol}
+use Rattle.field_numbers.specs.Agree.{one-number, one-listed, one-signed, one-signed-listed}
+use Rattle.field_coordinates.specs.Agree.{one-coordinate}
+use Rattle.field_symbols.specs.Agree.{one-symbol}
 use Rattle.rules.specs.Forms.{Counts, CountsLine, Atom, AtomLine, Bond, BondLine, Kind, CHG, RAD, ISO, tag, Entry, EntryNumber, EntriesFrom}
 use Rattle.rules.specs.Forms.{Property, PropertyLine, EndLine, DataHeader, BlankLine, ValueLine, RecordEnd}
 

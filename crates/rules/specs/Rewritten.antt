@@ -10,8 +10,8 @@ use lib.ListN.{length}
 use lib.IntN.{ℤ, pos}
 use Rattle.text.specs.Text.{Bytes, Line, bytes, Each}
 use Rattle.text.specs.Columns.{spaces, Allowed}
-use Rattle.numbers.specs.Number.{Between}
-use Rattle.coordinates.specs.Agree.{coordinate-range}
+use Rattle.field_numbers.specs.Number.{Between}
+use Rattle.field_coordinates.specs.Agree.{coordinate-range}
 use Rattle.rules.specs.Forms.{Atom, AtomLine, Bond, BondLine, Kind, CHG, RAD, ISO, sameKind, Entry, EntryNumber, EntriesFrom, Property, DataHeader}
 use Rattle.rules.specs.Record.{Molecule, Item, Raw, Atoms, Bonds, Properties, Values, Items, Parts1to5, Record, SDfile, listed, NoPairTwice}
 use Rattle.rules.specs.Meaning.{chargesOfCodes, chargeOfCode, radicalOfCode, has, numberIn, given, atomNumbers, atomsFrom, bondNumbers, meaning}

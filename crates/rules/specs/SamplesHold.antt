@@ -9,15 +9,15 @@ use lib.IntN.{ℤ, pos, negsuc}
 use Rattle.text.specs.Text.{Bytes, Line, bytes, Each, Without}
 use Rattle.text.specs.Written.{text}
 use Rattle.text.specs.Columns.{columnsFor, spaces, Within}
-use Rattle.numbers.specs.Number.{OneOf, Between}
-use Rattle.numbers.specs.Read.{allDigits, afterSpaces}
-use Rattle.numbers.specs.Write.{textBy}
-use Rattle.numbers.specs.Agree.{one-number}
-use Rattle.coordinates.specs.Coordinate.{Coordinate}
-use Rattle.coordinates.specs.Read.{coordinateIn, inked, beforePoint, pointRead}
-use Rattle.coordinates.specs.Write.{pointText}
-use Rattle.coordinates.specs.Agree.{read-coordinate}
-use Rattle.symbols.specs.Write.{symbolText}
+use Rattle.field_numbers.specs.Number.{OneOf, Between}
+use Rattle.field_numbers.specs.Read.{allDigits, afterSpaces}
+use Rattle.field_numbers.specs.Write.{textBy}
+use Rattle.field_numbers.specs.Agree.{one-number}
+use Rattle.field_coordinates.specs.Coordinate.{Coordinate}
+use Rattle.field_coordinates.specs.Read.{coordinateIn, inked, beforePoint, pointRead}
+use Rattle.field_coordinates.specs.Write.{pointText}
+use Rattle.field_coordinates.specs.Agree.{read-coordinate}
+use Rattle.field_symbols.specs.Write.{symbolText}
 use Rattle.rules.specs.Forms.{FirstHeaderLine, Counts, CountsLine, Atom, Bond, BondLine, Kind, CHG, RAD, ISO, ValueLine, Property, DataHeader}
 use Rattle.rules.specs.Record.{Molecule, Item, SamePair, NewPair, NoPairTwice, listed, NotListed, NoAtomTwice, Atoms, Bonds, Values, Items, Parts1to5, Molfile, Record, SDfile, limit, Raw}
 use Rattle.rules.specs.Meaning.{Reading, meaning, atomsFrom, among, numberIn}

@@ -2,9 +2,9 @@
 use mathlib.Core.List.{List, [], _∷_, _++_, map}
 use lib.ListN.{length}
 use Rattle.text.specs.Text.{Bytes, Line, bytes}
-use Rattle.numbers.specs.Write.{numberText, signedText}
-use Rattle.coordinates.specs.Write.{coordinateText}
-use Rattle.symbols.specs.Write.{symbolText}
+use Rattle.field_numbers.specs.Write.{numberText, signedText}
+use Rattle.field_coordinates.specs.Write.{coordinateText}
+use Rattle.field_symbols.specs.Write.{symbolText}
 use Rattle.rules.specs.Forms.{Counts, Atom, Bond, Entry, Property, tag}
 use Rattle.rules.specs.Record.{Molecule, Item, Raw}
 

@@ -10,14 +10,14 @@ use lib.ListN.{getD, length, length-append}
 use lib.IntN.{ℤ, pos, negsuc}
 use Rattle.text.specs.Text.{Bytes, Line, bytes, Each}
 use Rattle.text.specs.Columns.{column, columns, columnsFor, Allowed}
-use Rattle.numbers.specs.Number.{Between, OneOf}
-use Rattle.numbers.specs.Write.{textBy, numberText, signedText, Fitting}
-use Rattle.numbers.specs.Written.{number-length, number-allowed, signed-length, signed-allowed}
-use Rattle.coordinates.specs.Coordinate.{Coordinate}
-use Rattle.coordinates.specs.Write.{coordinateText}
-use Rattle.coordinates.specs.Written.{coordinate-length, coordinate-allowed, coordinate-back}
-use Rattle.symbols.specs.Symbol.{names, Symbol}
-use Rattle.symbols.specs.Write.{symbol-back, symbol-length, symbol-allowed}
+use Rattle.field_numbers.specs.Number.{Between, OneOf}
+use Rattle.field_numbers.specs.Write.{textBy, numberText, signedText, Fitting}
+use Rattle.field_numbers.specs.Written.{number-length, number-allowed, signed-length, signed-allowed}
+use Rattle.field_coordinates.specs.Coordinate.{Coordinate}
+use Rattle.field_coordinates.specs.Write.{coordinateText}
+use Rattle.field_coordinates.specs.Written.{coordinate-length, coordinate-allowed, coordinate-back}
+use Rattle.field_symbols.specs.Symbol.{names, Symbol}
+use Rattle.field_symbols.specs.Write.{symbol-back, symbol-length, symbol-allowed}
 use Rattle.rules.specs.Forms.{Counts, CountsLine, Atom, AtomLine, Bond, BondLine, stereos, centres}
 use Rattle.rules.specs.Forms.{Kind, CHG, RAD, ISO, tag, Entry, EntryNumber, EntriesFrom, Property, PropertyLine, EndLine, DataHeader, BlankLine, RecordEnd}
 use Rattle.rules.specs.Record.{Molecule, Item, Raw, NoPairTwice, listed, NoAtomTwice, Atoms, Bonds, Properties, Values, Items, Parts1to5, Record, SDfile}

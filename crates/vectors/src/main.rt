@@ -37,14 +37,14 @@ fn check_case(s: &[u8], at: usize) -> Next {
     if e <= from {
         return Next::Bad;
     }
-    print::checked(whole::check(kind as u8, &s[from..e - 1]));
+    print::checked(reader_check::check(kind as u8, &s[from..e - 1]));
     Next::At(e)
 }
 
 fn answer_read(kind: u8, s: &[u8], atoms: &mut [i32], bonds: &mut [i32]) {
     cases::fresh_table(atoms);
     cases::fresh_table(bonds);
-    print::was_read(read::read_record(kind, s, atoms, bonds));
+    print::was_read(reader_record::read_record(kind, s, atoms, bonds));
     print::tables(atoms, bonds);
 }
 
@@ -98,7 +98,7 @@ fn fetch_case(s: &[u8], at: usize) -> Next {
     if e <= h {
         return Next::Bad;
     }
-    print::found(fetch::find_item(&s[h..e - 1], &s[from..h - 1]));
+    print::found(reader_item::find_item(&s[h..e - 1], &s[from..h - 1]));
     Next::At(e)
 }
 
@@ -132,7 +132,7 @@ fn write_blocks(
     let headers = &s[from..h - 1];
     let items = &s[h..e - 1];
     cases::fresh_room(room);
-    print::written(writer::write_record(
+    print::written(writer_record::write_record(
         atoms,
         bonds,
         given.n,
@@ -218,7 +218,7 @@ fn answer_catalogue(s: &[u8], atoms: &mut [i32], bonds: &mut [i32], room: &mut [
     cases::fresh_table(atoms);
     cases::fresh_table(bonds);
     cases::fresh_room(room);
-    print::catalogued(catalogue::write_catalogue(s, atoms, bonds, room));
+    print::catalogued(writer_catalogue::write_catalogue(s, atoms, bonds, room));
     print::room(room);
     print::tables(atoms, bonds);
 }

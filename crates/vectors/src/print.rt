@@ -1,9 +1,9 @@
 // The lines that are printed.
-use catalogue::Catalogue;
-use fetch::Found;
-use read::RecordRead;
-use whole::Answer;
-use writer::Written;
+use reader_check::Answer;
+use reader_item::Found;
+use reader_record::RecordRead;
+use writer_catalogue::Catalogue;
+use writer_record::Written;
 
 fn say(word: &[u8]) {
     io::write_all(libc::STDOUT_FILENO, word);

@@ -1,5 +1,5 @@
 -- `cases::shifted` is safe and ends.
-use Rattle.put.specs.Signs.{size-laws}
+use Rattle.writer_lines.specs.Signs.{size-laws}
 use borrow.Author.Needs.{needs}
 use Rattle.cases.proofs.shifted.Statement.{statement}
 use Rattle.cases.proofs.shifted.Tie as tie

@@ -1,0 +1,118 @@
+-- What is written of a coordinate is read as that coordinate: ten columns of allowed bytes.
+use Prim.Native.Nat.{ℕ, zero, suc, _+_, _*_, _/_, _%_, _≤_}
+use native.Mathlib.Nat.{div-div-eq-div-mul}
+use native.Mathlib.Omega.{arith}
+use mathlib.Core.Path.{_≡_, refl, sym, ap, _∙_, subst}
+use mathlib.Core.List.{[], _∷_, _++_}
+use mathlib.Core.Bool.{Bool, true, false}
+use lib.ListN.{length, length-append}
+use lib.IntN.{ℤ, pos, negsuc, negℤ}
+use Rattle.text.specs.Text.{Bytes, Each, bytes}
+use Rattle.text.specs.Columns.{spaces, Allowed}
+use Rattle.field_numbers.specs.Number.{Digits, Integer, Between, decimalAfter}
+use Rattle.field_numbers.specs.Write.{textBy, sizedText}
+use Rattle.field_numbers.specs.Written.{text-length, text-allowed, number-back, signed-back}
+use Rattle.field_coordinates.specs.declared.CoordinateRead.{CoordinateRead}
+use Rattle.field_coordinates.specs.Coordinate.{Pointed, Coordinate}
+use Rattle.field_coordinates.specs.Read.{coordinateIn}
+use Rattle.field_coordinates.specs.Agree.{read-coordinate}
+use Rattle.field_coordinates.specs.Write.{lastDigit, afterPoint, pointText, coordinateText}
+
+pub text-ten : (minus : Bool) (k : ℕ) → length (pointText minus k) ≡ 10
+unfolding pointText
+text-ten minus k = length-append (sizedText 5 minus (k / 10000)) (afterPoint k) ∙ omega (arith, text-length 5 true minus (k / 10000))
+
+pub coordinate-length : (z : ℤ) → length (coordinateText z) ≡ 10
+coordinate-length (pos k) = text-ten false k
+coordinate-length (negsuc k) = text-ten true (suc k)
+
+each-append : (P : ℕ → Type 0) (xs ys : Bytes) → Each P xs → Each P ys → Each P (xs ++ ys)
+unfolding Each
+each-append P [] ys h k = k
+each-append P (x ∷ xs) ys h k = (h .0, each-append P xs ys (h .1) k)
+
+text-bytes : (minus : Bool) (k : ℕ) → Each Allowed (pointText minus k)
+unfolding pointText Each
+text-bytes minus k =
+    each-append Allowed (sizedText 5 minus (k / 10000)) (afterPoint k) (text-allowed 5 true minus (k / 10000))
+    (omega arith, (omega arith, (omega arith, (omega arith, (omega arith, tt)))))
+
+pub coordinate-allowed : (z : ℤ) → Each Allowed (coordinateText z)
+coordinate-allowed (pos k) = text-bytes false k
+coordinate-allowed (negsuc k) = text-bytes true (suc k)
+
+-- the digits before the point
+abbrev sign : Bool → Bytes
+sign true = bytes "-"
+sign false = []
+
+record Whole (minus : Bool) (cs : Bytes) (k : ℕ) : Type 0 where
+  count : ℕ
+  ds : Bytes
+  parts : cs ≡ spaces count ++ (sign minus ++ ds)
+  digits : Digits ds k
+
+plain-whole : (negatives : Bool) (cs : Bytes) (z : ℤ) (k : ℕ) → Integer negatives cs z → z ≡ pos (suc k) → Whole false cs (suc k)
+plain-whole negatives cs z k (Integer.blank i e) h = absurd (let w : _≡_ {A = ℕ} 0 1 = cc in omega arith)
+plain-whole negatives cs z k (Integer.plain i ds j e d) h =
+    let q : j ≡ suc k = cc in
+    record { count = i; ds = ds; parts = e; digits = subst (Digits ds) q d }
+plain-whole negatives cs z k (Integer.minus i ds zero n e d) h = absurd (let w : _≡_ {A = ℕ} 0 1 = cc in omega arith)
+plain-whole negatives cs z k (Integer.minus i ds (suc j) n e d) h = absurd (let w : _≡_ {A = ℕ} 0 1 = cc in omega arith)
+
+minus-whole : (negatives : Bool) (cs : Bytes) (z : ℤ) (k : ℕ) → Integer negatives cs z → z ≡ negsuc k → Whole true cs (suc k)
+minus-whole negatives cs z k (Integer.blank i e) h = absurd (let w : _≡_ {A = ℕ} 0 1 = cc in omega arith)
+minus-whole negatives cs z k (Integer.plain i ds j e d) h = absurd (let w : _≡_ {A = ℕ} 0 1 = cc in omega arith)
+minus-whole negatives cs z k (Integer.minus i ds zero n e d) h = absurd (let w : _≡_ {A = ℕ} 0 1 = cc in omega arith)
+minus-whole negatives cs z k (Integer.minus i ds (suc j) n e d) h =
+    let q : suc j ≡ suc k = cc in
+    record { count = i; ds = ds; parts = e; digits = subst (Digits ds) q d }
+
+zero-digit : Digits (bytes "0") 0
+unfolding Each decimalAfter
+zero-digit = record { some = omega arith; each = ((omega arith, omega arith), tt); number = refl }
+
+plain-text : (k : ℕ) → k ≤ 99999 → Whole false (sizedText 5 false k) k
+unfolding textBy
+plain-text zero h = record { count = 4; ds = bytes "0"; parts = refl; digits = zero-digit }
+plain-text (suc k) h = plain-whole false (sizedText 5 false (suc k)) (pos (suc k)) k (number-back false 5 (suc k) (omega arith)) refl
+
+minus-text : (k : ℕ) → k ≤ 9999 → Whole true (sizedText 5 true k) k
+unfolding textBy
+minus-text zero h = record { count = 3; ds = bytes "0"; parts = refl; digits = zero-digit }
+minus-text (suc k) h = minus-whole true (sizedText 5 true (suc k)) (negsuc k) k (signed-back 5 (negsuc k) (omega arith)) refl
+
+-- the digits after it
+part-digits : (k : ℕ) → Digits (lastDigit (k / 1000) ∷ lastDigit (k / 100) ∷ lastDigit (k / 10) ∷ lastDigit k ∷ []) (k % 10000)
+unfolding Each decimalAfter
+part-digits k = record {
+  some = omega arith;
+  each = ((omega arith, omega arith), ((omega arith, omega arith), ((omega arith, omega arith), ((omega arith, omega arith), tt))));
+  number = omega (arith, div-div-eq-div-mul k 10 10, div-div-eq-div-mul k 100 10, div-div-eq-div-mul k 1000 10);
+}
+
+text-pointed : (minus : Bool) (k : ℕ) (bs : Bytes) → sizedText 5 minus (k / 10000) ≡ bs →
+    Pointed (pointText minus k) bs (lastDigit (k / 1000) ∷ lastDigit (k / 100) ∷ lastDigit (k / 10) ∷ lastDigit k ∷ [])
+unfolding pointText
+text-pointed minus k bs e = record {
+  parts = ap (λ (l : Bytes). l ++ afterPoint k) e;
+  column-6 = ap length (sym e) ∙ text-length 5 true minus (k / 10000);
+  four = refl;
+}
+
+whole-part : (k : ℕ) → k / 10000 * 10000 + k % 10000 ≡ k
+whole-part k = omega arith
+
+pub coordinate-back : (z : ℤ) → Between 99999999 999999999 z → Coordinate (coordinateText z) z
+coordinate-back (pos k) h =
+    let w = plain-text (k / 10000) (omega arith) in
+    subst (λ (n : ℕ). Coordinate (pointText false k) (pos n)) (whole-part k)
+    (Coordinate.plain (w .count) (w .ds) _ (k / 10000) (k % 10000) (text-pointed false k _ (w .parts)) (w .digits) (part-digits k))
+coordinate-back (negsuc j) h =
+    let k = suc j in
+    let w = minus-text (k / 10000) (omega arith) in
+    subst (λ (n : ℕ). Coordinate (pointText true k) (negℤ (pos n))) (whole-part k)
+    (Coordinate.minus (w .count) (w .ds) _ (k / 10000) (k % 10000) (text-pointed true k _ (w .parts)) (w .digits) (part-digits k))
+
+pub coordinate-written : (z : ℤ) → Between 99999999 999999999 z → coordinateIn (coordinateText z) ≡ CoordinateRead.Is z
+coordinate-written z h = read-coordinate (coordinate-back z h)

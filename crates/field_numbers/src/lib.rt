@@ -1,0 +1,361 @@
+// Integer fields of a line: read by columns, written right-aligned.
+ghost use mathlib.Core.Path.{_≡_};
+ghost use mathlib.Core.Bool.{_&&_};
+ghost use Prim.Native.Nat.{_+_, _-_, _≤_, _<_};
+ghost use lib.Dec.{eqb};
+ghost use lib.IntN.{pos};
+ghost use lib.ListN.{length};
+ghost use lib.Seq.{sets};
+ghost use Rattle.text.specs.Columns.{column, columns, columnsFor};
+ghost use Rattle.field_numbers.specs.Read.{afterSpaces, is, signed, ranged, numberIn, signedRanged, signedIn};
+ghost use Rattle.field_numbers.specs.Parts.{sizeIn, withSign, sizedIn, LoneDigit};
+ghost use Rattle.field_numbers.specs.Write.{sizedText, numberText, signedText, firstDigit};
+
+// A number of a range without negatives, as columns hold it.
+pub enum NumberRead {
+    Is(u32),
+    Malformed,
+    Outside,
+}
+
+// A number of a range with negatives.
+pub enum SignedRead {
+    Is(i32),
+    Malformed,
+    Outside,
+}
+
+// The number that digits stand for.
+pub enum Size {
+    Is(u32),
+    Malformed,
+}
+
+// A number before its range is asked: whether a `-` stands before its digits, and what they stand for.
+pub enum SizedRead {
+    Is { minus: bool, size: u32 },
+    Malformed,
+}
+
+// The first column from i on that is no space, or e: columns i to e - 1 are looked at.
+pub fn spaces_end(line: &[u8], i: usize, e: usize) -> usize
+    requires { ⌜ (1 ≤ i) × (i ≤ e) ⌝ }
+    ensures { λ r. ⌜ afterSpaces (columnsFor (now (line .entry)) i (e - i)) ≡ columnsFor (now (line .entry)) r (e - r) ⌝ }
+    ensures { λ r. ⌜ (i ≤ r) × (r ≤ e) ⌝ }
+{
+    let mut a = i;
+    while a < e {
+        if text::column(line, a) != 32 {
+            return a;
+        }
+        a += 1;
+    }
+    e
+}
+
+// The same in columns that the line has.
+pub fn inner_spaces_end(line: &[u8], i: usize, e: usize) -> usize
+    requires { ⌜ (1 ≤ i) × (i ≤ e) × (e ≤ length (now line) + 1) ⌝ }
+    ensures { λ r. ⌜ afterSpaces (columnsFor (now (line .entry)) i (e - i)) ≡ columnsFor (now (line .entry)) r (e - r) ⌝ }
+    ensures { λ r. ⌜ (i ≤ r) × (r ≤ e) ⌝ }
+{
+    let mut a = i;
+    while a < e {
+        if text::inner_column(line, a) != 32 {
+            return a;
+        }
+        a += 1;
+    }
+    e
+}
+
+// The digits in columns i to e - 1.
+pub fn digits(line: &[u8], i: usize, e: usize) -> Size
+    requires { ⌜ (1 ≤ i) × (i ≤ e) × (e ≤ i + 9) ⌝ }
+    ensures { λ r. ⌜ r ≡ sizeIn (columnsFor (now (line .entry)) i (e - i)) ⌝ }
+{
+    if e <= i {
+        return Size::Malformed;
+    }
+    let mut k: u32 = 0;
+    let mut a = i;
+    while a < e {
+        let b = text::column(line, a);
+        if b < 48 {
+            return Size::Malformed;
+        }
+        if 57 < b {
+            return Size::Malformed;
+        }
+        k = k * 10 + ((b - 48) as u32);
+        a += 1;
+    }
+    Size::Is(k)
+}
+
+// The same in columns that the line has.
+pub fn inner_digits(line: &[u8], i: usize, e: usize) -> Size
+    requires { ⌜ (1 ≤ i) × (i ≤ e) × (e ≤ i + 9) × (e ≤ length (now line) + 1) ⌝ }
+    ensures { λ r. ⌜ r ≡ sizeIn (columnsFor (now (line .entry)) i (e - i)) ⌝ }
+{
+    if e <= i {
+        return Size::Malformed;
+    }
+    let mut k: u32 = 0;
+    let mut a = i;
+    while a < e {
+        let d = text::inner_column(line, a);
+        if d < 48 {
+            return Size::Malformed;
+        }
+        if 57 < d {
+            return Size::Malformed;
+        }
+        k = k * 10 + ((d - 48) as u32);
+        a += 1;
+    }
+    Size::Is(k)
+}
+
+// Whether column i has a `-` that may stand there.
+fn minus_at(line: &[u8], i: usize, negatives: bool) -> bool
+    requires { ⌜ 1 ≤ i ⌝ }
+    ensures { λ r. ⌜ r ≡ (negatives && eqb (column (now (line .entry)) i) 45) ⌝ }
+{
+    if negatives {
+        text::column(line, i) == 45
+    } else {
+        false
+    }
+}
+
+// The digits in columns i to e - 1, with the sign that stands before them.
+fn sized_digits(line: &[u8], i: usize, e: usize, minus: bool) -> SizedRead
+    requires { ⌜ (1 ≤ i) × (i ≤ e) × (e ≤ i + 9) ⌝ }
+    ensures { λ r. ⌜ r ≡ withSign minus (sizeIn (columnsFor (now (line .entry)) i (e - i))) ⌝ }
+{
+    match digits(line, i, e) {
+        Size::Is(k) => SizedRead::Is { minus, size: k },
+        Size::Malformed => SizedRead::Malformed,
+    }
+}
+
+// The integer field in columns i to j.
+pub fn sized(line: &[u8], i: usize, j: usize, negatives: bool) -> SizedRead
+    requires { ⌜ (1 ≤ i) × (i ≤ j + 1) × (j ≤ 1000) × (j + 1 ≤ i + 9) ⌝ }
+    ensures { λ r. ⌜ r ≡ sizedIn negatives (columns (now (line .entry)) i j) ⌝ }
+{
+    let e = j + 1;
+    let a = spaces_end(line, i, e);
+    if e <= a {
+        return SizedRead::Is {
+            minus: false,
+            size: 0,
+        };
+    }
+    if minus_at(line, a, negatives) {
+        return sized_digits(line, a + 1, e, true);
+    }
+    sized_digits(line, a, e, false)
+}
+
+fn within(k: u32, least: u32, most: u32) -> NumberRead
+    ensures { λ r. ⌜ r ≡ ranged least most (is (pos k)) ⌝ }
+{
+    if k < least {
+        return NumberRead::Outside;
+    }
+    if most < k {
+        return NumberRead::Outside;
+    }
+    NumberRead::Is(k)
+}
+
+// The digit of the usual field, two spaces and a digit in columns i to i + 2; 10 for any other.
+fn lone_digit(line: &[u8], i: usize) -> u32
+    requires { ⌜ (1 ≤ i) × (i ≤ 1000) ⌝ }
+    ensures { λ r. ⌜ LoneDigit (now (line .entry)) i r ⌝ }
+{
+    if line.len() < i + 2 {
+        return 10;
+    }
+    if line[i - 1] != 32 {
+        return 10;
+    }
+    if line[i] != 32 {
+        return 10;
+    }
+    let b = line[i + 1];
+    if b < 48 {
+        return 10;
+    }
+    if 57 < b {
+        return 10;
+    }
+    (b - 48) as u32
+}
+
+// The number in columns i to j, of a range without negatives.
+pub fn number(line: &[u8], i: usize, j: usize, least: u32, most: u32) -> NumberRead
+    requires { ⌜ (1 ≤ i) × (i ≤ j + 1) × (j ≤ 1000) × (j + 1 ≤ i + 9) ⌝ }
+    ensures { λ r. ⌜ r ≡ numberIn least most (columns (now (line .entry)) i j) ⌝ }
+{
+    if j == i + 2 {
+        let k = lone_digit(line, i);
+        if k <= 9 {
+            return within(k, least, most);
+        }
+    }
+    any_number(line, i, j, least, most)
+}
+
+fn any_number(line: &[u8], i: usize, j: usize, least: u32, most: u32) -> NumberRead
+    requires { ⌜ (1 ≤ i) × (i ≤ j + 1) × (j ≤ 1000) × (j + 1 ≤ i + 9) ⌝ }
+    ensures { λ r. ⌜ r ≡ numberIn least most (columns (now (line .entry)) i j) ⌝ }
+{
+    match sized(line, i, j, false) {
+        SizedRead::Is { minus: _, size } => within(size, least, most),
+        SizedRead::Malformed => NumberRead::Malformed,
+    }
+}
+
+// A number with a sign.
+pub fn with_sign(minus: bool, k: u32) -> i32
+    requires { ⌜ k < 1000000000 ⌝ }
+    ensures { λ r. ⌜ r ≡ signed minus k ⌝ }
+{
+    if minus { 0 - (k as i32) } else { k as i32 }
+}
+
+fn between(minus: bool, k: u32, below: u32, above: u32) -> SignedRead
+    requires { ⌜ k < 1000000000 ⌝ }
+    ensures { λ r. ⌜ r ≡ signedRanged below above (is (signed minus k)) ⌝ }
+{
+    if minus {
+        if below < k {
+            return SignedRead::Outside;
+        }
+        return SignedRead::Is(with_sign(true, k));
+    }
+    if above < k {
+        return SignedRead::Outside;
+    }
+    SignedRead::Is(with_sign(false, k))
+}
+
+// The number in columns i to j, of a range with negatives.
+pub fn signed_number(line: &[u8], i: usize, j: usize, below: u32, above: u32) -> SignedRead
+    requires { ⌜ (1 ≤ i) × (i ≤ j + 1) × (j ≤ 1000) × (j + 1 ≤ i + 9) ⌝ }
+    ensures { λ r. ⌜ r ≡ signedIn below above (columns (now (line .entry)) i j) ⌝ }
+{
+    if j == i + 2 {
+        let k = lone_digit(line, i);
+        if k <= 9 {
+            return between(false, k, below, above);
+        }
+    }
+    any_signed(line, i, j, below, above)
+}
+
+fn any_signed(line: &[u8], i: usize, j: usize, below: u32, above: u32) -> SignedRead
+    requires { ⌜ (1 ≤ i) × (i ≤ j + 1) × (j ≤ 1000) × (j + 1 ≤ i + 9) ⌝ }
+    ensures { λ r. ⌜ r ≡ signedIn below above (columns (now (line .entry)) i j) ⌝ }
+{
+    match sized(line, i, j, true) {
+        SizedRead::Is { minus, size } => between(minus, size, below, above),
+        SizedRead::Malformed => SignedRead::Malformed,
+    }
+}
+
+// A number right-aligned in `width` columns from position `at` on, with a `-` or without.
+pub fn put_sized(out: &mut [u8], at: usize, width: usize, minus: bool, k: u32)
+    requires { ⌜ at + width ≤ length (now out) ⌝ }
+    ensures { λ _. ⌜ now (out .exit) ≡ sets (now (out .entry)) at (sizedText width minus k) ⌝ }
+{
+    let mut i = at + width;
+    let mut q = k;
+    let mut more = true;
+    let mut sign = minus;
+    while at < i {
+        i -= 1;
+        if more {
+            out[i] = 48 + (q % 10) as u8;
+            more = 9 < q;
+            q = q / 10;
+        } else {
+            if sign {
+                out[i] = 45;
+                sign = false;
+            } else {
+                out[i] = 32;
+            }
+        }
+    }
+}
+
+// Two spaces and a digit.
+fn put_digit(out: &mut [u8], at: usize, k: u32)
+    requires { ⌜ (at + 3 ≤ length (now out)) × (k ≤ 9) ⌝ }
+    ensures { λ _. ⌜ now (out .exit) ≡ sets (now (out .entry)) at (numberText 3 k) ⌝ }
+{
+    let digit = 48 + k as u8;
+    out[at] = 32;
+    out[at + 1] = 32;
+    out[at + 2] = digit;
+}
+
+// A first digit: a space for zero.
+fn first_digit(k: u32) -> u8
+    requires { ⌜ k ≤ 9 ⌝ }
+    ensures { λ r. ⌜ r ≡ firstDigit k ⌝ }
+{
+    if k < 1 {
+        return 32;
+    }
+    48 + k as u8
+}
+
+// Two digits or three in three columns.
+fn put_digits(out: &mut [u8], at: usize, k: u32)
+    requires { ⌜ (at + 3 ≤ length (now out)) × ((9 < k) × (k ≤ 999)) ⌝ }
+    ensures { λ _. ⌜ now (out .exit) ≡ sets (now (out .entry)) at (numberText 3 k) ⌝ }
+{
+    let hundreds = k / 100;
+    let tens = k / 10;
+    let first = first_digit(hundreds);
+    let second = 48 + (tens - 10 * hundreds) as u8;
+    let third = 48 + (k - 10 * tens) as u8;
+    out[at] = first;
+    out[at + 1] = second;
+    out[at + 2] = third;
+}
+
+// A number without negatives, right-aligned in `width` columns from position `at` on: most often a short one in three.
+pub fn put_number(out: &mut [u8], at: usize, width: usize, k: u32)
+    requires { ⌜ at + width ≤ length (now out) ⌝ }
+    ensures { λ _. ⌜ now (out .exit) ≡ sets (now (out .entry)) at (numberText width k) ⌝ }
+{
+    if width == 3 {
+        if k <= 9 {
+            put_digit(out, at, k);
+            return;
+        }
+        if k <= 999 {
+            put_digits(out, at, k);
+            return;
+        }
+    }
+    put_sized(out, at, width, false, k);
+}
+
+// A number with its sign. `-1 - v` is one less than the size of a negative v, so the lowest number is written too.
+pub fn put_signed(out: &mut [u8], at: usize, width: usize, v: i32)
+    requires { ⌜ at + width ≤ length (now out) ⌝ }
+    ensures { λ _. ⌜ now (out .exit) ≡ sets (now (out .entry)) at (signedText width v) ⌝ }
+{
+    if v < 0 {
+        put_sized(out, at, width, true, (-1 - v) as u32 + 1);
+    } else {
+        put_sized(out, at, width, false, v as u32);
+    }
+}

@@ -1,0 +1,38 @@
+-- `line_fields::signed_field` meets its contract.
+use Rattle.line_fields.specs.Steps.{one-field}
+use borrow.Author.Needs.{needs}
+use Rattle.line_fields.proofs.signed_field.Statement.{statement}
+use Rattle.line_fields.proofs.signed_field.Tie as tie
+
+signed-number-requires : tie.Need-signed-number-requires
+signed-number-requires c κs = search needs
+
+enum-known-z : tie.Need-enum-known-z
+enum-known-z c = search needs
+
+enum-told : tie.Need-enum-told
+enum-told c = search needs
+
+enum-told-2 : tie.Need-enum-told-2
+enum-told-2 c = search needs
+
+returns : tie.Need-returns
+returns c = search (needs, one-field)
+
+returns-2 : tie.Need-returns-2
+returns-2 c = search (needs, one-field)
+
+returns-3 : tie.Need-returns-3
+returns-3 c = search (needs, one-field)
+
+pub signed-field-spec : {M : Type 1} → statement M
+signed-field-spec =
+    tie.close
+    (tie.spec
+    signed-number-requires
+    enum-known-z
+    enum-told
+    enum-told-2
+    returns
+    returns-2
+    returns-3)

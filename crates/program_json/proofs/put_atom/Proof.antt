@@ -1,0 +1,54 @@
+use native.Mathlib.Omega.{arith}
+use borrow.Author.Needs.{needs}
+use Rattle.program_json.proofs.put_atom.Statement.{statement}
+use Rattle.program_json.proofs.put_atom.Tie as tie
+
+clear-requires : tie.Need-clear-requires
+clear-requires c κs = search needs
+
+has-more-requires : tie.Need-has-more-requires
+has-more-requires c κs = search needs
+
+has-more-requires-2 : tie.Need-has-more-requires-2
+has-more-requires-2 c κs = search needs
+
+put-atom-requires : tie.Need-put-atom-requires
+put-atom-requires c κs =
+    let row = c .before in
+    let ready = row .before .before in (
+      omega (arith, row .before .has-more2 .ensures (row .if2 .taken)),
+      omega (arith, ready .before .has-more .ensures (ready .if1 .taken)),
+    )
+
+to-requires : tie.Need-to-requires
+to-requires c κs = search needs
+
+same-length : tie.Need-same-length
+same-length c = search needs
+
+returns : tie.Need-returns
+returns c = search needs
+
+failed-requires : tie.Need-failed-requires
+failed-requires c κs = search needs
+
+same-length-2 : tie.Need-same-length-2
+same-length-2 c = search needs
+
+returns-2 : tie.Need-returns-2
+returns-2 c = search needs
+
+pub put-atom-spec : {M : Type 1} → statement M
+put-atom-spec =
+    tie.close
+    (tie.spec
+    clear-requires
+    has-more-requires
+    has-more-requires-2
+    put-atom-requires
+    to-requires
+    same-length
+    returns
+    failed-requires
+    same-length-2
+    returns-2)

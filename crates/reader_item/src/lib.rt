@@ -1,0 +1,169 @@
+// The value lines of a data item, fetched from a record of an SDfile as a part of the caller's bytes.
+ghost use mathlib.Core.Path.{_≡_};
+ghost use Prim.Native.Nat.{_*_, _≤_};
+ghost use lib.ListN.{length};
+ghost use Rattle.judge_line.specs.Judge.{itemOf};
+ghost use Rattle.line_property.specs.Listed.{places};
+ghost use Rattle.reader_item.specs.Find.{titledAs, titleBy, valuesAt, numbersOf, foundOf, ItemsStart};
+ghost use Rattle.reader_item.specs.Promise.{Promised, Handed};
+use line_property::LISTED;
+use line_text::ItemRead;
+use line_text::ValueRead;
+use reader_walk::Walked;
+use text::LineAt;
+
+// What a fetch finds: the bytes from the first value line's start up to the last one's end; both 0 where the item has no value lines.
+pub enum Found {
+    Item { from: usize, to: usize },
+    Refused { no: u8, line: usize, column: usize },
+}
+
+// A line where a data header or `$$$$` must stand, held against a name.
+enum Title {
+    Named,
+    Other,
+    Close,
+}
+
+// The value lines of an item, and where the line after its blank line starts.
+struct Values {
+    from: usize,
+    to: usize,
+    next: usize,
+}
+
+// The name of a data header, held against the name that is sought: byte for byte.
+fn title_as(found: &[u8], name: &[u8]) -> Title
+    ensures { λ r. ⌜ r ≡ titledAs (now (found .entry)) (now (name .entry)) ⌝ }
+{
+    if found.len() != name.len() {
+        return Title::Other;
+    }
+    if text::has_text(found, 1, name) {
+        return Title::Named;
+    }
+    Title::Other
+}
+
+// A line where a data header or `$$$$` must stand.
+fn title_line(line: &[u8], name: &[u8]) -> Title
+    ensures { λ r. ⌜ r ≡ titleBy (now (name .entry)) (itemOf (now (line .entry))) ⌝ }
+{
+    match line_text::item_line(line) {
+        ItemRead::Title { from, to } => title_as(&line[from..to], name),
+        ItemRead::Close => Title::Close,
+        ItemRead::Bad { no: _, column: _ } => Title::Close,
+    }
+}
+
+// The value lines that start at position `at`, and the line that ends them.
+fn values_at(s: &[u8], at: usize) -> Values
+    ensures { λ r. ⌜ r ≡ valuesAt (now (s .entry)) at ⌝ }
+{
+    let mut from: usize = 0;
+    let mut to: usize = 0;
+    let mut i = at;
+    loop {
+        let LineAt::Line { end, next } = text::line_at(s, i) else {
+            return Values { from, to, next: i };
+        };
+        match line_text::value_line(&s[i..end]) {
+            ValueRead::Value => {
+                from = at;
+                to = end;
+                i = next;
+            }
+            ValueRead::Blank => {
+                return Values { from, to, next };
+            }
+            ValueRead::Bad { no: _, column: _ } => {
+                return Values { from, to, next };
+            }
+        }
+    }
+}
+
+// The first item of a name, among the items of a good record, which start at `start`.
+fn hunt(s: &[u8], start: usize, name: &[u8]) -> Found
+    requires { ⌜ ItemsStart (now s) start ⌝ }
+    ensures { λ r. ⌜ numbersOf r ≡ foundOf (now (s .entry)) (now (name .entry)) ⌝ }
+{
+    let mut at = start;
+    loop {
+        let LineAt::Line { end, next } = text::line_at(s, at) else {
+            return Found::Refused {
+                no: 22,
+                line: 0,
+                column: 0,
+            };
+        };
+        match title_line(&s[at..end], name) {
+            Title::Named => {
+                let v = values_at(s, next);
+                return Found::Item {
+                    from: v.from,
+                    to: v.to,
+                };
+            }
+            Title::Other => {
+                let v = values_at(s, next);
+                at = v.next;
+            }
+            Title::Close => {
+                return Found::Refused {
+                    no: 22,
+                    line: 0,
+                    column: 0,
+                };
+            }
+        }
+    }
+}
+
+// The record is judged first; the tables are of no further use.
+fn find_with(
+    s: &[u8],
+    name: &[u8],
+    atoms: &mut [i32],
+    bonds: &mut [i32],
+    listed: &mut [u32; LISTED],
+) -> Found
+    requires { ⌜ (4080 ≤ length (now atoms)) × (1530 ≤ length (now bonds)) × (length (now listed) ≡ 3 * places) ⌝ }
+    ensures { λ r. ⌜ numbersOf r ≡ foundOf (now (s .entry)) (now (name .entry)) ⌝ }
+{
+    match reader_walk::walk_record(true, s, atoms, bonds, listed) {
+        Walked::Whole {
+            counts: _,
+            length: _,
+            lines: _,
+            header_end: _,
+            items_start,
+            items_end: _,
+        } => hunt(s, items_start, name),
+        Walked::Refused { no, line, column } => Found::Refused { no, line, column },
+    }
+}
+
+// Where the value lines of the first item of a name stand in the record that the bytes begin with.
+pub fn find_item(s: &[u8], name: &[u8]) -> Found
+    ensures { λ r. ⌜ Promised (now (s .entry)) (now (name .entry)) (numbersOf r) ⌝ }
+{
+    let mut atoms = [0i32; 4080];
+    let mut bonds = [0i32; 1530];
+    let mut listed = [0u32; LISTED];
+    find_with(s, name, &mut atoms, &mut bonds, &mut listed)
+}
+
+// Those value lines themselves, as a part of the caller's bytes: nothing where the fetch is refused.
+pub fn fetch<'a>(s: &'a [u8], name: &[u8]) -> &'a [u8]
+    ensures { λ r. ⌜ Handed (now (s .entry)) (now (name .entry)) (now r) ⌝ }
+{
+    match find_item(s, name) {
+        Found::Item { from, to } => &s[from..to],
+        Found::Refused {
+            no: _,
+            line: _,
+            column: _,
+        } => &s[0..0],
+    }
+}

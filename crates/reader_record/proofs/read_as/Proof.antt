@@ -1,0 +1,27 @@
+-- `reader_record::read_as` meets its contract.
+use Rattle.reader_record.specs.Reading.{room-laws}
+use borrow.Author.Needs.{needs}
+use Rattle.reader_record.proofs.read_as.Statement.{statement}
+use Rattle.reader_record.proofs.read_as.Tie as tie
+
+returns : tie.Need-returns
+returns c = search (needs, room-laws)
+
+returns-2 : tie.Need-returns-2
+returns-2 c = search (needs, room-laws)
+
+read-front-requires : tie.Need-read-front-requires
+read-front-requires c κs = search needs
+
+same-length : tie.Need-same-length
+same-length c = search needs
+
+same-length-2 : tie.Need-same-length-2
+same-length-2 c = search needs
+
+returns-3 : tie.Need-returns-3
+returns-3 c = search (needs, room-laws)
+
+pub read-as-spec : {M : Type 1} → statement M
+read-as-spec =
+    tie.close (tie.spec returns returns-2 read-front-requires same-length same-length-2 returns-3)

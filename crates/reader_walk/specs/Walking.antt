@@ -1,0 +1,473 @@
+-- What holds between two lines of the walk over one record, and how each line carries it on or ends the walk.
+use Prim.Native.Nat.{ℕ, zero, suc, _+_, _-_, _*_, _≤_, _<_, _^_}
+use native.Mathlib.Omega.{arith}
+use mathlib.Core.Path.{_≡_, refl, sym, ap, ap₂, _∙_, subst}
+use mathlib.Core.List.{List, _∷_}
+use mathlib.Core.Bool.{Bool, true, false}
+use lib.ListN.{length, take, drop, set, length-set}
+use lib.Seq.{sets, length-sets}
+use lib.IntN.{ℤ}
+use mir.Syntax.{w64}
+use mir.Val.{Fits}
+use Rattle.text.specs.Text.{Bytes, Line}
+use Rattle.text.specs.Find.{lineAt}
+use Rattle.text.specs.Cut.{Cut, cut, line-within, line-cut}
+use Rattle.text.specs.declared.LineAt.{LineAt}
+use Rattle.rules.specs.Forms as R
+use Rattle.rules.specs.Record.{Raw, limit}
+use Rattle.rules.specs.Meaning.{bondNumbers}
+use Rattle.judge_pairs.specs.Taken.{pairTaken}
+use Rattle.judge_line.specs.Got.{Got, got, bad}
+use Rattle.judge_line.specs.Field.{elem}
+use Rattle.line_counts_bonds.specs.Answer.{bondIs}
+use Rattle.line_counts_bonds.specs.declared.Counts.{Counts}
+use Rattle.line_counts_bonds.specs.declared.Bond.{Bond}
+use Rattle.line_property.specs.Listed.{places}
+use Rattle.reader_tables.specs.Row.{rawRow, rawRows, bondRows, SmallAtom, SmallBond}
+use Rattle.reader_tables.specs.Held.{drop-sets}
+use Rattle.judge_file.specs.Place.{molfile, turnOf}
+use Rattle.judge_file.specs.Place as J
+use Rattle.judge_file.specs.Place.{first, second, third, counts, atoms, bonds, properties, over, items, values, next}
+use Rattle.judge_file.specs.Sound.{Sound, sound-takes}
+use Rattle.judge_file.specs.Takes.{turn-takes}
+use Rattle.judge_file.specs.WalkText.{afterLines, after-none, after-next, after-last}
+use Rattle.reader_state.specs.declared.Reader.{Reader}
+use Rattle.reader_state.specs.Went as W
+use Rattle.reader_state.specs.Went.{Went, wentOf, tableAt, Sane}
+use Rattle.reader_state.specs.Parts.{begun}
+use Rattle.reader_line.specs.declared.Notes.{Notes}
+use Rattle.reader_line.specs.declared.Taken.{Taken}
+use Rattle.reader_walk.specs.declared.Walked.{Walked}
+use Rattle.reader_pairs.specs.Keys.{keyOf, AllSmall, taken-keys}
+use Rattle.reader_walk.specs.Outcome.{whole, refused, outcomeOf, recordFrom, from-next, from-done, from-bad, outcome-from, mol-open}
+use Rattle.reader_line.specs.Took.{noNotes, bondBack, countsBack, headedAt, endedAt, atomMore, bondMore, takenBy, atomsBy, Ready, Took}
+use Rattle.reader_walk.specs.Stands.{isSd, kindOf, placeOf, Counted, Stands}
+use Rattle.reader_walk.specs.Follow.{Onto, Stored, Pending, Closed, Goes, follow}
+use Rattle.reader_walk.specs.Walked.{itemsEnd, walkedBy, walkOf, Beside, HeldBy, Left}
+
+-- ---- Positions: one line more
+
+pub after-more : (s : Bytes) (a k at e n : ℕ) → afterLines s a k ≡ at → lineAt s at ≡ LineAt.Line e n → afterLines s a (suc k) ≡ n
+after-more s a zero at e n h l =
+    let q : a ≡ at = sym (after-none s a) ∙ h in
+    after-next s a e n 0 (ap (lineAt s) q ∙ l) ∙ after-none s n
+after-more s a (suc k) at e n h l = go (λ b g. after-more s b k at e n g l) (lineAt s a) refl
+  where
+    go : ((b : ℕ) → afterLines s b k ≡ at → afterLines s b (suc k) ≡ n) → (x : LineAt) → lineAt s a ≡ x → afterLines s a (suc (suc k)) ≡ n
+    go r (LineAt.Line e′ n′) q = after-next s a e′ n′ (suc k) q ∙ r n′ (sym (after-next s a e′ n′ k q) ∙ h)
+    go r LineAt.Unfinished q =
+        let same : a ≡ at = sym (after-last s a k q) ∙ h in
+        let both : LineAt.Unfinished ≡ LineAt.Line e n = sym q ∙ ap (lineAt s) same ∙ l in
+        absurd (let z : _≡_ {A = ℕ} 0 1 = cc in omega arith)
+
+-- ---- Between two lines
+
+-- line i starts at position `at`
+pub record Walking (sd : Bool) (s : Bytes) (ta₀ tb₀ : List ℤ) (r : Reader) (m : Notes) (at i : ℕ) (t keys : List ℕ) (ta tb : List ℤ) : Type 0 where
+  pub p : J.Place
+  pub stands : Stands (kindOf sd) s r m t keys ta tb i p
+  pub sound : Sound (kindOf sd) limit p
+  pub k : ℕ
+  pub line : i ≡ suc k
+  pub start : afterLines s 0 k ≡ at
+  pub inside : at ≤ length s
+  pub bytes : length s * 1 < 2 ^ 63
+  pub lines : i ≤ at + 1
+  pub key-room : length keys ≡ 256
+  pub listed-size : length t ≡ 3 * places
+  pub atoms-beside : Beside 4080 ta₀ ta
+  pub bonds-beside : Beside 1530 tb₀ tb
+  pub same : outcomeOf (kindOf sd) s ≡ recordFrom (kindOf sd) p i (cut (drop at s) .lines) (cut (drop at s) .rest)
+
+sd-kind : (sd : Bool) → sd ≡ isSd (kindOf sd)
+sd-kind true = refl
+sd-kind false = refl
+
+pub walking-start : (sd : Bool) (s : Bytes) (r : Reader) (m : Notes) (t keys : List ℕ) (ta tb : List ℤ) → r ≡ begun sd → m ≡ noNotes → 4080 ≤ length ta → 1530 ≤ length tb → length keys ≡ 256 →
+    length t ≡ 3 * places → length s * 1 < 2 ^ 63 → Walking sd s ta tb r m 0 1 t keys ta tb
+unfolding rawRows bondRows AllSmall
+walking-start sd s r m t keys ta tb e em ra rb rk rt few =
+    rw (e, em)
+    (record {
+      p = first;
+      stands =
+          record {
+            sd = sd-kind sd;
+            place = refl;
+            few-atoms = omega arith;
+            few-bonds = omega arith;
+            counted = tt;
+            rows = record { atoms = refl; bonds = refl; atom-rows = refl; bond-rows = refl; bond-keys = refl; small = tt };
+            marks = refl;
+          };
+      sound = tt;
+      k = 0;
+      line = refl;
+      start = after-none s 0;
+      inside = omega arith;
+      bytes = few;
+      lines = omega arith;
+      key-room = rk;
+      listed-size = rt;
+      atoms-beside = record { room = ra; size = refl; past = refl };
+      bonds-beside = record { room = rb; size = refl; past = refl };
+      same = outcome-from (kindOf sd) s;
+    })
+
+-- the state is one that the reader can be in
+pub walking-sane : (sd : Bool) (s : Bytes) (ta₀ tb₀ : List ℤ) (r : Reader) (m : Notes) (at i : ℕ) (t keys : List ℕ) (ta tb : List ℤ) →
+    Walking sd s ta₀ tb₀ r m at i t keys ta tb → Sane r
+walking-sane sd s ta₀ tb₀ r m at i t keys ta tb g =
+    record {
+      owing = subst W.Owing (sym (g .stands .place)) (owing (g .p) (g .stands .counted) (g .stands .few-atoms) (g .stands .few-bonds));
+      atoms = g .stands .few-atoms;
+      bonds = g .stands .few-bonds;
+    }
+  where
+    owing : (p : J.Place) → Counted (r .counts) t p → r .counts .atoms ≤ limit → r .counts .bonds ≤ limit → W.Owing (placeOf p)
+    owing first c na nb = (omega arith, omega arith)
+    owing (second h₁) c na nb = (omega arith, omega arith)
+    owing (third h₁ h₂) c na nb = (omega arith, omega arith)
+    owing (counts hs) c na nb = tt
+    owing (atoms hs x k xs) c na nb = (omega arith, omega (arith, c .2, ap (λ (y : R.Counts). y .atoms) (c .0)))
+    owing (bonds hs x xs k bs) c na nb = (omega arith, omega (arith, c .2, ap (λ (y : R.Counts). y .bonds) (c .0)))
+    owing (properties hs x xs bs ps) c na nb = tt
+    owing (over mol) c na nb = tt
+    owing (items mol is) c na nb = tt
+    owing (values mol is name vs) c na nb = tt
+
+-- ---- A bond line that is good but for its pair
+
+-- r and t are the state and the table of listed numbers after it, the others are as before it; the next line starts at n
+pub record Bonding (sd : Bool) (s : Bytes) (r : Reader) (m : Notes) (n i : ℕ) (t keys : List ℕ) (ta tb : List ℤ) (b : Bond) : Type 0 where
+  pub bs : List R.Bond
+  pub few : m .bonds < limit
+  pub fits : SmallBond (bondIs b)
+  pub key-room : length keys ≡ 256
+  pub listed-size : length t ≡ 3 * places
+  pub key-is : elem (keyOf (bondIs b)) (take (m .bonds) keys) ≡ pairTaken (bondIs b) bs
+  pub lines : i + 1 ≤ n + 1
+  pub inside : n ≤ length s
+  pub taken : pairTaken (bondIs b) bs ≡ true → outcomeOf (kindOf sd) s ≡ refused 11 i 1
+  pub free : pairTaken (bondIs b) bs ≡ false → (ta₀ tb₀ : List ℤ) → Beside 4080 ta₀ ta → Beside 1530 tb₀ (sets tb (6 * (m .bonds)) (bondNumbers (bondIs b))) →
+      Walking sd s ta₀ tb₀ r (bondMore m) n (i + 1) t (set keys (m .bonds) (keyOf (bondIs b))) ta (sets tb (6 * (m .bonds)) (bondNumbers (bondIs b)))
+
+-- ---- A line
+
+abbrev pub part : Bytes → ℕ → ℕ → Line
+part s at e = take (e - at) (drop at s)
+
+module _ (sd : Bool) (s : Bytes) (ta₀ tb₀ : List ℤ) (r : Reader) (m : Notes) (at i : ℕ) (t keys : List ℕ) (ta tb : List ℤ)
+    (g : Walking sd s ta₀ tb₀ r m at i t keys ta tb) (e n : ℕ) (o : LineAt) (found : o ≡ lineAt s at) (is : o ≡ LineAt.Line e n) where
+  l : lineAt s at ≡ LineAt.Line e n
+  l = sym found ∙ is
+
+  after : n ≡ afterLines s 0 i
+  after = sym (ap (afterLines s 0) (g .line) ∙ after-more s 0 (g .k) at e n (g .start) l)
+
+  split : outcomeOf (kindOf sd) s ≡ recordFrom (kindOf sd) (g .p) i (part s at e ∷ (cut (drop n s) .lines)) (cut (drop n s) .rest)
+  split = g .same ∙ ap (λ (c : Cut). recordFrom (kindOf sd) (g .p) i (c .lines) (c .rest)) (line-cut s at e n l)
+
+  goes : Goes (kindOf sd) s i n r m (tableAt r (r .place) t (part s at e)) keys ta tb
+      (wentOf r t (part s at e)) (turnOf (kindOf sd) limit (g .p) (part s at e))
+  goes =
+      follow (kindOf sd) s m t keys ta tb i n (part s at e) r (g .p) (g .stands)
+      (omega (arith, g .atoms-beside .room, g .atoms-beside .size)) (omega (arith, g .bonds-beside .room, g .bonds-beside .size)) (g .key-room) after
+
+  -- the line is taken, and another follows
+  onto : (ta₁ tb₁ : List ℤ) (r′ : Reader) (m′ : Notes) (t′ keys′ : List ℕ) (ta′ tb′ : List ℤ) (q : J.Place) →
+      turnOf (kindOf sd) limit (g .p) (part s at e) ≡ got (next q) → Stands (kindOf sd) s r′ m′ t′ keys′ ta′ tb′ (suc i) q → length keys′ ≡ 256 → length t′ ≡ 3 * places →
+      Beside 4080 ta₁ ta′ → Beside 1530 tb₁ tb′ → Walking sd s ta₁ tb₁ r′ m′ n (i + 1) t′ keys′ ta′ tb′
+  onto ta₁ tb₁ r′ m′ t′ keys′ ta′ tb′ q turn st rk rt ba bb =
+      let w = line-within s at e n l in
+      let one : suc i ≡ i + 1 = omega arith in
+      record {
+        p = q;
+        stands = subst (λ (j : ℕ). Stands (kindOf sd) s r′ m′ t′ keys′ ta′ tb′ j q) one st;
+        sound = sound-takes (kindOf sd) limit (g .sound) (turn-takes (kindOf sd) limit (g .p) (part s at e) (next q) turn);
+        k = i;
+        line = sym one;
+        start = sym after;
+        inside = w .2;
+        bytes = g .bytes;
+        lines = omega (arith, w .0, w .1, g .lines);
+        key-room = rk;
+        listed-size = rt;
+        atoms-beside = ba;
+        bonds-beside = bb;
+        same =
+            split
+            ∙ from-next (kindOf sd) (g .p) q i (part s at e) (cut (drop n s) .lines) (cut (drop n s) .rest) turn
+            ∙ ap (λ (j : ℕ). recordFrom (kindOf sd) q j (cut (drop n s) .lines) (cut (drop n s) .rest)) one;
+      }
+
+  -- the state and the tables after a line that is not a bond's
+  moved : (r′ r₂ : Reader) (m′ m₂ : Notes) (t′ : List ℕ) (ta′ ta₂ : List ℤ) → r′ ≡ r₂ → m′ ≡ m₂ → length t′ ≡ 3 * places → t′ ≡ tableAt r (r .place) t (part s at e) → ta′ ≡ ta₂ → Beside 4080 ta₀ ta₂ →
+      Onto (kindOf sd) s i keys tb r₂ m₂ (tableAt r (r .place) t (part s at e)) ta₂ (turnOf (kindOf sd) limit (g .p) (part s at e)) →
+      Walking sd s ta₀ tb₀ r′ m′ n (i + 1) t′ keys ta′ tb
+  moved r′ r₂ m′ m₂ t′ ta′ ta₂ er em rt et ea ba o =
+      rw (er, em, et, ea) (onto ta₀ tb₀ r₂ m₂ (tableAt r (r .place) t (part s at e)) keys ta₂ tb (o .0) (o .1) (o .2) (g .key-room) (subst (λ (u : List ℕ). length u ≡ 3 * places) et rt) ba (g .bonds-beside))
+
+  row-beside : (a : R.Atom) → m .atoms < limit → Beside 4080 ta₀ (sets ta (16 * (m .atoms)) (rawRow a))
+  row-beside a few =
+      record {
+        room = g .atoms-beside .room;
+        size = length-sets ta (16 * (m .atoms)) (rawRow a) ∙ g .atoms-beside .size;
+        past = drop-sets (rawRow a) ta (16 * (m .atoms)) 4080 (omega arith) ∙ g .atoms-beside .past;
+      }
+
+  pub walking-next : (x : Taken) (r′ : Reader) (m′ : Notes) (t′ : List ℕ) (ta′ : List ℤ) → Took r m n t ta (part s at e) x t′ ta′ → x ≡ Taken.Next r′ m′ → Walking sd s ta₀ tb₀ r′ m′ n (i + 1) t′ keys ta′ tb
+  walking-next x r′ m′ t′ ta′ k q = go (wentOf r t (part s at e)) refl (sym q ∙ k .answer) (k .rows) goes
+    where
+      go : (w : Got Went) → wentOf r t (part s at e) ≡ w → Taken.Next r′ m′ ≡ takenBy m n w → ta′ ≡ atomsBy m w ta →
+          Goes (kindOf sd) s i n r m (tableAt r (r .place) t (part s at e)) keys ta tb w (turnOf (kindOf sd) limit (g .p) (part s at e)) →
+          Walking sd s ta₀ tb₀ r′ m′ n (i + 1) t′ keys ta′ tb
+      go (got (W.on r₂)) ew h ea o = moved r′ r₂ m′ m t′ ta′ ta (cc) (cc) (k .size) (k .kept .kept (W.on r₂) ew) ea (g .atoms-beside) o
+      go (got (W.headed r₂)) ew h ea o = moved r′ r₂ m′ (headedAt m n) t′ ta′ ta (cc) (cc) (k .size) (k .kept .kept (W.headed r₂) ew) ea (g .atoms-beside) o
+      go (got (W.atom r₂ a)) ew h ea o =
+          moved r′ r₂ m′ (atomMore m) t′ ta′ (sets ta (16 * (m .atoms)) (rawRow a)) (cc) (cc) (k .size) (k .kept .kept (W.atom r₂ a) ew) ea (row-beside a (o .few)) (o .onto)
+      go (got (W.bond r₂ b)) ew h ea o = absurd (let z : _≡_ {A = ℕ} 0 1 = cc in omega arith)
+      go (got (W.ended r₂)) ew h ea o = moved r′ r₂ m′ (endedAt m n) t′ ta′ ta (cc) (cc) (k .size) (k .kept .kept (W.ended r₂) ew) ea (g .atoms-beside) o
+      go (got (W.title r₂ name)) ew h ea o = moved r′ r₂ m′ m t′ ta′ ta (cc) (cc) (k .size) (k .kept .kept (W.title r₂ name) ew) ea (g .atoms-beside) o
+      go (got (W.value r₂)) ew h ea o = moved r′ r₂ m′ m t′ ta′ ta (cc) (cc) (k .size) (k .kept .kept (W.value r₂) ew) ea (g .atoms-beside) o
+      go (got (W.blank r₂)) ew h ea o = moved r′ r₂ m′ m t′ ta′ ta (cc) (cc) (k .size) (k .kept .kept (W.blank r₂) ew) ea (g .atoms-beside) o
+      go (got W.done) ew h ea o = absurd (let z : _≡_ {A = ℕ} 0 1 = cc in omega arith)
+      go (bad c column) ew h ea o = absurd (let z : _≡_ {A = ℕ} 0 1 = cc in omega arith)
+
+  pub walking-ready : Ready r m t ta (part s at e)
+  walking-ready =
+      record {
+        sane = walking-sane sd s ta₀ tb₀ r m at i t keys ta tb g;
+        room = omega (arith, g .atoms-beside .room, g .atoms-beside .size);
+        size = g .listed-size;
+        fits = λ r′ a q. fits r′ a (subst (λ (w : Got Went). Goes (kindOf sd) s i n r m (tableAt r (r .place) t (part s at e)) keys ta tb w (turnOf (kindOf sd) limit (g .p) (part s at e))) q goes);
+      }
+    where
+      fits : (r′ : Reader) (a : R.Atom) → Stored (kindOf sd) s i keys tb r′ m (tableAt r (r .place) t (part s at e)) ta a (turnOf (kindOf sd) limit (g .p) (part s at e)) →
+          (m .atoms < limit) × SmallAtom a
+      fits r′ a o = (o .few, o .fits)
+
+  -- ---- The line is refused
+
+  module _ (x : Taken) (t′ : List ℕ) (ta′ : List ℤ) (k : Took r m n t ta (part s at e) x t′ ta′) (c column : ℕ) (q : x ≡ Taken.Refused c column) where
+    stopped : outcomeOf (kindOf sd) s ≡ refused c i column
+    stopped = go (wentOf r t (part s at e)) (sym q ∙ k .answer) goes
+      where
+        go : (w : Got Went) → Taken.Refused c column ≡ takenBy m n w →
+            Goes (kindOf sd) s i n r m (tableAt r (r .place) t (part s at e)) keys ta tb w (turnOf (kindOf sd) limit (g .p) (part s at e)) → outcomeOf (kindOf sd) s ≡ refused c i column
+        go (got (W.on r₂)) h o = absurd (let z : _≡_ {A = ℕ} 0 1 = cc in omega arith)
+        go (got (W.headed r₂)) h o = absurd (let z : _≡_ {A = ℕ} 0 1 = cc in omega arith)
+        go (got (W.atom r₂ a)) h o = absurd (let z : _≡_ {A = ℕ} 0 1 = cc in omega arith)
+        go (got (W.bond r₂ b)) h o = absurd (let z : _≡_ {A = ℕ} 0 1 = cc in omega arith)
+        go (got (W.ended r₂)) h o = absurd (let z : _≡_ {A = ℕ} 0 1 = cc in omega arith)
+        go (got (W.title r₂ name)) h o = absurd (let z : _≡_ {A = ℕ} 0 1 = cc in omega arith)
+        go (got (W.value r₂)) h o = absurd (let z : _≡_ {A = ℕ} 0 1 = cc in omega arith)
+        go (got (W.blank r₂)) h o = absurd (let z : _≡_ {A = ℕ} 0 1 = cc in omega arith)
+        go (got W.done) h o = absurd (let z : _≡_ {A = ℕ} 0 1 = cc in omega arith)
+        go (bad c₂ column₂) h o =
+            let ec : c₂ ≡ c = cc in
+            let el : column₂ ≡ column = cc in
+            split ∙ from-bad (kindOf sd) (g .p) i (part s at e) (cut (drop n s) .lines) (cut (drop n s) .rest) c₂ column₂ o ∙ ap₂ (λ u v. refused u i v) ec el
+
+    pub walking-refused : Walked.Refused c i column ≡ walkOf (kindOf sd) s
+    unfolding walkOf
+    walking-refused = sym (ap (walkedBy (kindOf sd) s) stopped)
+
+    pub refused-left : Left ta₀ ta′ tb₀ tb t′ (outcomeOf (kindOf sd) s)
+    refused-left =
+        record {
+          atoms = subst (Beside 4080 ta₀) (sym (k .rows ∙ same-atoms (wentOf r t (part s at e)) (sym q ∙ k .answer))) (g .atoms-beside);
+          bonds = g .bonds-beside;
+          size = k .size;
+          held = subst (HeldBy ta′ tb t′) (sym stopped) tt;
+        }
+      where
+        same-atoms : (w : Got Went) → Taken.Refused c column ≡ takenBy m n w → atomsBy m w ta ≡ ta
+        same-atoms (got (W.on r₂)) h = refl
+        same-atoms (got (W.headed r₂)) h = refl
+        same-atoms (got (W.atom r₂ a)) h = absurd (let z : _≡_ {A = ℕ} 0 1 = cc in omega arith)
+        same-atoms (got (W.bond r₂ b)) h = refl
+        same-atoms (got (W.ended r₂)) h = refl
+        same-atoms (got (W.title r₂ name)) h = refl
+        same-atoms (got (W.value r₂)) h = refl
+        same-atoms (got (W.blank r₂)) h = refl
+        same-atoms (got W.done) h = refl
+        same-atoms (bad c₂ column₂) h = refl
+
+  -- ---- The line is `$$$$`
+
+  module _ (x : Taken) (t′ : List ℕ) (ta′ : List ℤ) (k : Took r m n t ta (part s at e) x t′ ta′) (q : x ≡ Taken.Done) where
+    record Over : Type 0 where
+      y : Raw
+      turn : turnOf (kindOf sd) limit (g .p) (part s at e) ≡ got (J.done y)
+      closed : Closed s r m t′ ta tb y
+      same : ta′ ≡ ta
+
+    finished-over : Over
+    finished-over = go (wentOf r t (part s at e)) refl (sym q ∙ k .answer) (k .rows) goes
+      where
+        go : (w : Got Went) → wentOf r t (part s at e) ≡ w → Taken.Done ≡ takenBy m n w → ta′ ≡ atomsBy m w ta →
+            Goes (kindOf sd) s i n r m (tableAt r (r .place) t (part s at e)) keys ta tb w (turnOf (kindOf sd) limit (g .p) (part s at e)) → Over
+        go (got (W.on r₂)) ew h ea o = absurd (let z : _≡_ {A = ℕ} 0 1 = cc in omega arith)
+        go (got (W.headed r₂)) ew h ea o = absurd (let z : _≡_ {A = ℕ} 0 1 = cc in omega arith)
+        go (got (W.atom r₂ a)) ew h ea o = absurd (let z : _≡_ {A = ℕ} 0 1 = cc in omega arith)
+        go (got (W.bond r₂ b)) ew h ea o = absurd (let z : _≡_ {A = ℕ} 0 1 = cc in omega arith)
+        go (got (W.ended r₂)) ew h ea o = absurd (let z : _≡_ {A = ℕ} 0 1 = cc in omega arith)
+        go (got (W.title r₂ name)) ew h ea o = absurd (let z : _≡_ {A = ℕ} 0 1 = cc in omega arith)
+        go (got (W.value r₂)) ew h ea o = absurd (let z : _≡_ {A = ℕ} 0 1 = cc in omega arith)
+        go (got (W.blank r₂)) ew h ea o = absurd (let z : _≡_ {A = ℕ} 0 1 = cc in omega arith)
+        go (got W.done) ew h ea o =
+            record { y = o .0; turn = o .1; closed = subst (λ (u : List ℕ). Closed s r m u ta tb (o .0)) (sym (k .kept .kept W.done ew)) (o .2); same = ea }
+        go (bad c₂ column₂) ew h ea o = absurd (let z : _≡_ {A = ℕ} 0 1 = cc in omega arith)
+
+    over-is : outcomeOf (kindOf sd) s ≡ whole (finished-over .y) i
+    over-is = split ∙ from-done (kindOf sd) (g .p) (finished-over .y) i (part s at e) (cut (drop n s) .lines) (cut (drop n s) .rest) (finished-over .turn)
+
+    -- the items end before the `$$$$` line
+    items-end : (b : Bool) (p : J.Place) (y : Raw) → Sound (kindOf b) limit p → turnOf (kindOf b) limit p (part s at e) ≡ got (J.done y) →
+        at ≡ itemsEnd (kindOf b) s (y .molecule) i
+    items-end true p y sound turn = sym (g .start) ∙ ap (afterLines s 0) (omega (arith, g .line))
+    items-end false p y sound turn = absurd (mol-open (turn-takes molfile limit p (part s at e) (J.done y) turn) sound)
+
+    pub walking-done : (w : Walked) → w ≡ Walked.Whole (r .counts) n i (m .«header_end») (m .«items_start») at → w ≡ walkOf (kindOf sd) s
+    unfolding walkOf
+    walking-done w ew =
+        let o = finished-over in
+        let ec : r .counts ≡ countsBack (o .y .molecule .counts) = ap countsBack (o .closed .counts) in
+        let ee : at ≡ itemsEnd (kindOf sd) s (o .y .molecule) i = items-end sd (g .p) (o .y) (g .sound) (o .turn) in
+        ew ∙ whole-same ec after (o .closed .headed) (o .closed .items) ee ∙ sym (ap (walkedBy (kindOf sd) s) over-is)
+      where
+        whole-same : {c c′ : Counts} {u u′ h h′ v v′ w w′ : ℕ} → c ≡ c′ → u ≡ u′ → h ≡ h′ → v ≡ v′ → w ≡ w′ → Walked.Whole c u i h v w ≡ Walked.Whole c′ u′ i h′ v′ w′
+        whole-same a b c d f = cc
+
+    pub done-left : Left ta₀ ta′ tb₀ tb t′ (outcomeOf (kindOf sd) s)
+    done-left =
+        let o = finished-over in
+        rw (o .same, over-is)
+        (record {
+          atoms = g .atoms-beside;
+          bonds = g .bonds-beside;
+          size = k .size;
+          held = record { atom-rows = o .closed .atom-rows; bond-rows = o .closed .bond-rows; listed = o .closed .listed };
+        })
+
+  -- ---- The line is a bond's
+
+  module _ (x : Taken) (r′ : Reader) (b : Bond) (t′ : List ℕ) (ta′ : List ℤ) (k : Took r m n t ta (part s at e) x t′ ta′) (q : x ≡ Taken.Bond r′ b) where
+    record Pended : Type 0 where
+      pending : Pending (kindOf sd) s i keys tb r′ m t′ ta (bondIs b) (turnOf (kindOf sd) limit (g .p) (part s at e))
+      same : ta′ ≡ ta
+
+    pended : Pended
+    pended = go (wentOf r t (part s at e)) refl (sym q ∙ k .answer) (k .rows) goes
+      where
+        go : (w : Got Went) → wentOf r t (part s at e) ≡ w → Taken.Bond r′ b ≡ takenBy m n w → ta′ ≡ atomsBy m w ta →
+            Goes (kindOf sd) s i n r m (tableAt r (r .place) t (part s at e)) keys ta tb w (turnOf (kindOf sd) limit (g .p) (part s at e)) → Pended
+        go (got (W.on r₂)) ew h ea o = absurd (let z : _≡_ {A = ℕ} 0 1 = cc in omega arith)
+        go (got (W.headed r₂)) ew h ea o = absurd (let z : _≡_ {A = ℕ} 0 1 = cc in omega arith)
+        go (got (W.atom r₂ a)) ew h ea o = absurd (let z : _≡_ {A = ℕ} 0 1 = cc in omega arith)
+        go (got (W.bond r₂ b₂)) ew h ea o =
+            let er : r₂ ≡ r′ = cc in
+            let eb : bondBack b₂ ≡ b = cc in
+            let eb′ : b₂ ≡ bondIs b = ap bondIs eb in
+            let et : tableAt r (r .place) t (part s at e) ≡ t′ = sym (k .kept .kept (W.bond r₂ b₂) ew) in
+            record {
+              pending = rw (sym er, sym eb′, sym et) o;
+              same = ea;
+            }
+        go (got (W.ended r₂)) ew h ea o = absurd (let z : _≡_ {A = ℕ} 0 1 = cc in omega arith)
+        go (got (W.title r₂ name)) ew h ea o = absurd (let z : _≡_ {A = ℕ} 0 1 = cc in omega arith)
+        go (got (W.value r₂)) ew h ea o = absurd (let z : _≡_ {A = ℕ} 0 1 = cc in omega arith)
+        go (got (W.blank r₂)) ew h ea o = absurd (let z : _≡_ {A = ℕ} 0 1 = cc in omega arith)
+        go (got W.done) ew h ea o = absurd (let z : _≡_ {A = ℕ} 0 1 = cc in omega arith)
+        go (bad c₂ column₂) ew h ea o = absurd (let z : _≡_ {A = ℕ} 0 1 = cc in omega arith)
+
+    pub bonding : Bonding sd s r′ m n i t′ keys ta′ tb b
+    bonding =
+        let o = pended .pending in
+        let w = line-within s at e n l in
+        rw (pended .same)
+        (record {
+          bs = o .bs;
+          few = omega (arith, o .count, o .few);
+          fits = o .fits;
+          key-room = g .key-room;
+          listed-size = k .size;
+          key-is =
+              ap (λ (j : ℕ). elem (keyOf (bondIs b)) (take j keys)) (o .count)
+              ∙ ap (elem (keyOf (bondIs b))) (o .bond-keys)
+              ∙ taken-keys (bondIs b) (o .bs) (o .ends) (o .small);
+          lines = omega (arith, w .0, w .1, g .lines);
+          inside = w .2;
+          taken = λ h. split ∙ from-bad (kindOf sd) (g .p) i (part s at e) (cut (drop n s) .lines) (cut (drop n s) .rest) 11 1 (o .taken h);
+          free = λ h ta₁ tb₁ ba bb.
+              let f = o .free h in
+              onto ta₁ tb₁ r′ (bondMore m) t′ (set keys (m .bonds) (keyOf (bondIs b))) ta (sets tb (6 * (m .bonds)) (bondNumbers (bondIs b))) (f .0) (f .1) (f .2)
+              (length-set keys (m .bonds) (keyOf (bondIs b)) ∙ g .key-room) (k .size) ba bb;
+        })
+
+    pub bond-beside : Beside 4080 ta₀ ta′
+    bond-beside = subst (Beside 4080 ta₀) (sym (pended .same)) (g .atoms-beside)
+
+-- ---- The facts as the code has them
+
+pub rest-is : (s : Bytes) (at : ℕ) (x : LineAt) → x ≡ lineAt s at → x ≡ LineAt.Unfinished → lineAt s at ≡ LineAt.Unfinished
+rest-is s at x h q = sym h ∙ q
+
+module _ (s : Bytes) (at e n : ℕ) (o : LineAt) (found : o ≡ lineAt s at) (is : o ≡ LineAt.Line e n) where
+  pub part-start : at ≤ e
+  part-start = line-within s at e n (sym found ∙ is) .0
+
+  pub part-end : e ≤ length s
+  part-end = let w = line-within s at e n (sym found ∙ is) in omega (arith, w .1, w .2)
+
+  pub walking-less : length s - n < length s - at
+  walking-less = let w = line-within s at e n (sym found ∙ is) in omega (arith, w .0, w .1, w .2)
+
+atoms-length : (m : Notes) (w : Got Went) (ta : List ℤ) → length (atomsBy m w ta) ≡ length ta
+atoms-length m (got (W.on r)) ta = refl
+atoms-length m (got (W.headed r)) ta = refl
+atoms-length m (got (W.atom r a)) ta = length-sets ta (16 * (m .atoms)) (rawRow a)
+atoms-length m (got (W.bond r b)) ta = refl
+atoms-length m (got (W.ended r)) ta = refl
+atoms-length m (got (W.title r name)) ta = refl
+atoms-length m (got (W.value r)) ta = refl
+atoms-length m (got (W.blank r)) ta = refl
+atoms-length m (got W.done) ta = refl
+atoms-length m (bad e column) ta = refl
+
+module _ (sd : Bool) (s : Bytes) (ta₀ tb₀ : List ℤ) (r : Reader) (m : Notes) (at i : ℕ) (t keys : List ℕ) (ta tb : List ℤ) (g : Walking sd s ta₀ tb₀ r m at i t keys ta tb) where
+  pub atoms-size : length ta ≡ length ta₀
+  atoms-size = g .atoms-beside .size
+
+  pub bonds-room : 1530 ≤ length tb
+  bonds-room = omega (arith, g .bonds-beside .room, g .bonds-beside .size)
+
+  pub bonds-size : length tb ≡ length tb₀
+  bonds-size = g .bonds-beside .size
+
+  pub took-size : (n : ℕ) (l : Line) (x : Taken) (t′ : List ℕ) (ta′ : List ℤ) → Took r m n t ta l x t′ ta′ → length ta′ ≡ length ta₀
+  took-size n l x t′ ta′ k = ap length (k .rows) ∙ atoms-length m (wentOf r t l) ta ∙ g .atoms-beside .size
+
+  pub fits-next : Fits w64 (i + 1)
+  fits-next = record { fits = omega (arith, g .lines, g .inside, g .bytes) }
+
+pub ruleset line-laws = (
+  rest-is,
+  part-start,
+  part-end,
+  walking-start,
+  walking-ready,
+  walking-next,
+  walking-less,
+  walking-refused,
+  refused-left,
+  walking-done,
+  done-left,
+  bond-beside,
+  atoms-size,
+  bonds-room,
+  bonds-size,
+  took-size,
+  fits-next,
+)

@@ -1,0 +1,180 @@
+// One record from the front of a text.
+ghost use mathlib.Core.Path.{_≡_};
+ghost use Prim.Native.Nat.{_*_, _≤_};
+ghost use lib.ListN.{length};
+ghost use Rattle.line_property.specs.Listed.{places};
+ghost use Rattle.reader_state.specs.Parts.{finished};
+ghost use Rattle.reader_walk.specs.Outcome.{outcomeOf};
+ghost use Rattle.reader_walk.specs.Stands.{kindOf};
+ghost use Rattle.reader_walk.specs.Walked.{walkOf, Left};
+ghost use Rattle.reader_walk.specs.AtEnd.{endWalked, endOf};
+use line_counts_bonds::Counts;
+use line_property::LISTED;
+use reader_line::Notes;
+use reader_line::Taken;
+use reader_pairs::KEYS;
+use reader_places::Finish;
+use reader_state::Reader;
+use text::LineAt;
+
+// A bond that joins the same pair as an earlier one, and the line it stands in. Bonds count from 1.
+pub struct Repeat {
+    pub earlier: usize,
+    pub later: usize,
+    pub line: usize,
+}
+
+// One record: its counts, its bytes and lines, where its header lines end, and where its items begin and end.
+pub enum Walked {
+    Whole {
+        counts: Counts,
+        length: usize,
+        lines: usize,
+        header_end: usize,
+        items_start: usize,
+        items_end: usize,
+    },
+    Refused {
+        no: u8,
+        line: usize,
+        column: usize,
+    },
+}
+
+// A record whose `$$$$` line starts at `at`.
+fn closed(reader: Reader, notes: Notes, at: usize, line: usize, next: usize) -> Walked
+    ensures { λ r. ⌜ r ≡ Walked.Whole (reader .counts) next line (notes .«header_end») (notes .«items_start») at ⌝ }
+{
+    let counts = reader.counts;
+    Walked::Whole {
+        counts,
+        length: next,
+        lines: line,
+        header_end: notes.header_end,
+        items_start: notes.items_start,
+        items_end: at,
+    }
+}
+
+// A molfile's end, with nothing left.
+fn at_end(reader: Reader, notes: Notes, at: usize, line: usize) -> Walked
+    requires { ⌜ 1 ≤ line ⌝ }
+    ensures { λ r. ⌜ r ≡ endWalked reader notes at line (finished reader) ⌝ }
+{
+    let counts = reader.counts;
+    match reader.finish() {
+        Finish::MayEnd => Walked::Whole {
+            counts,
+            length: at,
+            lines: line - 1,
+            header_end: notes.header_end,
+            items_start: notes.items_start,
+            items_end: notes.items_start,
+        },
+        Finish::Owes => Walked::Refused {
+            no: 19,
+            line,
+            column: 1,
+        },
+    }
+}
+
+// The end of the lines, with so many bytes left.
+fn end_walk(sd: bool, left: usize, reader: Reader, notes: Notes, at: usize, line: usize) -> Walked
+    requires { ⌜ 1 ≤ line ⌝ }
+    ensures { λ r. ⌜ r ≡ endOf sd left reader notes at line ⌝ }
+{
+    if sd {
+        return Walked::Refused {
+            no: 19,
+            line,
+            column: 1,
+        };
+    }
+    if left == 0 {
+        return at_end(reader, notes, at, line);
+    }
+    Walked::Refused {
+        no: 19,
+        line,
+        column: 1,
+    }
+}
+
+// The lines of one record. The walk over them is left by its label where a bond joins a pair that an earlier bond joins.
+fn walk_lines(
+    sd: bool,
+    s: &[u8],
+    atoms: &mut [i32],
+    bonds: &mut [i32],
+    listed: &mut [u32; LISTED],
+    keys: &mut [u32; KEYS],
+) -> Walked
+    requires { ⌜ (4080 ≤ length (now atoms)) × (1530 ≤ length (now bonds)) × (length (now listed) ≡ 3 * places) × (length (now keys) ≡ 256) ⌝ }
+    ensures { λ r. ⌜ r ≡ walkOf (kindOf sd) (now (s .entry)) ⌝ }
+    ensures { λ r. ⌜ Left (now (atoms .entry)) (now (atoms .exit)) (now (bonds .entry)) (now (bonds .exit)) (now (listed .exit)) (outcomeOf (kindOf sd) (now (s .entry))) ⌝ }
+{
+    let mut reader = Reader::new(sd);
+    let mut notes = Notes::new();
+    let mut at: usize = 0;
+    let mut line: usize = 1;
+    let repeat = 'walk: loop {
+        let LineAt::Line { end, next } = text::line_at(s, at) else {
+            return end_walk(sd, s.len() - at, reader, notes, at, line);
+        };
+        match reader_line::take_line(reader, notes, &s[at..end], next, atoms, listed) {
+            Taken::Next(r, m) => {
+                reader = r;
+                notes = m;
+                at = next;
+                line += 1;
+            }
+            Taken::Bond(r, b) => {
+                let key = reader_pairs::pair_key(b.first, b.second);
+                let count = notes.bonds;
+                let mut j = reader_pairs::near_key(keys, count, key);
+                while j < count {
+                    if keys[j] == key {
+                        break 'walk Repeat {
+                            earlier: j + 1,
+                            later: count + 1,
+                            line,
+                        };
+                    }
+                    j += 1;
+                }
+                notes = reader_line::keep_bond(notes, b, key, bonds, keys);
+                reader = r;
+                at = next;
+                line += 1;
+            }
+            Taken::Done => {
+                return closed(reader, notes, at, line, next);
+            }
+            Taken::Refused { no, column } => {
+                return Walked::Refused { no, line, column };
+            }
+        }
+    };
+    Walked::Refused {
+        no: 11,
+        line: repeat.line,
+        column: 1,
+    }
+}
+
+// One record from the front of a text: for an SDfile up to its `$$$$` line, whatever follows; for a molfile the whole text.
+pub fn walk_record(
+    sd: bool,
+    s: &[u8],
+    atoms: &mut [i32],
+    bonds: &mut [i32],
+    listed: &mut [u32; LISTED],
+) -> Walked
+    requires { ⌜ (4080 ≤ length (now atoms)) × (1530 ≤ length (now bonds)) × (length (now listed) ≡ 3 * places) ⌝ }
+    ensures { λ r. ⌜ r ≡ walkOf (kindOf sd) (now (s .entry)) ⌝ }
+    ensures { λ r. ⌜ Left (now (atoms .entry)) (now (atoms .exit)) (now (bonds .entry)) (now (bonds .exit)) (now (listed .exit)) (outcomeOf (kindOf sd) (now (s .entry))) ⌝ }
+{
+    let mut keys = [0u32; KEYS];
+    walk_lines(sd, s, atoms, bonds, listed, &mut keys)
+}

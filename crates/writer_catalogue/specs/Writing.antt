@@ -1,0 +1,167 @@
+-- A record read and written into what remains of the room: laws for the code.
+use Prim.Native.Nat.{ℕ, _+_, _-_, _*_, _≤_, _<_, _^_}
+use native.Mathlib.Omega.{arith}
+use mathlib.Core.Path.{_≡_, refl, sym, ap, _∙_, subst}
+use mathlib.Core.List.{List, _++_, append-assoc, append-nil}
+use lib.ListN.{length, take, drop, length-append, length-take, length-drop}
+use lib.Seq.{sets, sets-eq, take-all, drop-drop, drop-length}
+use lib.IntN.{ℤ}
+use borrow.Rule.Slice.PartMut.{putMid}
+use mir.Syntax.{w64}
+use mir.Val.{Fits}
+use Rattle.text.specs.Text.{Bytes, Line}
+use Rattle.text.specs.Cut.{cut}
+use Rattle.rules.specs.Record.{Raw, limit}
+use Rattle.rules.specs.Meaning.{Reading, meaning}
+use Rattle.judge_file.specs.Place.{sdfile}
+use Rattle.judge_file.specs.One.{One, oneRecord}
+use Rattle.judge_file.specs.WalkText.{afterLines}
+use Rattle.reader_walk.specs.Outcome.{whole, refused, ofOne, outcomeOf}
+use Rattle.reader_walk.specs.Walked.{Beside}
+use Rattle.writer_lines.specs.Laid.{Laid}
+use Rattle.reader_record.specs.declared.RecordRead.{RecordRead}
+use Rattle.reader_record.specs.Read.{readOf, atomsAfter, bondsAfter}
+use Rattle.writer_record.specs.declared.Written.{Written}
+use Rattle.writer_record.specs.Write.{Given, canonText}
+use Rattle.writer_record.specs.Measure.{recordText, Ready}
+use Rattle.writer_record.specs.Promise.{Accepted, Promise, accepted-one, accepted-ready, accepted-laid}
+use Rattle.writer_catalogue.specs.declared.Wrote.{Wrote}
+use Rattle.writer_copy.specs.Bridge.{givenOf, Front}
+use Rattle.writer_catalogue.specs.Reading.{front, read-atoms, read-bonds, read-refused}
+
+-- ---- What remains of the room
+
+-- a text at the front of the tail that was lent
+laid-tail : (r r′ ys : Bytes) (at : ℕ) → at + length ys ≤ length r → r′ ≡ take at r ++ (ys ++ drop (length ys) (drop at r)) → Laid r r′ at ys (at + length ys)
+laid-tail r r′ ys at h e =
+    let s : r′ ≡ sets r at ys =
+    e ∙ ap (λ (d : Bytes). take at r ++ (ys ++ d)) (drop-drop (length ys) at r) ∙ sym (append-assoc (take at r) ys (drop (at + length ys) r)) ∙ sym (sets-eq ys r at h) in
+    record {
+      size =
+          ap length e
+          ∙ length-append (take at r) (ys ++ drop (length ys) (drop at r))
+          ∙ omega (arith, length-take at r, length-append ys (drop (length ys) (drop at r)), length-drop (length ys) (drop at r), length-drop at r);
+      next = refl;
+      fits = h;
+      same = s;
+    }
+
+-- the room once its tail came back
+put-tail : (r : Bytes) (at : ℕ) (tail : Bytes) → at ≤ length r → putMid at (length r - at) r tail ≡ take at r ++ tail
+put-tail r at tail h =
+    let k : at + (length r - at) ≡ length r = omega arith in
+    ap (λ (d : Bytes). take at r ++ (tail ++ d)) (drop-drop (length r - at) at r)
+    ∙ ap (λ (j : ℕ). take at r ++ (tail ++ drop j r)) k
+    ∙ ap (λ (d : Bytes). take at r ++ (tail ++ d)) (drop-length r)
+    ∙ ap (λ (d : Bytes). take at r ++ d) (append-nil tail)
+
+-- what is handed in is this reading, and room r has room for its text from place `to` on
+pub record Handed (g : Given) (r : Bytes) (to : ℕ) : Type 0 where
+  pub x : Reading
+  pub accepted : Accepted g x
+  pub enough : to + length (canonText x) ≤ length r
+
+-- it was laid there
+pub record Put (g : Given) (r₀ r : Bytes) (to e : ℕ) : Type 0 where
+  pub laid : (x : Reading) → Accepted g x → Laid r₀ r to (canonText x) e
+
+module _ (g : Given) (r : Bytes) (to : ℕ) (h : Handed g r to) where
+  put-to : to ≤ length r
+  put-to = omega (arith, h .enough)
+
+  abbrev txt : Bytes
+  txt = canonText (h .x)
+
+  lent : take (length r - to) (drop to r) ≡ drop to r
+  lent = take-all (length r - to) (drop to r) (omega (arith, length-drop to r))
+
+  few : length txt ≤ length (take (length r - to) (drop to r))
+  few = omega (arith, h .enough, ap length lent, length-drop to r)
+
+  pub put-ready : Ready g (length (take (length r - to) (drop to r)))
+  put-ready = accepted-ready g (h .x) (h .accepted) (length (take (length r - to) (drop to r))) few
+
+  module _ (tail : Bytes) (v : ℕ) (l : Laid (take (length r - to) (drop to r)) tail 0 (recordText g) v) where
+    written : Promise g (take (length r - to) (drop to r)) (Written.Done v) tail
+    written = accepted-laid g (h .x) (h .accepted) (take (length r - to) (drop to r)) tail v few l
+
+    said : v ≡ length txt
+    said = let w = written .accepted (length txt) .1 (h .x, h .accepted, refl, few) in cc
+
+    did : tail ≡ txt ++ drop (length txt) (drop to r)
+    did = written .written (h .x) (h .accepted) few ∙ ap (λ (z : Bytes). txt ++ drop (length txt) z) lent
+
+    pub put-fits : length r * 1 < 2 ^ 63 → Fits w64 (to + v)
+    put-fits s = record { fits = omega (arith, said, h .enough) }
+
+    pub put-laid : Put g r (putMid to (length r - to) r tail) to (to + v)
+    put-laid =
+        let f : to + length txt ≡ to + v = ap (λ (z : ℕ). to + z) (sym said) in
+        let d = laid-tail r (putMid to (length r - to) r tail) txt to (h .enough) (put-tail r to tail put-to ∙ ap (λ (z : Bytes). take to r ++ z) did) in
+        record {
+          laid = λ x a.
+              subst (λ (z : ℕ). Laid r (putMid to (length r - to) r tail) to (canonText x) z) f
+              (subst (λ (z : Reading). Laid r (putMid to (length r - to) r tail) to (canonText z) (to + length txt)) (accepted-one g (h .x) x (h .accepted) a) d);
+        }
+
+-- ---- One record
+
+-- the text begins with a record whose canonical text has room
+pub record Next (t : Bytes) (ta tb : List ℤ) (r : Bytes) (to : ℕ) : Type 0 where
+  pub atoms : 4080 ≤ length ta
+  pub bonds : 1530 ≤ length tb
+  pub x : Raw
+  pub k : ℕ
+  pub rest : List Line
+  pub is : oneRecord limit (cut t .lines) ≡ One.whole x k rest
+  pub enough : to + length (canonText (meaning x)) ≤ length r
+
+-- that record's canonical text was laid
+pub record WroteNext (t r₀ r : Bytes) (to : ℕ) (w : Wrote) : Type 0 where
+  pub laid : (x : Raw) (k : ℕ) (rest : List Line) → oneRecord limit (cut t .lines) ≡ One.whole x k rest → Laid r₀ r to (canonText (meaning x)) (w .to)
+  pub taken : (x : Raw) (k : ℕ) (rest : List Line) → oneRecord limit (cut t .lines) ≡ One.whole x k rest → w .taken ≡ afterLines t 0 k
+
+same-one : (t : Bytes) {x y : Raw} {k j : ℕ} {rest : List Line} → outcomeOf sdfile t ≡ whole x k → oneRecord limit (cut t .lines) ≡ One.whole y j rest → (x ≡ y) × (k ≡ j)
+unfolding outcomeOf
+same-one t {x} {y} {k} {j} p q = let e : whole x k ≡ whole y j = sym p ∙ ap ofOne q in (cc, cc)
+
+module _ (t : Bytes) (ta tb ta′ tb′ : List ℤ) (r : Bytes) (to : ℕ) (g : Next t ta tb r to) (ea : ta′ ≡ atomsAfter 1 (length tb) t ta) (eb : tb′ ≡ bondsAfter 1 (length ta) t tb)
+    (a : RecordRead) (er : a ≡ readOf 1 (length ta) (length tb) t) where
+  pub wrote-atoms : Beside 4080 ta ta′
+  wrote-atoms = read-atoms t ta tb ta′ tb′ (g .atoms) (g .bonds) ea eb
+
+  pub wrote-bonds : Beside 1530 tb tb′
+  wrote-bonds = read-bonds t ta tb ta′ tb′ (g .atoms) (g .bonds) ea eb
+
+  module _ (n m chiral len k h i j : ℕ) (q : a ≡ RecordRead.Read n m chiral len k h i j) where
+    it : Front sdfile t ta′ tb′ n m chiral len k h i j
+    it = front t ta tb ta′ tb′ (g .atoms) (g .bonds) ea eb a er n m chiral len k h i j q
+
+    pub wrote-headers : h ≤ length t
+    wrote-headers = it .headers-end
+
+    pub wrote-items : i ≤ j
+    wrote-items = it .items-start
+
+    pub wrote-items-end : j ≤ length t
+    wrote-items-end = it .items-end
+
+    pub wrote-handed : Handed (givenOf t ta′ tb′ n m chiral h i j) r to
+    wrote-handed =
+        let e = ap (λ (y : Raw). length (canonText (meaning y))) (same-one t (it .is) (g .is) .0) in
+        record { x = meaning (it .x); accepted = it .accepted; enough = omega (arith, g .enough) }
+
+    pub wrote-next : (r′ : Bytes) (e : ℕ) → Put (givenOf t ta′ tb′ n m chiral h i j) r r′ to e → WroteNext t r r′ to (record { taken = len; to = e })
+    wrote-next r′ e p =
+        record {
+          laid = λ x u rest o. subst (λ (z : Raw). Laid r r′ to (canonText (meaning z)) e) (same-one t (it .is) o .0) (p .laid (meaning (it .x)) (it .accepted));
+          taken = λ x u rest o. it .size ∙ ap (afterLines t 0) (same-one t (it .is) o .1);
+        }
+
+  -- a record that begins the text is read
+  pub wrote-never : (e i c : ℕ) (w : Wrote) → a ≡ RecordRead.Refused e i c → WroteNext t r r to w
+  unfolding outcomeOf
+  wrote-never e i c w q =
+      let o = read-refused t ta tb ta′ tb′ (g .atoms) (g .bonds) ea eb a er e i c q in
+      let z : whole (g .x) (g .k) ≡ refused e i c = sym (ap ofOne (g .is)) ∙ o in
+      absurd (let z : _≡_ {A = ℕ} 0 1 = cc in omega arith)

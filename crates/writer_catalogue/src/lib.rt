@@ -1,0 +1,322 @@
+// A whole SDfile in its canonical form, written into lent room: one pass judges and measures, one reads and writes.
+use reader_record::RecordRead;
+use writer_record::Written;
+ghost use mathlib.Core.Path.{_≡_};
+ghost use mathlib.Core.List.{[]};
+ghost use Prim.Native.Nat.{_+_, _-_, _*_, _^_, _≤_, _<_};
+ghost use lib.ListN.{length};
+ghost use Rattle.writer_lines.specs.Laid.{Laid};
+ghost use Rattle.reader_walk.specs.Outcome.{outcomeOf};
+ghost use Rattle.reader_walk.specs.Walked.{Beside};
+ghost use Rattle.judge_file.specs.Place.{sdfile};
+ghost use Rattle.reader_record.specs.Read.{zeroed, rowsIn};
+ghost use Rattle.writer_catalogue.specs.Catalogue.{fileFor, answerBy, roomBy, upTo};
+ghost use Rattle.writer_catalogue.specs.Sizes.{partsSize, Measurable, measuredBy};
+ghost use Rattle.writer_catalogue.specs.Measuring.{concludeBy};
+ghost use Rattle.writer_catalogue.specs.Writing.{Handed, Put, Next, WroteNext};
+ghost use Rattle.writer_catalogue.specs.Filling.{FileFits, textIn};
+ghost use Rattle.writer_catalogue.specs.Promise.{Promise};
+
+// What is answered: the length of the text and the number of its records, or the first refusal.
+pub enum Catalogue {
+    Done { length: usize, records: usize },
+    Refused { no: u8, line: usize, column: usize },
+}
+
+// A record at the front of a text: its bytes and lines, and how long the text of all records up to it is. What is longer than the room counts as one more
+// than the room.
+pub enum Measured {
+    Record {
+        length: usize,
+        lines: usize,
+        needed: usize,
+    },
+    Refused {
+        no: u8,
+        line: usize,
+        column: usize,
+    },
+}
+
+// A record written: the bytes it took in the file, and where its text ends in the room.
+pub struct Wrote {
+    pub taken: usize,
+    pub to: usize,
+}
+
+// Numbers of 255 atoms, and of 255 bonds.
+const ATOMS: usize = 4080;
+
+const BONDS: usize = 1530;
+
+// One record more, where those before it fit.
+fn measure_parts(
+    atoms: &[i32],
+    n: u32,
+    m: u32,
+    headers: &[u8],
+    items: &[u8],
+    needed: usize,
+    room: usize,
+) -> usize
+    requires { ⌜ Measurable n m (now atoms) (now headers) (now items) room × (needed ≤ room) ⌝ }
+    ensures { λ r. ⌜ r ≡ upTo room (needed + partsSize n m (now (atoms .entry)) (now (headers .entry)) (now (items .entry))) ⌝ }
+{
+    match writer_record::judge_parts(atoms, n, m, headers, items, room - needed) {
+        Written::Done { length } => needed + length,
+        Written::Refused {
+            no: _,
+            line: _,
+            column: _,
+        } => room + 1,
+    }
+}
+
+// One record more.
+fn measure_record(
+    atoms: &[i32],
+    n: u32,
+    m: u32,
+    headers: &[u8],
+    items: &[u8],
+    needed: usize,
+    room: usize,
+) -> usize
+    requires { ⌜ Measurable n m (now atoms) (now headers) (now items) room ⌝ }
+    ensures { λ r. ⌜ r ≡ upTo room (needed + partsSize n m (now (atoms .entry)) (now (headers .entry)) (now (items .entry))) ⌝ }
+{
+    if room < needed {
+        return room + 1;
+    }
+    measure_parts(atoms, n, m, headers, items, needed, room)
+}
+
+// The record at the front of a text, read and measured.
+fn measure_next(
+    t: &[u8],
+    atoms: &mut [i32],
+    bonds: &mut [i32],
+    needed: usize,
+    room: usize,
+) -> Measured
+    requires { ⌜ (4080 ≤ length (now atoms)) × (1530 ≤ length (now bonds)) × (room * 1 < 2 ^ 63) ⌝ }
+    ensures { λ r. ⌜ r ≡ measuredBy (now (t .entry)) needed room (outcomeOf sdfile (now (t .entry))) ⌝ }
+    ensures { λ r. ⌜ Beside 4080 (now (atoms .entry)) (now (atoms .exit)) ⌝ }
+    ensures { λ r. ⌜ Beside 1530 (now (bonds .entry)) (now (bonds .exit)) ⌝ }
+{
+    match reader_record::read_record(1, t, atoms, bonds) {
+        RecordRead::Read {
+            n,
+            m,
+            chiral: _,
+            length,
+            lines,
+            header_end,
+            items_start,
+            items_end,
+        } => Measured::Record {
+            length,
+            lines,
+            needed: measure_record(
+                atoms,
+                n,
+                m,
+                &t[0..header_end],
+                &t[items_start..items_end],
+                needed,
+                room,
+            ),
+        },
+        RecordRead::Refused { no, line, column } => Measured::Refused { no, line, column },
+    }
+}
+
+// The end of a good file: whether its text fits.
+fn conclude(needed: usize, records: usize, room: usize) -> Catalogue
+    ensures { λ r. ⌜ r ≡ concludeBy needed records room ⌝ }
+{
+    if room < needed {
+        return Catalogue::Refused {
+            no: 20,
+            line: 0,
+            column: 0,
+        };
+    }
+    Catalogue::Done {
+        length: needed,
+        records,
+    }
+}
+
+// A whole file judged and measured. Want of room does not end the judging.
+fn measure_file(s: &[u8], atoms: &mut [i32], bonds: &mut [i32], room: usize) -> Catalogue
+    requires { ⌜ (4080 ≤ length (now atoms)) × (1530 ≤ length (now bonds)) × (room * 1 < 2 ^ 63) ⌝ }
+    ensures { λ r. ⌜ r ≡ answerBy (fileFor (now (s .entry)) room) ⌝ }
+    ensures { λ r. ⌜ Beside 4080 (now (atoms .entry)) (now (atoms .exit)) ⌝ }
+    ensures { λ r. ⌜ Beside 1530 (now (bonds .entry)) (now (bonds .exit)) ⌝ }
+{
+    let mut at: usize = 0;
+    let mut line: usize = 1;
+    let mut records: usize = 0;
+    let mut needed: usize = 0;
+    while at < s.len() {
+        match measure_next(&s[at..], atoms, bonds, needed, room) {
+            Measured::Record {
+                length,
+                lines,
+                needed: more,
+            } => {
+                at += length;
+                line += lines;
+                records += 1;
+                needed = more;
+            }
+            Measured::Refused {
+                no,
+                line: k,
+                column,
+            } => {
+                return Catalogue::Refused {
+                    no,
+                    line: line + k - 1,
+                    column,
+                };
+            }
+        }
+    }
+    conclude(needed, records, room)
+}
+
+// A record into what remains of the room: it was measured, so it is judged no more.
+fn put_record(
+    atoms: &[i32],
+    bonds: &[i32],
+    n: u32,
+    m: u32,
+    chiral: u32,
+    headers: &[u8],
+    items: &[u8],
+    room: &mut [u8],
+    to: usize,
+) -> usize
+    requires { ⌜ Handed (record { atoms = now atoms; bonds = now bonds; n = n; m = m; chiral = chiral; headers = now headers; items = now items }) (now room) to ⌝ }
+    ensures { λ r. ⌜ Put (record { atoms = now (atoms .entry); bonds = now (bonds .entry); n = n; m = m; chiral = chiral; headers = now (headers .entry); items = now (items .entry) }) (now (room .entry)) (now (room .exit)) to r ⌝ }
+{
+    to + writer_record::lay_record(atoms, bonds, n, m, chiral, headers, items, &mut room[to..])
+}
+
+// The record at the front of a text, read and written.
+fn write_next(t: &[u8], atoms: &mut [i32], bonds: &mut [i32], room: &mut [u8], to: usize) -> Wrote
+    requires { ⌜ Next (now t) (now atoms) (now bonds) (now room) to ⌝ }
+    ensures { λ r. ⌜ WroteNext (now (t .entry)) (now (room .entry)) (now (room .exit)) to r ⌝ }
+    ensures { λ r. ⌜ Beside 4080 (now (atoms .entry)) (now (atoms .exit)) ⌝ }
+    ensures { λ r. ⌜ Beside 1530 (now (bonds .entry)) (now (bonds .exit)) ⌝ }
+{
+    match reader_record::read_record(1, t, atoms, bonds) {
+        RecordRead::Read {
+            n,
+            m,
+            chiral,
+            length,
+            lines: _,
+            header_end,
+            items_start,
+            items_end,
+        } => Wrote {
+            taken: length,
+            to: put_record(
+                atoms,
+                bonds,
+                n,
+                m,
+                chiral,
+                &t[0..header_end],
+                &t[items_start..items_end],
+                room,
+                to,
+            ),
+        },
+        RecordRead::Refused {
+            no: _,
+            line: _,
+            column: _,
+        } => Wrote { taken: 0, to },
+    }
+}
+
+// A good file whose text fits, record after record.
+fn write_file(s: &[u8], atoms: &mut [i32], bonds: &mut [i32], room: &mut [u8]) -> usize
+    requires { ⌜ FileFits (now s) (now atoms) (now bonds) (now room) ⌝ }
+    ensures { λ r. ⌜ Laid (now (room .entry)) (now (room .exit)) 0 (textIn (fileFor (now (s .entry)) (length (now (room .entry))))) r ⌝ }
+    ensures { λ r. ⌜ Beside 4080 (now (atoms .entry)) (now (atoms .exit)) ⌝ }
+    ensures { λ r. ⌜ Beside 1530 (now (bonds .entry)) (now (bonds .exit)) ⌝ }
+{
+    let mut at: usize = 0;
+    let mut to: usize = 0;
+    while at < s.len() {
+        let wrote = write_next(&s[at..], atoms, bonds, room, to);
+        at += wrote.taken;
+        to = wrote.to;
+    }
+    to
+}
+
+// Both passes, with work tables that have room.
+fn fill_room(s: &[u8], atoms: &mut [i32], bonds: &mut [i32], room: &mut [u8]) -> Catalogue
+    requires { ⌜ (4080 ≤ length (now atoms)) × (1530 ≤ length (now bonds)) ⌝ }
+    ensures { λ r. ⌜ r ≡ answerBy (fileFor (now (s .entry)) (length (now (room .entry)))) ⌝ }
+    ensures { λ r. ⌜ now (room .exit) ≡ roomBy (now (room .entry)) (fileFor (now (s .entry)) (length (now (room .entry)))) ⌝ }
+    ensures { λ r. ⌜ Beside 4080 (now (atoms .entry)) (now (atoms .exit)) ⌝ }
+    ensures { λ r. ⌜ Beside 1530 (now (bonds .entry)) (now (bonds .exit)) ⌝ }
+{
+    match measure_file(s, atoms, bonds, room.len()) {
+        Catalogue::Done { length: _, records } => Catalogue::Done {
+            length: write_file(s, atoms, bonds, room),
+            records,
+        },
+        Catalogue::Refused { no, line, column } => Catalogue::Refused { no, line, column },
+    }
+}
+
+// No row is left.
+fn empty(table: &mut [i32], to: usize)
+    requires { ⌜ to ≤ length (now table) ⌝ }
+    ensures { λ r. ⌜ now (table .exit) ≡ zeroed (now (table .entry)) 0 to ⌝ }
+{
+    reader_tables::clear(table, 0, to);
+}
+
+// Both passes, and then the work tables are emptied.
+fn write_roomy(s: &[u8], atoms: &mut [i32], bonds: &mut [i32], room: &mut [u8]) -> Catalogue
+    requires { ⌜ (4080 ≤ length (now atoms)) × (1530 ≤ length (now bonds)) ⌝ }
+    ensures { λ r. ⌜ r ≡ answerBy (fileFor (now (s .entry)) (length (now (room .entry)))) ⌝ }
+    ensures { λ r. ⌜ now (room .exit) ≡ roomBy (now (room .entry)) (fileFor (now (s .entry)) (length (now (room .entry)))) ⌝ }
+    ensures { λ r. ⌜ now (atoms .exit) ≡ rowsIn 4080 (now (atoms .entry)) [] ⌝ }
+    ensures { λ r. ⌜ now (bonds .exit) ≡ rowsIn 1530 (now (bonds .entry)) [] ⌝ }
+{
+    let answer = fill_room(s, atoms, bonds, room);
+    empty(atoms, ATOMS);
+    empty(bonds, BONDS);
+    answer
+}
+
+// A whole SDfile in its canonical form at the front of the room; after a refusal nothing is written.
+pub fn write_catalogue(s: &[u8], atoms: &mut [i32], bonds: &mut [i32], room: &mut [u8]) -> Catalogue
+    ensures { λ r. ⌜ Promise (now (s .entry)) (now (atoms .entry)) (now (bonds .entry)) (now (room .entry)) r (now (atoms .exit)) (now (bonds .exit)) (now (room .exit)) ⌝ }
+{
+    if atoms.len() < ATOMS {
+        return Catalogue::Refused {
+            no: 2,
+            line: 0,
+            column: 0,
+        };
+    }
+    if bonds.len() < BONDS {
+        return Catalogue::Refused {
+            no: 2,
+            line: 0,
+            column: 0,
+        };
+    }
+    write_roomy(s, atoms, bonds, room)
+}

@@ -1,0 +1,143 @@
+// A record read into lent tables and written in its canonical form. What was read can be written, so it is laid, and not judged again.
+use reader_record::RecordRead;
+use writer_record::Written;
+ghost use mathlib.Core.Path.{_≡_};
+ghost use Rattle.writer_copy.specs.Most.{surely};
+ghost use Rattle.writer_copy.specs.Copying.{Sound, PutRead};
+ghost use Rattle.writer_copy.specs.Promise.{Promise};
+
+// What is answered: the bytes and lines that the record takes and the length of its text, or the first refusal.
+pub enum Copied {
+    Done {
+        taken: usize,
+        lines: usize,
+        length: usize,
+    },
+    Refused {
+        no: u8,
+        line: usize,
+        column: usize,
+    },
+}
+
+// The lines of 255 atoms and 255 bonds with the longest property lines, `M  END`, and the line that ends the record.
+const MOST: usize = 30592;
+
+// Whether room surely suffices for good header lines and items of so many bytes: items are written in at most twice their bytes.
+fn suffices(headers: usize, items: usize, room: usize) -> bool
+    ensures { λ r. ⌜ r ≡ surely headers items room ⌝ }
+{
+    if room < MOST {
+        return false;
+    }
+    if room - MOST < headers {
+        return false;
+    }
+    if room - MOST - headers < items {
+        return false;
+    }
+    if room - MOST - headers - items < items {
+        return false;
+    }
+    true
+}
+
+// A record of so many bytes and lines that was read, at the front of the room if its text, measured, fits.
+fn put_measured(
+    taken: usize,
+    lines: usize,
+    atoms: &[i32],
+    bonds: &[i32],
+    n: u32,
+    m: u32,
+    chiral: u32,
+    headers: &[u8],
+    items: &[u8],
+    room: &mut [u8],
+) -> Copied
+    requires { ⌜ Sound (record { atoms = now atoms; bonds = now bonds; n = n; m = m; chiral = chiral; headers = now headers; items = now items }) ⌝ }
+    ensures { λ r. ⌜ PutRead (record { atoms = now (atoms .entry); bonds = now (bonds .entry); n = n; m = m; chiral = chiral; headers = now (headers .entry); items = now (items .entry) }) taken lines (now (room .entry)) r (now (room .exit)) ⌝ }
+{
+    match writer_record::judge_parts(atoms, n, m, headers, items, room.len()) {
+        Written::Done { length: _ } => Copied::Done {
+            taken,
+            lines,
+            length: writer_record::lay_record(atoms, bonds, n, m, chiral, headers, items, room),
+        },
+        Written::Refused { no, line, column } => Copied::Refused { no, line, column },
+    }
+}
+
+// The same, measured only where the room might not suffice.
+fn put_read(
+    taken: usize,
+    lines: usize,
+    atoms: &[i32],
+    bonds: &[i32],
+    n: u32,
+    m: u32,
+    chiral: u32,
+    headers: &[u8],
+    items: &[u8],
+    room: &mut [u8],
+) -> Copied
+    requires { ⌜ Sound (record { atoms = now atoms; bonds = now bonds; n = n; m = m; chiral = chiral; headers = now headers; items = now items }) ⌝ }
+    ensures { λ r. ⌜ PutRead (record { atoms = now (atoms .entry); bonds = now (bonds .entry); n = n; m = m; chiral = chiral; headers = now (headers .entry); items = now (items .entry) }) taken lines (now (room .entry)) r (now (room .exit)) ⌝ }
+{
+    if suffices(headers.len(), items.len(), room.len()) {
+        return Copied::Done {
+            taken,
+            lines,
+            length: writer_record::lay_record(atoms, bonds, n, m, chiral, headers, items, room),
+        };
+    }
+    put_measured(
+        taken,
+        lines,
+        atoms,
+        bonds,
+        n,
+        m,
+        chiral,
+        headers,
+        items,
+        room,
+    )
+}
+
+// The record at the front of a text, in its canonical form at the front of the room: kind 0 is a molfile, kind 1 an SDfile. The tables are left as
+// `read_record` leaves them; after a refusal nothing is written.
+pub fn copy_record(
+    kind: u8,
+    s: &[u8],
+    atoms: &mut [i32],
+    bonds: &mut [i32],
+    room: &mut [u8],
+) -> Copied
+    ensures { λ r. ⌜ Promise kind (now (s .entry)) (now (atoms .entry)) (now (bonds .entry)) (now (room .entry)) r (now (atoms .exit)) (now (bonds .exit)) (now (room .exit)) ⌝ }
+{
+    match reader_record::read_record(kind, s, atoms, bonds) {
+        RecordRead::Read {
+            n,
+            m,
+            chiral,
+            length,
+            lines,
+            header_end,
+            items_start,
+            items_end,
+        } => put_read(
+            length,
+            lines,
+            atoms,
+            bonds,
+            n,
+            m,
+            chiral,
+            &s[0..header_end],
+            &s[items_start..items_end],
+            room,
+        ),
+        RecordRead::Refused { no, line, column } => Copied::Refused { no, line, column },
+    }
+}
