@@ -31,7 +31,7 @@ use Rattle.rules.specs.Written.{counts-written, GoodAtom, GoodAtoms, Goo
 use Rattle.rules.specs.CanonGood.{canon-is-good, canon-molfile, canon-file}
 use Rattle.rules.specs.CanonBack.{canon-back}
 use Rattle.rules.specs.Samples.{Sample, molfile, no-molfile, dead-molfile, sdfile, dead-sdfile, written, sized, Holds, samples, atom, bond, drum, far, ring, pure}
-use Rattle.rules.specs.Samples.{nineDigits, threeDigits, atomZero, tooManyBonds, allPairs, pairTwice, codesAlone, chargesListed, othersListed, valueLikeHeader, headerAsValue, noLinesMol, theSample, theSampleWritten, theSampleSized, noBlankLine, mixedWritten}
+use Rattle.rules.specs.Samples.{nineDigits, threeDigits, atomZero, tooManyBonds, allPairs, pairTwice, codesAlone, chargesListed, othersListed, radicalsListed, valueLikeHeader, headerAsValue, noLinesMol, theSample, theSampleWritten, theSampleSized, noBlankLine, mixedWritten}
 
 abbrev linesOfSample : Sample → List Line
 linesOfSample (molfile ls x) = map bytes ls
@@ -393,6 +393,26 @@ superseded-good : Holds othersListed
 unfolding moleculeLines countsText atomText propertyText entryFields joined textBy pointText symbolText columnsFor meaning atomsFrom numberIn listed among
 superseded-good = raw-molfile supersededMolecule superseded-fine refl refl
 
+abbrev unchargedMolecule : Molecule
+unchargedMolecule = loose (bytes "uncharged") (coded 0 5 ∷ coded 0 4 ∷ []) (lists RAD 1 ∷ [])
+
+uncharged-fine : GoodMolecule limit unchargedMolecule
+unfolding Each GoodAtoms GoodProperties GoodEntries listed NoAtomTwice NotListed
+uncharged-fine =
+    loose-fine (bytes "uncharged") (unchargedMolecule .atoms) (unchargedMolecule .properties) (title (bytes "uncharged") (record { short = omega arith; allowed = omega arith }) (omega arith)) (omega arith)
+    (coded-fine 2 0 5 (omega arith) (omega arith), (coded-fine 2 0 4 (omega arith) (omega arith), tt))
+    (record { some = omega arith; eight = omega arith; entries = (record { atom = omega arith; number = omega arith }, tt) }, tt)
+    once
+  where
+    once : (k : Kind) → NoAtomTwice (listed k (unchargedMolecule .properties))
+    once CHG = tt
+    once RAD = (tt, tt)
+    once ISO = tt
+
+uncharged-good : Holds radicalsListed
+unfolding moleculeLines countsText atomText propertyText entryFields joined textBy pointText symbolText columnsFor meaning atomsFrom numberIn listed among
+uncharged-good = raw-molfile unchargedMolecule uncharged-fine refl refl
+
 -- ---- Lines that nothing can finish
 
 counts-of : (n m : ℕ) → n ≤ 255 → m ≤ 255 → 2 * m ≤ n * (n - 1) → CountsLine limit (countsText (record { atoms = n; bonds = m; chiral = 0 })) (record { atoms = n; bonds = m; chiral = 0 })
@@ -542,10 +562,13 @@ samples-hold = (
                 (
                   superseded-good,
                   (
-                    pure-good,
+                    uncharged-good,
                     (
-                      header-bad,
-                      (([], SDfile.none, refl), (empty-bad, (drum-good, (drum-written, (drum-sized, (drum-bad, (mixed-written, tt))))))),
+                      pure-good,
+                      (
+                        header-bad,
+                        (([], SDfile.none, refl), (empty-bad, (drum-good, (drum-written, (drum-sized, (drum-bad, (mixed-written, tt))))))),
+                      ),
                     ),
                   ),
                 ),
