@@ -4,7 +4,7 @@ use native.Mathlib.Omega.{arith}
 use native.Mathlib.Numerals.{add-one}
 use mathlib.Core.Path.{_≡_, refl, sym, ap, _∙_}
 use mathlib.Core.List.{List, [], _∷_}
-use mathlib.Core.Bool.{Bool}
+use mathlib.Core.Bool.{Bool, true, false}
 use lib.ListN.{length, getD}
 use lib.Seq.{sets, length-sets}
 use lib.IntN.{ℤ, pos}
@@ -21,11 +21,11 @@ use Rattle.reader_tables.specs.declared.Superseded.{Superseded}
 -- ---- what is superseded
 
 module _ (t : List ℕ) (n : ℕ) where
-  pub by-charges : anyAfter 0 t n ≡ true → true ≡ codesIn n t
-  by-charges e = rw e
+  pub by-charges : (a : Bool) → a ≡ anyAfter 0 t n → a ≡ true → true ≡ codesIn n t
+  by-charges a e h = rw (← e, h)
 
-  pub by-radicals : (b : Bool) → anyAfter 0 t n ≡ false → b ≡ anyAfter places t n → b ≡ codesIn n t
-  by-radicals b e f = rw e f
+  pub by-radicals : (a b : Bool) → a ≡ anyAfter 0 t n → a ≡ false → b ≡ anyAfter places t n → b ≡ codesIn n t
+  by-radicals a b e h f = rw (← e, h) f
 
   pub superseded-made : (a b : Bool) → a ≡ codesIn n t → b ≡ anyAfter (2 * places) t n → _≡_ {A = Superseded} (record { codes = a; masses = b }) (supersededIn n t)
   superseded-made a b e f = rw (e, f)
