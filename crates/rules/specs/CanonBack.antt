@@ -4,10 +4,11 @@ use native.Mathlib.Omega.{arith}
 use mathlib.Core.Path.{_≡_, refl, sym, ap, ap₂, _∙_}
 use mathlib.Core.Logic.{_≢_}
 use mathlib.Core.List.{List, [], _∷_, map}
-use mathlib.Core.Bool.{Bool, true, false, cond, _||_}
+use mathlib.Core.Bool.{Bool, true, false, cond}
 use lib.ListN.{getD, length, drop, drop-of-length-le}
 use lib.Seq.{drop-cons}
 use lib.IntN.{ℤ, pos, negsuc, natAbs}
+use Rattle.text.specs.Laws.{or-false}
 use Rattle.field_numbers.specs.Number.{OneOf}
 use Rattle.rules.specs.Forms.{stereos, Kind, CHG, RAD, ISO, Entry}
 use Rattle.rules.specs.Record.{Molecule}
@@ -73,10 +74,6 @@ mass-by : (t : Bool) (d : ℤ) → (t ≡ true → d ≡ pos 0) → cond t (pos 
 mass-by true d h = sym (h refl)
 mass-by false d h = refl
 
-or-none : (a b : Bool) → (a || b) ≡ false → (a ≡ false) × (b ≡ false)
-or-none true b h = absurd (let z : _≡_ {A = ℕ} 0 1 = cc in omega arith)
-or-none false b h = (refl, h)
-
 nothing-given : (k : Kind) (m : Molecule) (i : ℕ) → has k m ≡ false → given k m i ≡ pos 0
 unfolding numberIn
 nothing-given k m i h = ap (λ (es : List Entry). numberIn es i) (not-among k (m .properties) h)
@@ -91,8 +88,8 @@ atom-back n m i t h w g z =
     let a = atomRow t in
     let symbol = size-back 1 122 (a .symbol) (w .symbol) in
     let mass = mass-by (has ISO m) (a .mass-difference) z in
-    let charge = charge-by (codesVoid m) (given CHG m i) (a .charge) (a .radical) (λ e. nothing-given CHG m i (or-none (has CHG m) (has RAD m) e .0)) (g CHG) in
-    let radical = radical-by (codesVoid m) (given RAD m i) (a .charge) (a .radical) (λ e. nothing-given RAD m i (or-none (has CHG m) (has RAD m) e .1)) (g RAD) in
+    let charge = charge-by (codesVoid m) (given CHG m i) (a .charge) (a .radical) (λ e. nothing-given CHG m i (or-false (has CHG m) (has RAD m) e .0)) (g CHG) in
+    let radical = radical-by (codesVoid m) (given RAD m i) (a .charge) (a .radical) (λ e. nothing-given RAD m i (or-false (has CHG m) (has RAD m) e .1)) (g RAD) in
     let isotope = g ISO in
     let parity = size-back 0 3 (a .parity) (w .parity) in
     let hydrogen = size-back 0 5 (a .hydrogen-count) (w .hydrogen-count) in
