@@ -1,12 +1,14 @@
 """The case file: how a case is written, read back, and answered (see docs/VECTORS.md)."""
 
-from ctfile import check, fetch, read_record
-from writer import write_catalogue, write_record
+from counter import feed
+from ctfile import check, fetch, next_record, read_record
+from scanner import replay
+from writer import copy_record, write_catalogue, write_record
 
 MODULUS = 4294967291        # the greatest prime below 2**32
 FACTOR = 65599
 OFFSET = 2147483649         # makes every i32 positive, and never 0
-MOST_BYTES = 2_000_000      # of a block; the vectors program takes a file of a little more
+MOST_BYTES = 2_000_000      # of a block
 SPLIT_ATOMS, SPLIT_BONDS = 255 * 16, 255 * 6
 
 
@@ -51,6 +53,22 @@ def fetch_case(name, data):
 
 def catalogue_case(atom_room, bond_room, room, data):
     return head("catalogue", atom_room, bond_room, room, len(data)) + block(data)
+
+
+def copy_case(kind, atom_room, bond_room, room, data):
+    return head("copy", kind, atom_room, bond_room, room, len(data)) + block(data)
+
+
+def feed_case(records, lines, ended, room, part):
+    return head("feed", records, lines, ended, room, len(part)) + block(part)
+
+
+def next_case(cursor, atom_room, bond_room, data):
+    return head("next", *cursor, atom_room, bond_room, len(data)) + block(data)
+
+
+def replay_case(log):
+    return head("replay", len(log)) + block(log)
 
 
 def write_case(n, m, chiral, rooms, atoms, bonds, header, items, room):
@@ -120,10 +138,44 @@ def answer_catalogue(reader, atom_room, bond_room, room, size):
     return verdict(answer) + " room %d" % digest(lent) + tables_text(atoms, bonds)
 
 
+def answer_copy(reader, kind, atom_room, bond_room, room, size):
+    atoms, bonds, lent = table(atom_room, 16), table(bond_room, 6), lent_room(room)
+    answer = copy_record(kind, reader.block(size), atoms, bonds, lent)
+    return verdict(answer) + " room %d" % digest(lent) + tables_text(atoms, bonds)
+
+
+def answer_feed(reader, records, lines, ended, room, size):
+    answer = feed(records, lines, ended == 1, room, reader.block(size))
+    return "more %d %d used %d" % answer[1:] if answer[0] == "more" else verdict(answer)
+
+
+def answer_next(reader, at, lines, records, atom_room, bond_room, size):
+    atoms, bonds = table(atom_room, 16), table(bond_room, 6)
+    answer = next_record((at, lines, records), reader.block(size), atoms, bonds)
+    if answer[0] == "record":
+        answer = answer[:-1] + ("cursor",) + answer[-1]
+    return verdict(answer) + tables_text(atoms, bonds)
+
+
+def answer_replay(reader, size):
+    store = replay(reader.block(size))
+    told = []
+    for note in store.notes:
+        told += [note.event, note.number]
+        told += [] if note.number else [note.paper, note.shelf, note.paper - note.shelf]
+    for key, paper in store.papers.items():
+        told += [*key, paper]
+    text = "events %d lots %d received %d issued %d paper %d counts %d digest %d" % (
+        store.events, len(store.papers), store.received, store.issued, sum(store.papers.values()),
+        len(store.counts()), digest(told))
+    return text + (" refused %d event %d" % (store.refused, store.events + 1) if store.refused else "")
+
+
 OPERATIONS = {
     "check": lambda reader, kind, size: verdict(check(kind, reader.block(size))),
     "read": answer_read, "fetch": answer_fetch, "write": answer_write,
-    "catalogue": answer_catalogue}
+    "catalogue": answer_catalogue, "copy": answer_copy, "feed": answer_feed,
+    "next": answer_next, "replay": answer_replay}
 
 
 def answers(data):

@@ -4,7 +4,7 @@ import random
 
 import prefix
 import vectors
-from cases import answers, digest
+from cases import OPERATIONS, answers, digest
 from counter import counter_line
 from ctfile import check, molfile, read_record, record_at, sdfile
 from damage import aimed, damaged, surplus, truncated
@@ -165,11 +165,11 @@ def counter_around_its_buffer():
 
 def vector_cases():
     """The case file is the same for a seed, reads back to its end, and knows every operation."""
-    data = vectors.make_cases(5, 450)
-    expect("same cases for a seed", vectors.make_cases(5, 450) == data, True)
+    data = vectors.make_cases(5, 1200)
+    expect("same cases for a seed", vectors.make_cases(5, 1200) == data, True)
     expected = answers(data)
-    expect("one line a case", expected.count("\n"), 450)
-    for operation in (b"check", b"read", b"fetch", b"write", b"catalogue"):
+    expect("one line a case", expected.count("\n"), 1200)
+    for operation in map(str.encode, OPERATIONS):
         expect("%s cases" % operation, data.count(b"\n" + operation + b" ") > 20, True)
     expect("digest of nothing", digest([]), 1)
     expect("digest of 0", digest([0]), 2147549248)

@@ -43,7 +43,7 @@ class Record:
                 0, self.header_end, self.items_start, self.items_end)
 
     def reading(self):
-        """The reading of document 01, without places in the bytes."""
+        """What the record says, without places in the bytes."""
         return (tuple(line.text for line in self.header), self.n, self.m, self.chiral,
                 tuple(map(tuple, self.atoms)), tuple(map(tuple, self.bonds)),
                 tuple((i.name, tuple(v.text for v in i.values)) for i in self.items))
@@ -224,21 +224,47 @@ def fill_table(table, width, rows):
     table[:PLACES * width] = flat
 
 
-def read_record(kind, data, atom_table, bond_table):
-    """("accepted", n, m, chiral, length, header start, header end, items start, items end) or the
-    refusal. The tables are flat lists of numbers and are changed in place."""
+def read_into(kind, data, atom_table, bond_table):
+    """The record at the start of `data`, its rows in the tables: flat lists of numbers, changed in
+    place. A refusal leaves no rows there; 1 and 2 leave the tables alone."""
     if kind not in (MOLFILE, SDFILE):
-        return Refusal(1).answer()
+        raise Refusal(1)
     if min(table_rooms(atom_table, bond_table)) < PLACES:
-        return Refusal(2).answer()
+        raise Refusal(2)
+    record = Record()
     try:
         record = one_record(kind, data)
-        answer = ("accepted",) + record.answer()
+    finally:
+        fill_table(atom_table, 16, record.atoms)
+        fill_table(bond_table, 6, record.bonds)
+    return record
+
+
+def read_record(kind, data, atom_table, bond_table):
+    """("accepted", n, m, chiral, length, header start, header end, items start, items end) or the
+    refusal."""
+    try:
+        return ("accepted",) + read_into(kind, data, atom_table, bond_table).answer()
     except Refusal as refusal:
-        record, answer = Record(), refusal.answer()
-    fill_table(atom_table, 16, record.atoms)
-    fill_table(bond_table, 6, record.bonds)
-    return answer
+        return refusal.answer()
+
+
+def next_record(cursor, data, atom_table, bond_table):
+    """The record at a cursor (bytes, lines and records of the file before it): ("record", n, m,
+    chiral, length, lines, header end, items start, items end, the cursor past it), the refusal with
+    its line in the file, or ("end",) where nothing is left or no file has such a cursor."""
+    at, lines, records = cursor
+    if min(table_rooms(atom_table, bond_table)) < PLACES:
+        return Refusal(2).answer()
+    if not records <= lines <= at < len(data):
+        return ("end",)
+    try:
+        record = read_into(SDFILE, data[at:], atom_table, bond_table)
+    except Refusal as refusal:
+        return ("refused", refusal.number, lines + refusal.line, refusal.column)
+    after = at + record.length, lines + record.lines_used, records + 1
+    return ("record", record.n, record.m, record.chiral, record.length, record.lines_used,
+            record.header_end, record.items_start, record.items_end, after)
 
 
 def fetch(data, name):

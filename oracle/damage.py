@@ -1,7 +1,7 @@
 """Damaged files: aimed ones that know the refusal they must meet, and blind ones.
 
 Every aim takes good rows, spoils one line, and names the refusal's number and column. The columns
-below are copied from document 01 by hand, apart from forms.py, so the two check each other.
+below are copied from the layout of the lines by hand, apart from forms.py, so each checks the other.
 """
 
 from generate import Row, draft_record, file_rows, good_drafts, to_bytes

@@ -53,7 +53,7 @@ class Draft:
         return {a: v for entries in lines for a, v in entries} if lines else None
 
     def truth(self):
-        """The reading document 01 gives this draft."""
+        """The reading that a record spelled from this draft has."""
         charges, radicals, isotopes = map(self.listed, ("CHG", "RAD", "ISO"))
         atoms = []
         for k, a in enumerate(self.atoms, 1):

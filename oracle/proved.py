@@ -1,4 +1,4 @@
-"""The proved programs: the vectors program and the static library, run on files of cases."""
+"""The proved library, run on files of cases through a small C program, oracle/library.c."""
 
 import os
 import subprocess
@@ -8,24 +8,15 @@ from cases import answers
 
 ROOT = os.path.dirname(os.path.dirname(os.path.abspath(__file__)))
 COMPILE = os.path.join(ROOT, "examples", "compile")
-BATCH_BYTES = 2_000_000     # the vectors program takes a little more
-
-
-def build(command, made):
-    """Builds what is not there yet."""
-    if not os.path.exists(os.path.join(ROOT, made)):
-        print("building %s, which proves the library first" % made, flush=True)
-        subprocess.run(command, cwd=ROOT, check=True, stdout=subprocess.DEVNULL)
-
-
-def vectors_program():
-    build(["rt", "check", "vectors"], "target/bin/vectors")
-    return [COMPILE, "--run", os.path.join(ROOT, "target/bin/vectors")]
+LIBRARY = os.path.join(ROOT, "target", "staticlib", "libcapellanote.a")
+BATCH_BYTES = 2_000_000     # the C program takes twice as much
 
 
 def library_program(folder):
-    """A C program over the static library that takes the same files."""
-    build(["rt", "staticlib", "capellanote"], "target/staticlib/libcapellanote.a")
+    """The command that answers a file of cases by the static library; builds what is not there yet."""
+    if not os.path.exists(LIBRARY):
+        print("building the static library, which proves it first", flush=True)
+        subprocess.run(["rt", "staticlib", "capellanote"], cwd=ROOT, check=True, stdout=subprocess.DEVNULL)
     program = os.path.join(folder, "library")
     subprocess.run([COMPILE, os.path.join(ROOT, "oracle", "library.c"), program], check=True)
     return [COMPILE, "--run", program]
@@ -53,12 +44,10 @@ def answers_by(program, cases):
         return subprocess.run(program + [file.name], stdout=subprocess.PIPE).stdout.decode().splitlines()
 
 
-def first_difference(programs, batch):
-    """The second program's lines, and the name of a program that prints others with the place of its first."""
-    expected = answers(b"".join(batch)).splitlines()
-    for name, program in programs:
-        got = answers_by(program, batch)
-        if got != expected:
-            unlike = [k for k, (a, b) in enumerate(zip(got, expected)) if a != b]
-            return expected, (name, program, min(unlike + [len(got), len(batch) - 1]))
-    return expected, None
+def first_difference(program, batch):
+    """The second program's lines, and the place of the first that the program prints otherwise, or None."""
+    expected, got = answers(b"".join(batch)).splitlines(), answers_by(program, batch)
+    if got == expected:
+        return expected, None
+    unlike = [k for k, (a, b) in enumerate(zip(got, expected)) if a != b]
+    return expected, min(unlike + [len(got), len(batch) - 1])

@@ -1,4 +1,4 @@
-"""The sample record of document 01, and small edits of it."""
+"""A sample record with a line of every kind, and small edits of it."""
 
 from ctfile import read_record
 

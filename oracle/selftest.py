@@ -1,12 +1,14 @@
 """Plain tests of the oracle: `python3 selftest.py` prints what failed and then exits with 1.
 
-Expected answers here were worked out by hand from document 01.
+Expected answers here were worked out by hand from the rules of the format.
 """
 
 import sys
 
 import crosschecks
 import field_tests
+import part_tests
+import scanner_tests
 import writer_tests
 from counter import counter_line
 from ctfile import check, fetch, read_record
@@ -181,7 +183,7 @@ def counting():
 
 if __name__ == "__main__":
     for test in (bench_samples, sample_record, easy_mistakes, refusals_by_hand, good_by_hand, counting,
-                 *writer_tests.ALL, *field_tests.ALL, *crosschecks.ALL):
+                 *writer_tests.ALL, *part_tests.ALL, *scanner_tests.ALL, *field_tests.ALL, *crosschecks.ALL):
         before = len(FAILURES)
         try:
             test()

@@ -54,17 +54,17 @@ def shortened(case, differs):
     return joined(word, numbers, sizes, rows, blocks)
 
 
-def show(name, program, case):
+def show(program, case):
     def differs(c):
         return answers_by(program, [c]) != answers(c).splitlines()
     if differs(case):
         case = shortened(case, differs)
     word, numbers, sizes, rows, blocks = parted(case)
-    print("%s differs at: %s" % (name, case[:case.index(b"\n")].decode()))
+    print("the library differs at: %s" % case[:case.index(b"\n")].decode())
     for row in rows:
         print("  row   %s" % " ".join(row))
     for data in blocks:
         for line in data.splitlines(keepends=True) or [b""]:
             print("  block %r" % line)
     print("second program: %s" % answers(case).strip())
-    print("%s: %s" % (name, " / ".join(answers_by(program, [case]))))
+    print("library:        %s" % " / ".join(answers_by(program, [case])))

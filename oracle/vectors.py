@@ -1,24 +1,42 @@
-"""Cases for the gate's vectors program, with the lines it has to print.
+"""Cases for the library, with the lines that its driver has to print.
 
     python3 vectors.py SEED N OUT [OPERATION..]     writes OUT.cases and OUT.expected, of these operations or of all
-    python3 vectors.py --check OUT     answers OUT.cases again and compares
+    python3 vectors.py --check OUT..                answers each OUT.cases again and compares
+    python3 vectors.py --stored DIRECTORY           writes all that tests/cases holds
 
 The same seed gives the same bytes. The format is in docs/VECTORS.md.
 """
 
+import os
 import random
 import re
 import sys
 from collections import Counter
 
-from cases import OPERATIONS, answers, catalogue_case, check_case, fetch_case, read_case, write_case
+from cases import (OPERATIONS, Reader, answers, catalogue_case, check_case, copy_case, feed_case, fetch_case,
+                   next_case, read_case, replay_case, write_case)
+from counter import BUFFER, MOST
+from ctfile import SDFILE, one_record, record_at
 from damage import AIMED_NUMBERS, aimed, blind, damaged, surplus, truncated
 from generate import (NAMES, all_symbols, draft_record, file_rows, good_drafts, plain_bytes,
                       record_rows, to_bytes)
-from writer import catalogue_text
+from lines import Refusal, Sheet
+from logs import any_log, fixed_logs
+from samples import MOLFILE, SAMPLE, edit
+from scanner import replay
+from writer import catalogue_text, text_of
 
-MOST_BYTES = 2_000_000
-LEAST_OF_EACH = 10          # cases for every refusal number, when N is 2,000 or more
+MOST_STORED = 3_000_000     # bytes of all stored files together
+LEAST_OF_EACH = 10          # stored cases for every refusal number that an operation can give
+BASE = ("check", "read", "fetch", "write", "catalogue")
+STORED = {                  # seed, cases, operations
+    "base": (1, 2400, BASE), "copy": (4, 540, ("copy",)), "feed": (9, 460, ("feed",)),
+    "next": (10, 420, ("next",)), "replay": (5, 700, ("replay",))}
+LINES = {*range(3, 18), 19}  # refusals that a record of an SDfile can meet
+NUMBERS = {
+    "check": {1, 18} | LINES, "read": {1, 2, 18} | LINES, "fetch": {22} | LINES,
+    "write": {2, 3, 4, 5, 16, 17, 18, 19, 20, 21}, "catalogue": {2, 20} | LINES, "copy": {1, 2, 18, 20} | LINES,
+    "feed": LINES, "next": {2} | LINES, "replay": set(range(26, 31))}
 SWEEP_LINES = {
     b"counts": b"  2  1  0  0  0  0  0  0  0  0999 V2000",
     b"atom": b"    1.2500   -0.8250    0.0000 O   0  5  0  0  0  0  0  0  0  0  0  0",
@@ -199,6 +217,104 @@ def make_catalogue(rng):
     return catalogue_case(*table_rooms(rng), max(0, room), data)
 
 
+def even_file(rng, kind):
+    """Good or damaged bytes in which every refusal number has the same chance."""
+    choice = rng.random()
+    if choice < 0.2:
+        return to_bytes(rng, file_rows(rng, good_drafts(rng, kind), kind))
+    if choice < 0.35:
+        return damaged(rng, kind) if choice < 0.27 else truncated(rng, kind)
+    numbers = [k for k in AIMED_NUMBERS if k not in (16, 17)] + [18, 18] if kind == 0 else AIMED_NUMBERS
+    number = rng.choice(numbers)
+    return to_bytes(rng, (surplus(rng) if number == 18 else aimed(rng, kind, number)).rows)
+
+
+def cursors(data):
+    """Where records of a file begin: bytes, lines and records before them."""
+    sheet, first, records = Sheet(data), 0, 0
+    try:
+        while True:
+            yield sheet.starts_at(first), first, records
+            first, records = first + record_at(sheet, first, SDFILE).lines_used, records + 1
+    except Refusal:
+        pass
+
+
+def make_copy(rng):
+    """A record of either kind, often into room that is just enough or just too short."""
+    kind, length = any_kind(rng), rng.choice([0, 90, 400])
+    data = even_file(rng, min(kind, 1))
+    if kind == 1:
+        data = data[list(cursors(data))[-1][0]:] if rng.random() < 0.7 else data
+        data += rng.choice([b"", b"", b"", b"\x00", b"x" * 90, b"$$$$\n", b"\r"])
+    try:
+        length = len(text_of(one_record(min(kind, 1), data)))
+    except Refusal:
+        pass
+    return copy_case(kind, *table_rooms(rng), max(0, length + rng.choice([0, 0, 0, 7, -1, -1, -60, 300])), data)
+
+
+def before(rng):
+    """A count of records or lines that stand before a part; near the greatest, sums stop there."""
+    return rng.choice([0, 0, 0, 1, 12, 999, 2 ** 32 - 1, 2 ** 63, MOST - 30, MOST - 1, MOST])
+
+
+def make_feed(rng):
+    """A part of an SDfile that fills its buffer or does not, mostly cut where no record ends."""
+    data = even_file(rng, 1)
+    if rng.random() < 0.3:
+        data = to_bytes(rng, record_rows(rng, draft_record(rng, 1, 0), 1)) + data
+    if rng.random() < 0.3:
+        data = data[:rng.randrange(len(data) + 1)]
+    room = rng.choice([len(data)] * 3 + [len(data) + 1, max(0, len(data) - 1), 2 * len(data), 0, BUFFER])
+    return feed_case(before(rng), before(rng), rng.randrange(2), room, data)
+
+
+def odd_cursor(rng, size):
+    """A cursor that need not be one of the file, nor of any."""
+    at = rng.choice([rng.randrange(size + 1), size, size + 1, 0, 1, MOST])
+    lines = rng.choice([at, at // 9, at + 1, 0, MOST])
+    records = rng.choice([lines, lines // 9, lines + 1, 0, MOST])
+    return min(at, MOST), min(lines, MOST), min(records, MOST)
+
+
+def make_next(rng):
+    data = even_file(rng, 1)
+    if rng.random() < 0.3:
+        data = to_bytes(rng, record_rows(rng, draft_record(rng, 1, 0), 1)) + data
+    places = list(cursors(data))
+    cursor = places[-1] if rng.random() < 0.8 else rng.choice(places)
+    if rng.random() < 0.15:
+        cursor = odd_cursor(rng, len(data))
+    return next_case(cursor, *table_rooms(rng), data)
+
+
+def make_replay(rng):
+    return replay_case(any_log(rng))
+
+
+def sample_cases():
+    """The sample of the rules and small edits of it, where room, part and cursor lie on either side of a limit."""
+    for room in (0, 264, 265, 266):
+        yield copy_case(1, 255, 256, room, SAMPLE + b"x")
+    for room in (248, 249):
+        yield copy_case(0, 256, 255, room, MOLFILE)
+    yield copy_case(0, 255, 255, 999, SAMPLE)
+    yield copy_case(2, 0, 0, 0, b"")
+    for part in (b"", b"x", b"\n", SAMPLE, SAMPLE * 2, SAMPLE[:-1], SAMPLE * 2 + b"x", SAMPLE + edit(drop=12)):
+        for ended in (0, 1):
+            for room in (len(part), len(part) + 1):
+                yield feed_case(7, 90, ended, room, part)
+                yield feed_case(MOST, MOST - 1, ended, room, part)
+    for cursor in ((0, 0, 0), (265, 13, 1), (530, 26, 2), (265, 265, 265), (265, 266, 1), (265, 13, 14), (531, 26, 2),
+                   (12, 12, 12), (12, 13, 12), (529, 25, 1)):
+        yield next_case(cursor, 255, 255, SAMPLE * 2)
+        yield next_case(cursor, 255, 254, SAMPLE + edit(drop=12))
+        yield next_case(cursor, 256, 257, SAMPLE + edit(drop=12))
+    for log in fixed_logs():
+        yield replay_case(log)
+
+
 def fixed_cases(rng):
     """Large and small extremes that chance would not bring."""
     yield check_case(0, b"")
@@ -229,12 +345,13 @@ def operation_of(case):
 
 
 MAKERS = [make_check] * 35 + [make_read] * 25 + [make_fetch] * 10 + [make_write] * 22 + [
-    make_catalogue] * 8
+    make_catalogue] * 8 + [make_copy] * 15 + [make_feed] * 15 + [make_next] * 12 + [make_replay] * 15
 
 
 def case_list(seed, count, operations):
     rng = random.Random(seed)
     cases = list(fixed_cases(rng)) + list(sweeps(rng, count // 6))
+    cases += sample_cases()
     cases = [case for case in cases if operation_of(case) in operations]
     makers = [make for make in MAKERS if make.__name__[5:] in operations]
     while len(cases) < count:
@@ -246,37 +363,70 @@ def make_cases(seed, count, operations=tuple(OPERATIONS)):
     return b"".join(case_list(seed, count, operations))
 
 
-def tally(expected):
-    """How often each refusal number comes, and at how many different places."""
-    found = re.findall(r"^refused (\d+) line (\d+) column (\d+)", expected, re.M)
-    times = Counter(int(number) for number, _, _ in found)
-    spots = Counter(int(number) for number, _, _ in set(found))
-    return {number: (times[number], spots[number]) for number in range(1, 23)}
+def skipped(case):
+    """The refusals that skip an event of a log: its line does not tell them."""
+    reader = Reader(case)
+    word, *sizes = reader.line()
+    notes = replay(reader.block(int(sizes[0]))).notes if word == "replay" else ()
+    return {note.number for note in notes} - {0}
 
 
-def main(seed, count, out, operations):
-    data = make_cases(seed, count, operations or tuple(OPERATIONS))
+def tally(cases, expected):
+    """In how many cases each refusal number comes, and at how many different places."""
+    times, spots = Counter(), set()
+    for case, line in zip(cases, expected.splitlines()):
+        found = re.findall(r"refused (\d+) (?:line|event) (\d+)(?: column (\d+))?", line)
+        times.update({int(number) for number, *_ in found} | skipped(case))
+        spots.update(found)
+    places = Counter(int(number) for number, *_ in spots)
+    return {number: (times[number], places[number]) for number in sorted(times)}
+
+
+def write_files(seed, count, out, operations):
+    """Both files; their size, and the refusals that come in too few cases."""
+    cases = case_list(seed, count, operations)
+    data = b"".join(cases)
     expected = answers(data)
     with open(out + ".cases", "wb") as file:
         file.write(data)
     with open(out + ".expected", "w") as file:
         file.write(expected)
-    counts = tally(expected)
-    print("%d cases, %d bytes" % (expected.count("\n"), len(data) + len(expected)))
-    for number, (times, spots) in counts.items():
-        print("refusal %2d: %4d cases, %3d places" % (number, times, spots))
-    too_few = count >= 2000 and min(t for t, _ in counts.values()) < LEAST_OF_EACH
-    return 1 if too_few or len(data) + len(expected) > MOST_BYTES else 0
+    counts, size = tally(cases, expected), len(data) + len(expected)
+    print("%s: %d cases, %d bytes" % (out, expected.count("\n"), size))
+    for number, (times, places) in counts.items():
+        print("refusal %2d: %4d cases, %3d places" % (number, times, places))
+    wanted = set().union(*(NUMBERS[operation] for operation in operations))
+    return size, [number for number in sorted(wanted) if counts.get(number, (0, 0))[0] < LEAST_OF_EACH]
 
 
-def check_again(out):
-    with open(out + ".cases", "rb") as cases, open(out + ".expected") as expected:
-        same = answers(cases.read()) == expected.read()
-    print("same" if same else "different")
-    return 0 if same else 1
+def write_stored(directory):
+    """All stored files; each refusal that can come has to come often enough, and the whole must stay small."""
+    total, good = 0, True
+    for name, (seed, count, operations) in STORED.items():
+        size, few = write_files(seed, count, os.path.join(directory, name), operations)
+        total += size
+        if few:
+            good = False
+            print("%s: fewer than %d cases of %s" % (name, LEAST_OF_EACH, ", ".join(map(str, few))))
+    print("%d bytes stored" % total)
+    return 0 if good and total < MOST_STORED else 1
+
+
+def check_again(outs):
+    for out in outs:
+        with open(out + ".cases", "rb") as cases, open(out + ".expected") as expected:
+            same = answers(cases.read()) == expected.read()
+        print("%s: %s" % (out, "same" if same else "different"))
+        if not same:
+            return 1
+    return 0
 
 
 if __name__ == "__main__":
-    if sys.argv[1] == "--check":
-        sys.exit(check_again(sys.argv[2]))
-    sys.exit(main(int(sys.argv[1]), int(sys.argv[2]), sys.argv[3], sys.argv[4:]))
+    if len(sys.argv) > 2 and sys.argv[1] == "--check":
+        sys.exit(check_again(sys.argv[2:]))
+    if len(sys.argv) == 3 and sys.argv[1] == "--stored":
+        sys.exit(write_stored(sys.argv[2]))
+    if len(sys.argv) < 4:
+        sys.exit(__doc__)
+    write_files(int(sys.argv[1]), int(sys.argv[2]), sys.argv[3], sys.argv[4:] or tuple(OPERATIONS))

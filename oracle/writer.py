@@ -1,7 +1,8 @@
-"""Canonical writing: one SDfile record from tables, and a whole SDfile anew."""
+"""Canonical writing: one SDfile record from tables, a record as it stands in a file, and a whole
+SDfile anew."""
 
-from ctfile import (CODE_CHARGE, PLACES, fill_table, header_lines, items_until_end, sdfile,
-                    table_rooms)
+from ctfile import (CODE_CHARGE, PLACES, fill_table, header_lines, items_until_end, read_into,
+                    sdfile, table_rooms)
 from forms import CENTRES, STEREO, SYMBOLS
 from lines import Refusal, Sheet
 
@@ -130,10 +131,26 @@ def write_record(atom_table, bond_table, n, m, chiral, header, items, room):
         return refusal.answer()
 
 
+def text_of(record):
+    """The canonical bytes of a record that was read; a molfile's has no items and ends in `$$$$` too."""
+    return record_text(record.header, record.n, record.m, record.chiral, record.atoms, record.bonds,
+                       record.items)
+
+
+def copy_record(kind, data, atom_table, bond_table, room):
+    """("accepted", bytes and lines of the record in the file, length of its canonical text) or the
+    refusal; the tables are left as reading the record leaves them."""
+    try:
+        record = read_into(kind, data, atom_table, bond_table)
+        _, length = put(room, text_of(record))
+        return ("accepted", record.length, record.lines_used, length)
+    except Refusal as refusal:
+        return refusal.answer()
+
+
 def catalogue_text(data):
     """The canonical bytes of a whole SDfile."""
-    return b"".join(record_text(r.header, r.n, r.m, r.chiral, r.atoms, r.bonds, r.items)
-                    for r in sdfile(Sheet(data)))
+    return b"".join(map(text_of, sdfile(Sheet(data))))
 
 
 def write_catalogue(data, atom_table, bond_table, room):
