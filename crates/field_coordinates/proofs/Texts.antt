@@ -18,7 +18,7 @@ use mir.Facts.{toZ-ofZ, toZ-pos}
 use Rattle.text.specs.Text.{Bytes}
 use Rattle.field_numbers.specs.Write.{textBy, sizedText}
 use Rattle.field_numbers.specs.Written.{text-length}
-use Rattle.field_numbers.proofs.Signs.{less-fits, less-sign, less-cast, less-plus, same-sign, same-cast}
+use Rattle.field_numbers.specs.Signs.{from-minus-one, less-fits, less-sign, less-cast, less-plus, same-sign, same-cast}
 use Rattle.field_coordinates.specs.Write.{lastDigit, signColumn, afterPoint, pointText, coordinateText}
 
 -- two digits as one number, the first below the second
@@ -82,11 +82,6 @@ both-laid l m n at k minus p q =
 -- a signed number as the machine holds it, and its text by its sign
 abbrev pub held : ℤ → ℤ
 held z = toZ w32 (ofZ w32 z)
-
-from-minus-one : (k : ℕ) → negsuc 0 -ℤ negsuc k ≡ pos k
-from-minus-one k =
-    let e : suc k - 1 ≡ k = omega arith in
-    rw (le-ltb (suc k) 1 (omega arith), e)
 
 pub minus-laid : (v : ℤ) (l n : Bytes) (at : ℕ) → SFits w32 v → ltZ (held v) (pos 0) ≡ true →
     n ≡ sets l at (pointText true (natAbs (held (negsuc 0 -ℤ held v)) + 1)) → n ≡ sets l at (coordinateText v)

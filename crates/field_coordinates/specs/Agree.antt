@@ -15,7 +15,8 @@ use Rattle.text.specs.Columns.{columns, spaces}
 use Rattle.text.specs.Agree.{columns-length}
 use Rattle.field_numbers.specs.Number.{Digit, Digits, decimalAfter, Between}
 use Rattle.field_numbers.specs.Read.{someDigits, afterSpaces, signed}
-use Rattle.field_numbers.specs.Agree.{and-true, digit-not, digits-some, some-digits, pass-spaces, led}
+use Rattle.text.specs.Laws.{and-true}
+use Rattle.field_numbers.specs.Agree.{digit-not, digits-some, some-digits, pass-spaces, led}
 use Rattle.field_coordinates.specs.declared.CoordinateRead.{CoordinateRead}
 use Rattle.field_coordinates.specs.declared.CoordinateRead.the-variants.{Is, Malformed}
 use Rattle.field_coordinates.specs.Coordinate.{Pointed, Coordinate}

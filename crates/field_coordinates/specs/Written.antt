@@ -7,6 +7,7 @@ use mathlib.Core.List.{[], _∷_, _++_}
 use mathlib.Core.Bool.{Bool, true, false}
 use lib.ListN.{length, length-append}
 use lib.IntN.{ℤ, pos, negsuc, negℤ}
+use Rattle.text.specs.Laws.{each-append}
 use Rattle.text.specs.Text.{Bytes, Each, bytes}
 use Rattle.text.specs.Columns.{spaces, Allowed}
 use Rattle.field_numbers.specs.Number.{Digits, Integer, Between, decimalAfter}
@@ -25,11 +26,6 @@ text-ten minus k = length-append (sizedText 5 minus (k / 10000)) (afterPoint k) 
 pub coordinate-length : (z : ℤ) → length (coordinateText z) ≡ 10
 coordinate-length (pos k) = text-ten false k
 coordinate-length (negsuc k) = text-ten true (suc k)
-
-each-append : (P : ℕ → Type 0) (xs ys : Bytes) → Each P xs → Each P ys → Each P (xs ++ ys)
-unfolding Each
-each-append P [] ys h k = k
-each-append P (x ∷ xs) ys h k = (h .0, each-append P xs ys (h .1) k)
 
 text-bytes : (minus : Bool) (k : ℕ) → Each Allowed (pointText minus k)
 unfolding pointText Each

@@ -14,21 +14,16 @@ use mir.Syntax.{w32}
 use mir.Val.{Fits}
 use Rattle.text.specs.Text.{Bytes, Line, Each}
 use Rattle.text.specs.Columns.{column, columns, columnsFor}
+use Rattle.text.specs.Laws.{and-true, getD-any}
 use Rattle.text.specs.Agree.{columns-length, columns-step, columns-over}
 use Rattle.field_numbers.specs.Number.{Digits, Integer, decimalAfter}
 use Rattle.field_numbers.specs.Read.{is, isDigit, allDigits, someDigits, afterSpaces, signed, digitsRead, afterBlank, integerIn, ranged, numberIn, signedRanged, signedIn}
-use Rattle.field_numbers.specs.Agree.{and-true, integer-read}
+use Rattle.field_numbers.specs.Agree.{integer-read}
 use Rattle.field_numbers.specs.Parts.{sizeAfter, sizeIn, withSign, sizedFrom, sizedIn, integerOf, LoneDigit}
 use Rattle.field_numbers.specs.declared.NumberRead.{NumberRead}
 use Rattle.field_numbers.specs.declared.SignedRead.{SignedRead}
 use Rattle.field_numbers.specs.declared.Size.{Size}
 use Rattle.field_numbers.specs.declared.SizedRead.{SizedRead}
-
--- within a list it does not matter what is read past its end
-getD-any : (l : Bytes) (i d e : ℕ) → i < length l → getD l i d ≡ getD l i e
-getD-any [] i d e h = absurd (not-suc-le-zero h)
-getD-any (x ∷ l) zero d e h = refl
-getD-any (x ∷ l) (suc i) d e h = getD-any l i d e (le-of-suc-le-suc h)
 
 -- ---- the walk over leading spaces: what follows them from column i is what follows them from column a
 pub record Passing (l : Line) (i e a : ℕ) : Type 0 where

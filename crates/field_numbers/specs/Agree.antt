@@ -10,14 +10,11 @@ use lib.IntN.{ℤ, pos, negsuc}
 use borrow.Author.Tests.{leb-true, le-leb, eqb-true, ne-eqb}
 use Rattle.text.specs.Text.{Bytes, Line, Each}
 use Rattle.text.specs.Columns.{columns, spaces}
+use Rattle.text.specs.Laws.{and-true}
 use Rattle.field_numbers.specs.Number.{Digit, Digits, Integer, Number, Signed, Listed, SignedListed, Between, decimalAfter}
 use Rattle.field_numbers.specs.Read.{IntegerRead, is, malformed, isDigit, allDigits, someDigits, afterSpaces, signed, digitsRead, afterBlank, integerIn, ranged, numberIn, isBetween, signedRanged, signedIn}
 use Rattle.field_numbers.specs.declared.NumberRead.{NumberRead}
 use Rattle.field_numbers.specs.declared.SignedRead.{SignedRead}
-
-pub and-true : (a b : Bool) → (a && b) ≡ true → (a ≡ true) × (b ≡ true)
-and-true true b h = (refl, h)
-and-true false b h = absurd (let z : _≡_ {A = ℕ} 0 1 = cc in omega arith)
 
 pub and-false : (a : Bool) → (a && false) ≡ false
 and-false true = refl

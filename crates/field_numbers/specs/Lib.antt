@@ -4,4 +4,5 @@ pub mod Agree
 pub mod Write
 pub mod Written
 pub mod Parts
+pub mod Signs
 pub mod Samples

@@ -18,7 +18,8 @@ use Rattle.text.specs.Agree.{same-bytes}
 use Rattle.field_symbols.specs.Read.{among, symbolIn}
 use Rattle.field_symbols.specs.Write.{symbolText}
 use Rattle.field_symbols.specs.Codes.{codeOf, codes, numberOf}
-use Rattle.field_symbols.specs.Table.{and-true, passes, passes-at}
+use Rattle.text.specs.Laws.{and-true, getD-any}
+use Rattle.field_symbols.specs.Table.{passes, passes-at}
 use Rattle.field_symbols.specs.declared.SymbolRead.the-variants.{Is, Unknown}
 
 -- ---- The search from entry i on
@@ -134,12 +135,6 @@ module _ (k : ℕ) where
 pub ruleset usual-codes = (carbon-code, nitrogen-code, oxygen-code)
 
 -- ---- A code gives its bytes back
-
--- below the length the default does not matter
-pub getD-any : {A : Type 0} (l : List A) (i : ℕ) (d e : A) → i < length l → getD l i d ≡ getD l i e
-getD-any [] i d e h = absurd (omega arith)
-getD-any (x ∷ l) zero d e h = refl
-getD-any (x ∷ l) (suc i) d e h = getD-any l i d e (omega arith)
 
 abbrev isCode : ℕ → ℕ → Bool
 isCode i x = ltb x 16777216

@@ -6,10 +6,7 @@ use mathlib.Core.Path.{_≡_, refl}
 use mathlib.Core.List.{List, [], _∷_}
 use mathlib.Core.Bool.{Bool, true, false, _&&_}
 use lib.ListN.{getD, length}
-
-pub and-true : (a b : Bool) → (a && b) ≡ true → (a ≡ true) × (b ≡ true)
-and-true true b h = (refl, h)
-and-true false b h = absurd (let z : _≡_ {A = ℕ} 0 1 = cc in omega arith)
+use Rattle.text.specs.Laws.{and-true}
 
 -- the test passes at each entry with its place, where the first has place i
 unfoldable pub passes : {A : Type 0} → (ℕ → A → Bool) → ℕ → List A → Bool

@@ -11,7 +11,8 @@ use Rattle.text.specs.Text.{Bytes, bytes, Each}
 use Rattle.text.specs.Columns.{columns, columnsFor, Allowed}
 use Rattle.field_symbols.specs.Symbol.{names, name, Symbol}
 use Rattle.field_symbols.specs.Read.{symbolIn}
-use Rattle.field_symbols.specs.Table.{and-true, passes, passes-at}
+use Rattle.text.specs.Laws.{and-true}
+use Rattle.field_symbols.specs.Table.{passes, passes-at}
 use Rattle.field_symbols.specs.Agree.{symbol-agrees}
 use Rattle.field_symbols.specs.declared.SymbolRead.the-variants.{Is}
 

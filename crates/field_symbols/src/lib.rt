@@ -3,7 +3,7 @@ ghost use mathlib.Core.Path.{_≡_};
 ghost use Prim.Native.Nat.{_+_, _-_, _≤_};
 ghost use lib.ListN.{length, getD};
 ghost use lib.Seq.{sets};
-ghost use Rattle.text.specs.Columns.{column, columns};
+ghost use Rattle.text.specs.Columns.{columns};
 ghost use Rattle.field_symbols.specs.Read.{symbolIn};
 ghost use Rattle.field_symbols.specs.Write.{symbolText};
 ghost use Rattle.field_symbols.specs.Codes.{codes, numberOf};
@@ -140,14 +140,6 @@ const CODES: [u32; 122] = [
     0x4c5020, // LP
 ];
 
-// Column i, counted from 1: a space past the end of the line.
-fn column_at(line: &[u8], i: usize) -> u8
-    requires { ⌜ 1 ≤ i ⌝ }
-    ensures { λ r. ⌜ r ≡ column (now (line .entry)) i ⌝ }
-{
-    if i <= line.len() { line[i - 1] } else { 32 }
-}
-
 // The number of the first entry that is the code.
 fn find_code(table: &[u32], code: u32) -> SymbolRead
     requires { ⌜ length (now table) ≤ 1000 ⌝ }
@@ -191,9 +183,9 @@ pub fn symbol(line: &[u8], i: usize) -> SymbolRead
     requires { ⌜ (1 ≤ i) × (i ≤ 1000) ⌝ }
     ensures { λ r. ⌜ r ≡ symbolIn (columns (now (line .entry)) i (i + 2)) ⌝ }
 {
-    let a = column_at(line, i);
-    let b = column_at(line, i + 1);
-    let c = column_at(line, i + 2);
+    let a = text::column(line, i);
+    let b = text::column(line, i + 1);
+    let c = text::column(line, i + 2);
     symbol_of((a as u32) * 65536 + (b as u32) * 256 + (c as u32))
 }
 

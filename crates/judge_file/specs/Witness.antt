@@ -7,6 +7,7 @@ use mathlib.Core.List.{[], _∷_, _++_, append-assoc}
 use lib.ListN.{length, length-append}
 use lib.IntN.{pos}
 use native.Mathlib.Omega.{arith}
+use Rattle.text.specs.Laws.{each-append}
 use Rattle.text.specs.Text.{Bytes, Line, bytes, Each}
 use Rattle.text.specs.Columns.{columnsFor, columns, spaces, Allowed}
 use Rattle.text.specs.Find.{firstFrom, badColumn}
@@ -116,11 +117,6 @@ bondText x y = numberText 3 x ++ (numberText 3 y ++ bytes "  1")
 abbrev pub single : ℕ → ℕ → Bond
 single x y = record { first = x; second = y; type = 1; stereo = 0; topology = 0; centre = pos 0 }
 
-each-join : (P : ℕ → Type 0) (a b : Bytes) → Each P a → Each P b → Each P (a ++ b)
-unfolding Each
-each-join P [] b h k = k
-each-join P (x ∷ a) b h k = (h .0, each-join P a b (h .1) k)
-
 module _ (n x y : ℕ) (few : n ≤ 999) (x-low : 1 ≤ x) (x-high : x ≤ n) (y-low : 1 ≤ y) (y-high : y ≤ n) (differ : x ≢ y) where
   bond-length : length (bondText x y) ≡ 9
   bond-length =
@@ -146,8 +142,8 @@ module _ (n x y : ℕ) (few : n ≤ 999) (x-low : 1 ≤ x) (x-high : x ≤ n) (y
       record {
         line = record {
           short = omega (arith, bond-length);
-          allowed = each-join Allowed (numberText 3 x) (numberText 3 y ++ bytes "  1") (number-allowed 3 x)
-              (each-join Allowed (numberText 3 y) (bytes "  1") (number-allowed 3 y) (bad-none (bytes "  1") .0 refl));
+          allowed = each-append Allowed (numberText 3 x) (numberText 3 y ++ bytes "  1") (number-allowed 3 x)
+              (each-append Allowed (numberText 3 y) (bytes "  1") (number-allowed 3 y) (bad-none (bytes "  1") .0 refl));
         };
         first = record { field = rw x-at (number-back false 3 x (omega arith)); low = x-low; high = x-high };
         second = record { field = rw y-at (number-back false 3 y (omega arith)); low = y-low; high = y-high };

@@ -11,7 +11,8 @@ use Rattle.rules.specs.Forms.{FirstHeaderLine, Counts, CountsLine, Atom, AtomLi
 use Rattle.judge_line.specs.Got.{got}
 use Rattle.judge_line.specs.GotLaws.{got-inj, need-got, need-is}
 use Rattle.judge_line.specs.Judge.{contains, reserved, firstHeaderOf, countsOf, atomOf, bondOf, propertyOf, property, last, itemOf, title, close, valueOf, value, blank}
-use Rattle.judge_line.specs.AgreeText.{true-false, or-false, none-of, contains-got, contains-is}
+use Rattle.text.specs.Laws.{or-false}
+use Rattle.judge_line.specs.AgreeText.{true-false, none-of, contains-got, contains-is}
 pub use Rattle.judge_line.specs.AgreeField.{within-got, within-is}
 use Rattle.judge_line.specs.AgreeLine.{counts-got, counts-is, atom-got, atom-is, bond-got, bond-is}
 unfoldable pub use Rattle.judge_line.specs.AgreeProperty.{NewEntries}

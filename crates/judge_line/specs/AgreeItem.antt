@@ -10,7 +10,8 @@ use borrow.Author.Tests.{eqb-true, eqb-false, eq-eqb, ne-eqb, leb-true, le-leb}
 use Rattle.text.specs.Text.{Bytes, Line, bytes, Each, Without}
 use Rattle.text.specs.Columns.{columns, columnsFor, spaces, Allowed, Within, Blank}
 use Rattle.field_numbers.specs.Read.{afterSpaces}
-use Rattle.field_numbers.specs.Agree.{and-true, led, pass-spaces}
+use Rattle.text.specs.Laws.{and-true}
+use Rattle.field_numbers.specs.Agree.{led, pass-spaces}
 use Rattle.rules.specs.Forms.{DataHeader, RecordEnd, ValueLine, BlankLine}
 use Rattle.judge_line.specs.Got.{got}
 use Rattle.judge_line.specs.GotLaws.{got-inj, bad-got, cond-by}

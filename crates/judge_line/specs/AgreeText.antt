@@ -9,15 +9,11 @@ use lib.ListN.{length}
 use borrow.Author.Tests.{eqb-true, eq-eqb}
 use Rattle.text.specs.Text.{Bytes, Line, Each}
 use Rattle.text.specs.Columns.{Blank, spaces}
-use Rattle.field_numbers.specs.Agree.{and-true}
+use Rattle.text.specs.Laws.{and-true}
 use Rattle.judge_line.specs.Judge.{begins, contains, blankb}
 
 pub true-false : {X : Type 0} (t : Bool) → t ≡ true → t ≡ false → X
 true-false t p q = absurd (let z : _≡_ {A = ℕ} 0 1 = cc in omega arith)
-
-pub or-false : (a b : Bool) → (a || b) ≡ false → (a ≡ false) × (b ≡ false)
-or-false true b h = absurd (let z : _≡_ {A = ℕ} 0 1 = cc in omega arith)
-or-false false b h = (refl, h)
 
 -- a test that finds what there is, and only that
 pub none-of : {X : Type 0} (t : Bool) → (t ≡ true → X) → ¬ X → t ≡ false

@@ -20,6 +20,16 @@ pub then-is : {A B : Type 0} (x : Got A) (f : A → Got B) (a : A) → x ≡ got
 unfolding then
 then-is x f a p = rw p
 
+pub then-then : {A B C : Type 0} (x : Got A) (f : A → Got B) (g : B → Got C) → then (then x f) g ≡ then x (λ a. then (f a) g)
+unfolding then
+then-then (got a) f g = refl
+then-then (bad e column) f g = refl
+
+pub need-then : {A B : Type 0} (b : Bool) (e column : ℕ) (x : Got A) (g : A → Got B) → then (need b e column x) g ≡ need b e column (then x g)
+unfolding need then
+need-then true e column x g = refl
+need-then false e column x g = refl
+
 pub need-got : {A : Type 0} (b : Bool) (e c : ℕ) (x : Got A) (v : A) → need b e c x ≡ got v → (b ≡ true) × (x ≡ got v)
 unfolding need
 need-got true e c x v p = (refl, p)

@@ -15,6 +15,7 @@ use Rattle.line_fields.specs.Steps.{hop}
 use Rattle.line_atom.specs.Answer.{positionGot, placeGot, codesGot, positionOf, placeOf, codesOf, atomFrom, exactOf}
 use Rattle.field_coordinates.specs.Read.{coordinateIn}
 use Rattle.judge_line.specs.Field.{coordinateAt}
+use Rattle.judge_line.specs.GotLaws.{then-then, need-then}
 use Rattle.line_usual_position.specs.declared.Position.{Position}
 use Rattle.line_usual_position.specs.declared.Usual.{Usual}
 use Rattle.line_usual_position.specs.Usual.{Said}
@@ -23,16 +24,6 @@ use Rattle.line_atom.specs.declared.AtomPlace.{AtomPlace}
 use Rattle.line_atom.specs.declared.PlaceRead.{PlaceRead}
 use Rattle.line_atom.specs.declared.AtomCodes.{AtomCodes}
 use Rattle.line_atom.specs.declared.CodesRead.{CodesRead}
-
-then-then : {A B C : Type 0} (x : Got A) (f : A → Got B) (g : B → Got C) → then (then x f) g ≡ then x (λ a. then (f a) g)
-unfolding then
-then-then (got a) f g = refl
-then-then (bad e column) f g = refl
-
-need-then : {A B : Type 0} (b : Bool) (e column : ℕ) (x : Got A) (g : A → Got B) → then (need b e column x) g ≡ need b e column (then x g)
-unfolding need then
-need-then true e column x g = refl
-need-then false e column x g = refl
 
 none-then : {A B : Type 0} (e : ℕ) (found : Found) (x : Got A) (g : A → Got B) → then (noneFound e found x) g ≡ noneFound e found (then x g)
 unfolding then

@@ -103,7 +103,7 @@ pub fn counts_line(line: &[u8], limit: u32) -> CountsRead
 }
 
 // The pairs of n atoms suffice for m bonds.
-fn enough_pairs(n: u32, m: u32) -> bool
+pub fn enough_pairs(n: u32, m: u32) -> bool
     requires { ⌜ (n ≤ 999) × (m ≤ 999) ⌝ }
     ensures { λ r. ⌜ r ≡ leb (2 * m) (n * (n - 1)) ⌝ }
 {

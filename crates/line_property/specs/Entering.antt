@@ -19,7 +19,7 @@ use Rattle.field_numbers.specs.Number.{Between}
 use Rattle.rules.specs.Forms as R
 use Rattle.rules.specs.Record.{limit}
 use Rattle.judge_line.specs.Got.{Got, got, bad, then, need}
-use Rattle.judge_line.specs.GotLaws.{got-inj, bad-got, then-got}
+use Rattle.judge_line.specs.GotLaws.{got-inj, bad-got, then-got, then-then, need-then}
 use Rattle.judge_line.specs.Field.{numberAt, signedAt, spaceAt, noneFound, spacesFrom}
 use Rattle.judge_line.specs.AgreeField.{number-got, space-got, on, after}
 use Rattle.judge_line.specs.Judge.{PropertyOrEnd, property, last, entryNumberAt, entriesOf, listOf, propertyOf}
@@ -91,19 +91,9 @@ module _ (l : Line) (i j : ℕ) (x : SignedField) (z : ℤ) (e : signedFieldGot 
 
 -- ---- one entry after the other
 
-then-then : {A B C : Type 0} (x : Got A) (f : A → Got B) (g : B → Got C) → then (then x f) g ≡ then x (λ a. then (f a) g)
-unfolding then
-then-then (got a) f g = refl
-then-then (bad e column) f g = refl
-
 then-value : {A B : Type 0} (a : A) (f : A → Got B) → then (got a) f ≡ f a
 unfolding then
 then-value a f = refl
-
-need-then : {A B : Type 0} (b : Bool) (e column : ℕ) (x : Got A) (g : A → Got B) → then (need b e column x) g ≡ need b e column (then x g)
-unfolding need then
-need-then true e column x g = refl
-need-then false e column x g = refl
 
 not-not : (b : Bool) → not (not b) ≡ b
 not-not true = refl

@@ -44,7 +44,7 @@ shows-none n = record { size = length-replicate {A = ℕ} (3 * places) 0; each =
 
 -- ---- what entries keep for an atom
 
-noted-some : (z : ℤ) → Between 15 999 z → 1 ≤ noted z
+pub noted-some : (z : ℤ) → Between 15 999 z → 1 ≤ noted z
 noted-some (pos k) h = omega arith
 noted-some (negsuc k) h = omega arith
 

@@ -13,7 +13,7 @@ use Rattle.text.specs.Text.{Bytes, Line, bytes}
 use Rattle.text.specs.Columns.{columnsFor}
 use Rattle.text.specs.Find.{sameBytes, hasText, isBlank}
 use Rattle.text.specs.Agree.{columns-after}
-use Rattle.field_numbers.specs.Agree.{and-true}
+use Rattle.text.specs.Laws.{and-true}
 use Rattle.judge_line.specs.Got.{got, bad, need}
 use Rattle.judge_line.specs.Judge.{begins, contains, reserved, firstHeaderOf, blankb}
 use Rattle.judge_line.specs.AgreeText.{true-false}

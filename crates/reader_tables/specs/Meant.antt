@@ -16,6 +16,7 @@ use Rattle.rules.specs.Record.{Molecule, listed}
 use Rattle.rules.specs.Meaning.{among, numberIn, massDifferenceOf, chargeOf, radicalOf, isotopeOf, atomNumbers, atomsFrom}
 use Rattle.rules.specs.Entries.{not-among}
 use Rattle.line_property.specs.Listed.{base, noted, notedIn, Shows}
+use Rattle.line_property.specs.Shown.{noted-some}
 use Rattle.reader_tables.specs.Row.{rawRow, rawRows, flat, Holds}
 use Rattle.reader_tables.specs.Held.{drop-sets}
 use Rattle.reader_tables.specs.Mean.{anyAfter, anyListed, kindsIn, numberKept, listedNumber, Kept, fourOf, meantRow, meantFrom, meant}
@@ -31,10 +32,6 @@ kept-back (pos k) h =
 kept-back (negsuc k) h =
     let e : 16 - (15 - k) ≡ suc k = omega arith in
     rw (ne-eqb (15 - k) 0 (λ (q : 15 - k ≡ 0). omega arith), lt-leb 16 (15 - k) (omega arith), e)
-
-noted-some : (z : ℤ) → Between 15 999 z → 1 ≤ noted z
-noted-some (pos k) h = omega arith
-noted-some (negsuc k) h = omega arith
 
 noted-small : (z : ℤ) → Between 15 999 z → noted z ≤ 1015
 noted-small (pos k) h = omega arith

@@ -6,6 +6,7 @@ use mathlib.Core.List.{List, [], _∷_, _++_, append-assoc}
 use mathlib.Core.Bool.{true, false}
 use lib.ListN.{getD, length, length-append}
 use lib.IntN.{ℤ, pos}
+use Rattle.text.specs.Laws.{each-append}
 use Rattle.text.specs.Text.{Bytes, Line, Each}
 use Rattle.text.specs.Columns.{columns, Allowed, Within, SpacesFrom}
 use Rattle.text.specs.Agree.{columns-part, spaces-past}
@@ -30,11 +31,6 @@ upto (suc k) (w ∷ ws) = w + upto k ws
 abbrev pub total : List ℕ → ℕ
 total [] = 0
 total (w ∷ ws) = w + total ws
-
-pub each-append : (P : ℕ → Type 0) (a b : Bytes) → Each P a → Each P b → Each P (a ++ b)
-unfolding Each
-each-append P [] b h k = k
-each-append P (x ∷ a) b h k = (h .0, each-append P a b (h .1) k)
 
 pub joined-length : (fs : List Bytes) (ws : List ℕ) → Fields fs ws → length (joined fs) ≡ total ws
 unfolding Fields joined

@@ -8,6 +8,7 @@ use mathlib.Core.Bool.{Bool, true, false, cond}
 use lib.Dec.{eqb}
 use lib.ListN.{getD, length, length-append}
 use lib.IntN.{ℤ, pos, negsuc}
+use Rattle.text.specs.Laws.{each-append}
 use Rattle.text.specs.Text.{Bytes, Line, bytes, Each}
 use Rattle.text.specs.Columns.{column, columns, columnsFor, Allowed}
 use Rattle.field_numbers.specs.Number.{Between, OneOf}
@@ -23,7 +24,7 @@ use Rattle.rules.specs.Forms.{Kind, CHG, RAD, ISO, tag, Entry, EntryNumb
 use Rattle.rules.specs.Record.{Molecule, Item, Raw, NoPairTwice, listed, NoAtomTwice, Atoms, Bonds, Properties, Values, Items, Parts1to5, Record, SDfile}
 use Rattle.rules.specs.Write.{joined, countsFields, countsText, atomFields, atomText, bondFields, bondText, entryFields, propertyFields, propertyText, endText, headerText, closeText}
 use Rattle.rules.specs.Write.{moleculeLines, itemsLines, recordLines, fileLines}
-use Rattle.rules.specs.Fields.{Every, one-every, Fields, upto, total, each-append, joined-within, joined-past, field-at, field-after, number-in, listed-in, signed-in, signed-listed-in}
+use Rattle.rules.specs.Fields.{Every, one-every, Fields, upto, total, joined-within, joined-past, field-at, field-after, number-in, listed-in, signed-in, signed-listed-in}
 use Rattle.rules.specs.Canon.{FromTo, GoodHeaders, GoodName, GoodValues, GoodItems}
 use Rattle.rules.specs.After.{parts-after, record-after}
 

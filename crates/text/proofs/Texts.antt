@@ -11,13 +11,8 @@ use lib.Seq.{drop-cons}
 use borrow.Author.Tests.{eq-eqb, ne-eqb}
 use Rattle.text.specs.Text.{Bytes, Line, byte}
 use Rattle.text.specs.Columns.{column, columnsFor}
+use Rattle.text.specs.Laws.{getD-any}
 use Rattle.text.specs.Find.{sameBytes, hasText}
-
--- within a line it does not matter what is read past its end
-getD-any : (l : Bytes) (i d e : ℕ) → i < length l → getD l i d ≡ getD l i e
-getD-any [] i d e h = absurd (not-suc-le-zero h)
-getD-any (x ∷ l) zero d e h = refl
-getD-any (x ∷ l) (suc i) d e h = getD-any l i d e (le-of-suc-le-suc h)
 
 pub column-within : (l : Line) (i : ℕ) → i - 1 < length l → getD l (i - 1) 0 ≡ column l i
 column-within l i h = getD-any l (i - 1) 0 (byte " ") h

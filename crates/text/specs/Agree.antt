@@ -12,18 +12,15 @@ use lib.Seq.{drop-append-seam, getD-append-add, getD-drop}
 use borrow.Author.Tests.{eq-eqb, eqb-true, ltb-false, le-ltb, not-false}
 use Rattle.text.specs.Text.{Bytes, Line, byte, Each}
 use Rattle.text.specs.Columns.{column, columnsFor, columns, spaces, Space, Blank, SpacesFrom, Allowed}
+use Rattle.text.specs.Laws.{or-false}
 use Rattle.text.specs.Find.{isBad, isInk, badColumn, inkColumn, isBlank, sameBytes, hasText}
 use Rattle.text.specs.First.{each-as, first-within, first-nothing, nothing-first}
 use Rattle.text.specs.declared.Found.{Found}
 
 -- ---- tests on one byte
 
-neither : (a b : Bool) → (a || b) ≡ false → (a ≡ false) × (b ≡ false)
-neither true b h = absurd (let z : _≡_ {A = ℕ} 0 1 = cc in omega arith)
-neither false b h = (refl, h)
-
 pub good-byte : (b : ℕ) → isBad b ≡ false → Allowed b
-good-byte b h = let n = neither (ltb b 32) (ltb 126 b) h in (ltb-false b 32 (n .0), ltb-false 126 b (n .1))
+good-byte b h = let n = or-false (ltb b 32) (ltb 126 b) h in (ltb-false b 32 (n .0), ltb-false 126 b (n .1))
 
 pub byte-good : (b : ℕ) → Allowed b → isBad b ≡ false
 byte-good b a = rw (le-ltb b 32 (a .0), le-ltb 126 b (a .1))

@@ -1,5 +1,6 @@
 pub mod Text
 pub mod Columns
+pub mod Laws
 pub mod Find
 pub mod First
 pub mod Cut

@@ -1,89 +1,20 @@
 -- Signed numbers as the machine holds them: sizes, and tests against a number.
-use Prim.Native.Nat.{ℕ, zero, suc, _+_, _-_, _<_, _^_}
-use native.Mathlib.Numerals.{add-one}
-use native.Mathlib.Omega.{arith}
-use mathlib.Core.Path.{_≡_, refl, sym, ap, _∙_, subst}
-use mathlib.Core.Bool.{Bool, true, false, _&&_}
-use lib.Dec.{T, ltb}
-use lib.IntN.{ℤ, pos, negsuc, natAbs, _-ℤ_}
-use lib.Signed.{mag, nonNeg, ltZ}
-use borrow.Author.Tests.{le-ltb, ne-eqb}
+use Prim.Native.Nat.{ℕ, zero, suc, _<_, _^_}
+use mathlib.Core.Path.{_≡_, refl, sym, ap, _∙_}
+use mathlib.Core.Bool.{true, false}
+use lib.IntN.{ℤ, pos, negsuc}
+use lib.Signed.{mag}
+use borrow.Author.Tests.{ne-eqb}
 use mir.Syntax.{w32}
-use mir.Val.{Fits, SFits, toZ, ofZ}
+use mir.Val.{SFits, toZ, ofZ}
 use mir.Facts.{toZ-ofZ}
+use Rattle.field_numbers.specs.Agree.{and-false}
+use Rattle.field_numbers.specs.Signs.{less-fits, less-sign, less-cast, less-plus, less-size, same-sign, same-cast, same-size}
 use Rattle.rules.specs.Canon.{codeOfCharge, isZero, isTwo, chargeCode}
 
 -- a number that was read out of a table is itself when it is handed on
 pub hop : (z : ℤ) → mag z < 2 ^ 31 → toZ w32 (ofZ w32 z) ≡ z
 hop z h = toZ-ofZ {w = w32} {z = z} (record { sfits = h })
-
--- ---- Sizes
-
-from-minus-one : (n : ℕ) → negsuc 0 -ℤ negsuc n ≡ pos n
-from-minus-one n = let e : suc n - 1 ≡ n = omega arith in rw (le-ltb (suc n) 1 (omega arith), e)
-
-record Below (z : ℤ) : Type 0 where
-  less : ℕ
-  number : z ≡ negsuc less
-
-below-by : (z : ℤ) → ltZ z (pos 0) ≡ true → Below z
-below-by (pos n) h = absurd (let e : ltb n 0 ≡ false = le-ltb n 0 (omega arith) in let z : _≡_ {A = ℕ} 0 1 = cc in omega arith)
-below-by (negsuc n) h = record { less = n; number = refl }
-
-module _ (z : ℤ) (f : SFits w32 z) (t : ltZ (toZ w32 (ofZ w32 z)) (pos 0) ≡ true) where
-  below : Below z
-  below = below-by z (rw (toZ-ofZ f) at t)
-
-  less-is : negsuc 0 -ℤ toZ w32 (ofZ w32 z) ≡ pos (below .less)
-  less-is = ap (λ (y : ℤ). negsuc 0 -ℤ y) (toZ-ofZ f ∙ below .number) ∙ from-minus-one (below .less)
-
-  less-small : below .less < 2 ^ 31
-  less-small = subst (λ (y : ℤ). mag y < 2 ^ 31) (below .number) (f .sfits)
-
-  pub less-fits : SFits w32 (negsuc 0 -ℤ toZ w32 (ofZ w32 z))
-  less-fits = record { sfits = rw less-is less-small }
-
-  back : toZ w32 (ofZ w32 (negsuc 0 -ℤ toZ w32 (ofZ w32 z))) ≡ pos (below .less)
-  back = toZ-ofZ less-fits ∙ less-is
-
-  pub less-sign : T (nonNeg (toZ w32 (ofZ w32 (negsuc 0 -ℤ toZ w32 (ofZ w32 z)))))
-  less-sign = rw back tt
-
-  pub less-cast : Fits w32 (natAbs (toZ w32 (ofZ w32 (negsuc 0 -ℤ toZ w32 (ofZ w32 z)))))
-  less-cast = rw back (record { fits = omega (arith, less-small) })
-
-  pub less-plus : Fits w32 (natAbs (toZ w32 (ofZ w32 (negsuc 0 -ℤ toZ w32 (ofZ w32 z)))) + 1)
-  less-plus = rw back (record { fits = omega (arith, less-small) })
-
-  pub less-size : natAbs (toZ w32 (ofZ w32 (negsuc 0 -ℤ toZ w32 (ofZ w32 z)))) + 1 ≡ natAbs z
-  less-size = ap (λ (y : ℤ). natAbs y + 1) back ∙ add-one (below .less) ∙ ap natAbs (sym (below .number))
-
-record Above (z : ℤ) : Type 0 where
-  size : ℕ
-  number : z ≡ pos size
-
-above-by : (z : ℤ) → ltZ z (pos 0) ≡ false → Above z
-above-by (pos n) h = record { size = n; number = refl }
-above-by (negsuc n) h = absurd (let z : _≡_ {A = ℕ} 0 1 = cc in omega arith)
-
-module _ (z : ℤ) (f : SFits w32 z) (t : ltZ (toZ w32 (ofZ w32 z)) (pos 0) ≡ false) where
-  above : Above z
-  above = above-by z (rw (toZ-ofZ f) at t)
-
-  same : toZ w32 (ofZ w32 z) ≡ pos (above .size)
-  same = toZ-ofZ f ∙ above .number
-
-  size-small : above .size < 2 ^ 31
-  size-small = subst (λ (y : ℤ). mag y < 2 ^ 31) (above .number) (f .sfits)
-
-  pub same-sign : T (nonNeg (toZ w32 (ofZ w32 z)))
-  same-sign = rw same tt
-
-  pub same-cast : Fits w32 (natAbs (toZ w32 (ofZ w32 z)))
-  same-cast = rw same (record { fits = omega (arith, size-small) })
-
-  pub same-size : natAbs (toZ w32 (ofZ w32 z)) ≡ natAbs z
-  same-size = ap natAbs (toZ-ofZ f)
 
 pub ruleset size-laws = (less-fits, less-sign, less-cast, less-plus, less-size, same-sign, same-cast, same-size)
 
@@ -124,10 +55,6 @@ code-none (negsuc zero) a b c d e f = absurd (d refl)
 code-none (negsuc (suc zero)) a b c d e f = absurd (e refl)
 code-none (negsuc (suc (suc zero))) a b c d e f = absurd (f refl)
 code-none (negsuc (suc (suc (suc k)))) a b c d e f = refl
-
-and-false : (b : Bool) → (b && false) ≡ false
-and-false true = refl
-and-false false = refl
 
 module _ (charge radical : ℤ) (f : SFits w32 charge) (g : SFits w32 radical) where
   pub code-plain : (r : ℕ) → ofZ w32 radical ≡ 0 → r ≡ codeOfCharge (toZ w32 (ofZ w32 charge)) → r ≡ chargeCode charge radical

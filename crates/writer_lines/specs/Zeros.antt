@@ -15,7 +15,8 @@ use mir.Syntax.{w32}
 use mir.Val.{ofZ}
 use Rattle.text.specs.Text.{bytes, LF}
 use Rattle.field_numbers.specs.Write.{textBy}
-use Rattle.field_numbers.specs.Agree.{and-true, and-false}
+use Rattle.text.specs.Laws.{and-true}
+use Rattle.field_numbers.specs.Agree.{and-false}
 use Rattle.rules.specs.Canon.{isZero, chargeCode}
 use Rattle.writer_lines.specs.Lines.{columnsFrom, areZeros, isPlain, valuesText, stereoText}
 use Rattle.writer_lines.specs.Signs.{zero-is, zero-not}

@@ -142,17 +142,6 @@ fn masses_hold(atoms: &[i32], n: u32) -> bool
     all_zero(atoms, n, 4)
 }
 
-// The pairs of n atoms suffice for m bonds.
-fn enough_pairs(n: u32, m: u32) -> bool
-    requires { ⌜ (n ≤ limit) × (m ≤ limit) ⌝ }
-    ensures { λ r. ⌜ r ≡ leb (2 * m) (n * (n - 1)) ⌝ }
-{
-    if n == 0 {
-        return m == 0;
-    }
-    2 * m <= n * (n - 1)
-}
-
 fn counts_hold(n: u32, m: u32, chiral: u32) -> bool
     ensures { λ r. ⌜ r ≡ countsHold n m chiral ⌝ }
 {
@@ -162,7 +151,7 @@ fn counts_hold(n: u32, m: u32, chiral: u32) -> bool
     if line_counts_bonds::LIMIT < m {
         return false;
     }
-    if !enough_pairs(n, m) {
+    if !line_counts_bonds::enough_pairs(n, m) {
         return false;
     }
     chiral <= 1

@@ -5,20 +5,20 @@ use Rattle.field_symbols.proofs.Codes.{symbol-found}
 use Rattle.field_symbols.proofs.symbol.Statement.{statement}
 use Rattle.field_symbols.proofs.symbol.Tie as tie
 
-column-at-requires : tie.Need-column-at-requires
-column-at-requires c κs = search needs
+column-requires : tie.Need-column-requires
+column-requires c κs = search needs
 
-add-column-at : tie.Need-add-column-at
-add-column-at c = search needs
+add-column : tie.Need-add-column
+add-column c = search needs
 
-column-at-requires-2 : tie.Need-column-at-requires-2
-column-at-requires-2 c κs = search needs
+column-requires-2 : tie.Need-column-requires-2
+column-requires-2 c κs = search needs
 
-add-column-at-2 : tie.Need-add-column-at-2
-add-column-at-2 c = search needs
+add-column-2 : tie.Need-add-column-2
+add-column-2 c = search needs
 
-column-at-requires-3 : tie.Need-column-at-requires-3
-column-at-requires-3 c κs = search needs
+column-requires-3 : tie.Need-column-requires-3
+column-requires-3 c κs = search needs
 
 cast-symbol-of : tie.Need-cast-symbol-of
 cast-symbol-of c = search needs
@@ -47,20 +47,20 @@ symbol-of-requires c κs = search needs
 returns : tie.Need-returns
 returns c =
     let a = c .before .before .before .before .before .args in
-    let x = c .before .before .before .column-at in
-    let y = c .before .before .column-at2 in
-    let z = c .before .column-at3 in
+    let x = c .before .before .before .column in
+    let y = c .before .before .column2 in
+    let z = c .before .column3 in
     c .symbol-of .ensures ∙ sym (symbol-found (a .line .now) (a .i) (x .result) (y .result) (z .result) (x .ensures) (y .ensures) (z .ensures) (search needs) (search needs) (search needs))
 
 pub symbol-spec : {M : Type 1} → statement M
 symbol-spec =
     tie.close
     (tie.spec
-    column-at-requires
-    add-column-at
-    column-at-requires-2
-    add-column-at-2
-    column-at-requires-3
+    column-requires
+    add-column
+    column-requires-2
+    add-column-2
+    column-requires-3
     cast-symbol-of
     mul-symbol-of
     cast-symbol-of-2
