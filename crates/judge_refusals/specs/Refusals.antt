@@ -70,7 +70,7 @@ noReservedTag l = Unreserved l else 5 at-column 1 ∷ []
 
 -- ---- 2. The counts line
 
--- 12: no more bonds than pairs of atoms; 6: the version
+-- atoms, bonds, atom lists, chiral, stext; 12: no more bonds than pairs of atoms; 6: the version
 abbrev pub countsDemands : ℕ → Line → List Demand
 countsDemands limit l =
     number l 1 3 0 limit and-then
@@ -84,6 +84,7 @@ countsDemands limit l =
 
 -- ---- 3. Atom lines, in a record of n atoms
 
+-- three coordinates, a space, the symbol, mass difference, charge code, parity, hydrogen count, stereo care, valence, H0; atom map, inversion, exact change
 abbrev pub atomDemands : ℕ → Line → List Demand
 atomDemands n l =
     coordinate l 1 10 and-then
@@ -105,7 +106,7 @@ atomDemands n l =
 
 -- ---- 4. Bond lines, in a record of n atoms and after these bonds
 
--- 8 for the stereo mark goes by the type of the bond; 10: the ends differ
+-- two ends, type, stereo mark, topology, reacting centre; the marks that are good go by the type; 10: the ends differ
 abbrev pub bondDemands : ℕ → Line → List Demand
 bondDemands n l =
     number l 1 3 1 n and-then

@@ -211,6 +211,10 @@ module _ (g : Given) where
         go true e = absurd (n (roomy-agrees g .0 e))
         go false e = refl
 
+    no-room : (x : Reading) → Accepted g x → k < length (canonText x) → writeOf g k ≡ Written.Refused 20 0 0
+    unfolding writeOf textFor
+    no-room x a s = rw (record-agrees x .1 a, lt-leb (length (canonText x)) k s)
+
     pub refusal-answer : {e line column : ℕ} → Refusal g k e line column → writeOf g k ≡ Written.Refused e line column
     unfolding recordFor
     refusal-answer (Refusal.tables n) = refused-so (rw (not-roomy n))
@@ -224,10 +228,6 @@ module _ (g : Given) where
     refusal-answer (Refusal.items {e = e} {line = line} {column = column} {h = h} r t f p) =
         refused-so (rw (roomy-agrees g .1 r, tables-hold r t, good-headers (g .headers) h .1 f, refused-items (g .items) e line column .1 p))
     refusal-answer (Refusal.room {x = x} a s) = no-room x a s
-      where
-        no-room : (x : Reading) → Accepted g x → k < length (canonText x) → writeOf g k ≡ Written.Refused 20 0 0
-        unfolding writeOf textFor
-        no-room x a s = rw (record-agrees x .1 a, lt-leb (length (canonText x)) k s)
 
     -- there is one refusal at most
     pub refusal-one : {e i c e′ i′ c′ : ℕ} → Refusal g k e i c → Refusal g k e′ i′ c′ → (e ≡ e′) × (i ≡ i′) × (c ≡ c′)
