@@ -3,15 +3,15 @@
 use Prim.Native.Nat.{ℕ, suc, _+_}
 use native.Mathlib.Omega.{arith}
 use mathlib.Core.Path.{_≡_, refl, sym, ap, _∙_, subst}
-use mathlib.Core.Logic.{_⊎_, inl, inr, _↔_}
+use mathlib.Core.Logic.{inl, inr, _↔_}
 use mathlib.Core.List.{List, [], _∷_, _++_}
 use lib.ListN.{length}
 use Rattle.text.specs.Text.{Bytes, Line}
 use Rattle.text.specs.Columns.{Within}
-use Rattle.rules.specs.Forms.{FirstHeaderLine, HeaderLine, DataHeader, RecordEnd, ValueLine, BlankLine}
+use Rattle.rules.specs.Forms.{FirstHeaderLine, HeaderLine, DataHeader, ValueLine, BlankLine}
 use Rattle.rules.specs.Record.{Item}
 use Rattle.judge_refusals.specs.Demand.{Demand, _else_at-column_, _and-then_, All, Refused, Some}
-use Rattle.judge_refusals.specs.Refusals.{fitting, noReservedTag, noLine, valueOrBlank}
+use Rattle.judge_refusals.specs.Refusals.{fitting, noReservedTag, noLine, headerOrEnd, valueOrBlank}
 use Rattle.judge_line.specs.Got.{Got, got, bad, then}
 use Rattle.judge_line.specs.GotLaws.{got-inj, bad-got, then-got, then-is}
 use Rattle.judge_line.specs.Judge.{firstHeaderOf, itemOf, ItemOrEnd, title, close, valueOf, ValueOrBlank, value, blank}
@@ -151,8 +151,11 @@ pub data ItemTakes : ItemPlace → Line → ItemPlace → Type 0 where
       BlankLine l → ItemTakes (values is name vs) l (items (is ++ (record { name = name; values = vs } ∷ [])))
 
 -- 16: a data header and nothing else, so no `$$$$` line
+abbrev pub headerAlone : Line → List Demand
+headerAlone l = Some (DataHeader l) else 16 at-column 1 ∷ []
+
 abbrev pub itemDemands : ItemPlace → Line → List Demand
-itemDemands (items is) l = fitting 80 l and-then Some (DataHeader l) else 16 at-column 1 ∷ []
+itemDemands (items is) l = fitting 80 l and-then headerAlone l
 itemDemands (values is name vs) l = fitting 200 l and-then valueOrBlank l
 
 abbrev pub ItemBecause : List Line → ℕ → ℕ → ℕ → Type 0
@@ -199,8 +202,7 @@ items-tell (items is) l = within-tells l 80 λ w. go w (itemOf l) refl (item-tel
     closes : Within 80 l → itemOf l ≡ got close → ¬ Some (DataHeader l)
     closes w h d = let z : close ≡ title (d .0) = got-inj (sym h ∙ title-agrees l (d .0) w .1 (d .1)) in let y : _≡_ {A = ℕ} 0 1 = cc in omega arith
 
-    go : Within 80 l → (x : Got ItemOrEnd) → itemOf l ≡ x → Tells ((Some (DataHeader l) ⊎ RecordEnd l) else 16 at-column 1 ∷ []) x →
-        Tells (Some (DataHeader l) else 16 at-column 1 ∷ []) (then x (λ i. afterItem is i))
+    go : Within 80 l → (x : Got ItemOrEnd) → itemOf l ≡ x → Tells (headerOrEnd l) x → Tells (headerAlone l) (then x (λ i. afterItem is i))
     go w (got (title name)) e t = T.value ((name, title-agrees l name w .0 e), tt)
     go w (got close) e t = T.refusal (inl (closes w e, refl, refl))
     go w (bad n c) e (T.refusal (inl r)) = T.refusal (inl (neither w e, r .1, r .2))

@@ -150,10 +150,14 @@ listing n kind New l =
     entries n kind l New 10 k and-then
     spaces-from l (10 + 8 * k)
 
--- 13: columns 1 to 6 are one of the four tags; what follows goes by the tag
+-- 13: columns 1 to 6 are one of the four tags
+abbrev pub oneOfFour : Line → List Demand
+oneOfFour l = ((Some λ kind. Has l 1 6 (tag kind)) ⊎ Has l 1 6 "M  END") else 13 at-column 1 ∷ []
+
+-- what follows the tag goes by the tag
 abbrev pub propertyDemands : ℕ → List Property → Line → List Demand
 propertyDemands n ps l =
-    ((Some λ kind. Has l 1 6 (tag kind)) ⊎ Has l 1 6 "M  END") else 13 at-column 1 ∷
+    oneOfFour l and-then
     whichever (CHG ∷ RAD ∷ ISO ∷ []) (λ kind. Has l 1 6 (tag kind)) (λ kind. listing n kind (λ atom. NotListed atom (listed kind ps)) l) and-then
     given (Has l 1 6 "M  END") (spaces-from l 7)
 
