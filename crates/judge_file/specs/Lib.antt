@@ -19,7 +19,6 @@ pub mod One
 pub mod Front
 pub mod OneRun
 pub mod OneAgree
-pub mod NoRecord
 pub mod Walk
 pub mod WalkText
 pub mod Samples

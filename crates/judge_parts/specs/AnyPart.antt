@@ -8,7 +8,7 @@ use mathlib.Core.List.{List, [], _∷_, _++_, append-assoc, append-nil}
 use lib.ListN.{length}
 use Rattle.text.specs.Text.{Bytes, Line, Lines}
 use Rattle.text.specs.Cut.{cut, cut-is, lines-cut, lines-same}
-use Rattle.rules.specs.Viable.{Viable, Dead, FirstDead}
+use Rattle.rules.specs.Viable.{Viable, Dead, FirstDead, first-dead}
 use Rattle.judge_line.specs.Got.{Got, got, bad}
 use Rattle.judge_file.specs.Marked.{Marked, marked-bad}
 use Rattle.judge_parts.specs.Part.{PartVerdict, good, refused, Run, run, conclude, verdictFrom}
@@ -111,12 +111,11 @@ module _ {P A : Type 0} (turn : P → Line → Got P) (end : P → ℕ → PartV
         ∙ run-append turn start 1 ls q h (l ∷ more)
         ∙ run-stop turn q (1 + length ls) l more e c refuses)
 
-    stopped-refusal : (Why : List Line → ℕ → ℕ → ℕ → Type 0) → ((ls : List Line) (e i c : ℕ) → run turn start 1 ls ≡ Run.stopped e i c → Why ls e i c) → (e i c : ℕ) → run turn start 1 (cut s .lines) ≡ Run.stopped e i c → PartRefusal L Why s e i c
-    stopped-refusal Why why e i c h =
-        let t = stop turn start 1 (cut s .lines) e i c h in
-        let m = marked-bad (subst Marked (t .refused) (fit .marked (t .q) (t .l))) in
-        PartRefusal.line (cut-is s) (m .0) (m .1)
-        (record {
+    -- the line at which the judge stops is the first that no further lines finish
+    stopped-first : (ls : List Line) (e i c : ℕ) → run turn start 1 ls ≡ Run.stopped e i c → FirstDead L ls i
+    stopped-first ls e i c h =
+        let t = stop turn start 1 ls e i c h in
+        record {
           before = t .before;
           l = t .l;
           after = t .after;
@@ -124,8 +123,7 @@ module _ {P A : Type 0} (turn : P → Line → Got P) (end : P → ℕ → PartV
           line = t .line ∙ omega arith;
           open-before = viable (t .before) (t .q) (t .reached);
           shut-here = dead (t .before) (t .q) (t .l) e c (t .reached) (t .refused);
-        })
-        (why (cut s .lines) e i c h)
+        }
 
     -- a good text ends where a part may end
     good-ends : (q : P) → run turn start 1 (cut s .lines) ≡ Run.at q → Good L s → (a : A) × (cut s .rest ≡ []) × ((j : ℕ) → end q j ≡ good a)
@@ -135,27 +133,64 @@ module _ {P A : Type 0} (turn : P → Line → Got P) (end : P → ℕ → PartV
         let e : c .q ≡ q = at-place (sym (c .is) ∙ ap (run turn start 1) (same .0) ∙ h) in
         (g .2 .0, sym (same .1), λ j. sym (ap (λ (x : P). end x j) e) ∙ c .ended j)
 
-    pub refusal : (Why : List Line → ℕ → ℕ → ℕ → Type 0) → ((ls : List Line) (e i c : ℕ) → run turn start 1 ls ≡ Run.stopped e i c → Why ls e i c) → (e i c : ℕ) → verdictFrom turn end start s ≡ refused e i c → PartRefusal L Why s e i c
-    unfolding verdictFrom
-    refusal Why why e i c h = go (run turn start 1 (cut s .lines)) refl (cut s .rest) refl h
-      where
-        cut-short : (q : P) → run turn start 1 (cut s .lines) ≡ Run.at q → ¬ Good L s → _≡_ {A = PartVerdict A} (refused 19 (suc (length (cut s .lines))) 1) (refused e i c) → PartRefusal L Why s e i c
-        cut-short q r w k =
-            let z = refused-inj {A = A} k in
-            subst (λ (x : ℕ). PartRefusal L Why s x i c) (z .0)
-            (subst (λ (x : ℕ). PartRefusal L Why s 19 x c) (z .1)
-            (subst (λ (x : ℕ). PartRefusal L Why s 19 (suc (length (cut s .lines))) x) (z .2) (PartRefusal.cut-short (cut-is s) (viable (cut s .lines) q r) w)))
+    -- where a part may end, the lines are one
+    ends-good : (ls : List Line) (q : P) (a : A) → Lines s ls [] → run turn start 1 ls ≡ Run.at q → ((j : ℕ) → end q j ≡ good a) → Good L s
+    ends-good ls q a h r w =
+        (ls, h, (a, is ls a .0 (subst (λ (t : List Line). From start t a) (append-nil ls) (rewind start 1 ls q r [] a (fit .from-end q a 0 (w 0))))))
 
-        at-end : (q : P) → Ends end q → run turn start 1 (cut s .lines) ≡ Run.at q → end q (suc (length (cut s .lines))) ≡ refused e i c → PartRefusal L Why s e i c
-        at-end q (Ends.whole a w) r k = good-refused (sym (w (suc (length (cut s .lines)))) ∙ k)
-        at-end q (Ends.short w) r k =
-            cut-short q r (λ g. let x = good-ends q r g in good-refused (sym (x .2 0) ∙ w 0)) (sym (w (suc (length (cut s .lines)))) ∙ k)
+    -- `why` says that the judge stops exactly where there is a reason
+    module _ (Why : List Line → ℕ → ℕ → ℕ → Type 0) (why : (ls : List Line) (e i c : ℕ) → (run turn start 1 ls ≡ Run.stopped e i c) ↔ Why ls e i c) where
+      stopped-refusal : (e i c : ℕ) → run turn start 1 (cut s .lines) ≡ Run.stopped e i c → PartRefusal L Why s e i c
+      stopped-refusal e i c h =
+          let t = stop turn start 1 (cut s .lines) e i c h in
+          let m = marked-bad (subst Marked (t .refused) (fit .marked (t .q) (t .l))) in
+          PartRefusal.line (cut-is s) (m .0) (m .1) (stopped-first (cut s .lines) e i c h) (why (cut s .lines) e i c .0 h)
 
-        go : (r : Run P) → run turn start 1 (cut s .lines) ≡ r → (rest : Bytes) → cut s .rest ≡ rest →
-            conclude end r rest (suc (length (cut s .lines))) ≡ refused e i c → PartRefusal L Why s e i c
-        go (Run.at q) r [] m k = at-end q (fit .ends q) r k
-        go (Run.at q) r (b ∷ rest) m k =
-            cut-short q r (λ g. let x = good-ends q r g in let z : b ∷ rest ≡ [] = sym m ∙ x .1 in omega (arith, ap length z)) k
-        go (Run.stopped f j d) r rest m k =
-            let z = refused-inj {A = A} k in
-            stopped-refusal Why why e i c (r ∙ ap₂ (λ (x y : ℕ). Run.stopped x y d) (z .0) (z .1) ∙ ap (Run.stopped e i) (z .2))
+      to : (e i c : ℕ) → verdictFrom turn end start s ≡ refused e i c → PartRefusal L Why s e i c
+      unfolding verdictFrom
+      to e i c h = go (run turn start 1 (cut s .lines)) refl (cut s .rest) refl h
+        where
+          cut-short : (q : P) → run turn start 1 (cut s .lines) ≡ Run.at q → ¬ Good L s →
+              _≡_ {A = PartVerdict A} (refused 19 (suc (length (cut s .lines))) 1) (refused e i c) → PartRefusal L Why s e i c
+          cut-short q r w k =
+              let z = refused-inj {A = A} k in
+              subst (λ (x : ℕ). PartRefusal L Why s x i c) (z .0)
+              (subst (λ (x : ℕ). PartRefusal L Why s 19 x c) (z .1)
+              (subst (λ (x : ℕ). PartRefusal L Why s 19 (suc (length (cut s .lines))) x) (z .2) (PartRefusal.cut-short (cut-is s) (viable (cut s .lines) q r) w)))
+
+          at-end : (q : P) → Ends end q → run turn start 1 (cut s .lines) ≡ Run.at q → end q (suc (length (cut s .lines))) ≡ refused e i c → PartRefusal L Why s e i c
+          at-end q (Ends.whole a w) r k = good-refused (sym (w (suc (length (cut s .lines)))) ∙ k)
+          at-end q (Ends.short w) r k =
+              cut-short q r (λ g. let x = good-ends q r g in good-refused (sym (x .2 0) ∙ w 0)) (sym (w (suc (length (cut s .lines)))) ∙ k)
+
+          go : (r : Run P) → run turn start 1 (cut s .lines) ≡ r → (rest : Bytes) → cut s .rest ≡ rest →
+              conclude end r rest (suc (length (cut s .lines))) ≡ refused e i c → PartRefusal L Why s e i c
+          go (Run.at q) r [] m k = at-end q (fit .ends q) r k
+          go (Run.at q) r (b ∷ rest) m k =
+              cut-short q r (λ g. let x = good-ends q r g in let z : b ∷ rest ≡ [] = sym m ∙ x .1 in omega (arith, ap length z)) k
+          go (Run.stopped f j d) r rest m k =
+              let z = refused-inj {A = A} k in
+              stopped-refusal e i c (r ∙ ap₂ (λ (x y : ℕ). Run.stopped x y d) (z .0) (z .1) ∙ ap (Run.stopped e i) (z .2))
+
+      -- lines that can be finished, and are no part, or are not all of the text
+      short-end : (ls : List Line) (rest : Bytes) → Lines s ls rest → Viable L ls → ¬ Good L s → (r : Run P) → run turn start 1 ls ≡ r →
+          conclude end r rest (suc (length ls)) ≡ refused 19 (suc (length ls)) 1
+      short-end ls rest h v w (Run.stopped f j d) e = absurd (first-dead L ls j (stopped-first ls f j d e) (v .0) (v .1))
+      short-end ls (b ∷ rest) h v w (Run.at q) e = refl
+      short-end ls [] h v w (Run.at q) e = go (fit .ends q)
+        where
+          go : Ends end q → end q (suc (length ls)) ≡ refused 19 (suc (length ls)) 1
+          go (Ends.whole a k) = absurd (w (ends-good ls q a h e k))
+          go (Ends.short k) = k (suc (length ls))
+
+      back : {e i c : ℕ} → PartRefusal L Why s e i c → verdictFrom turn end start s ≡ refused e i c
+      unfolding verdictFrom
+      back (PartRefusal.line {ls = ls} {e = e} {i = i} {column = c} h m k d w) = rw (lines-cut h, why ls e i c .1 w)
+      back (PartRefusal.cut-short {ls = ls} {rest = rest} h v w) = rw (lines-cut h) (short-end ls rest h v w (run turn start 1 ls) refl)
+
+      pub refusal : (e i c : ℕ) → (verdictFrom turn end start s ≡ refused e i c) ↔ PartRefusal L Why s e i c
+      refusal e i c = (to e i c, back)
+
+      -- there is one refusal at most
+      pub refusal-one : {e i c e′ i′ c′ : ℕ} → PartRefusal L Why s e i c → PartRefusal L Why s e′ i′ c′ → (e ≡ e′) × (i ≡ i′) × (c ≡ c′)
+      refusal-one p q = refused-inj {A = A} (sym (back p) ∙ back q)

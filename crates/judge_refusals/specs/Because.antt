@@ -10,8 +10,8 @@ use Rattle.rules.specs.Record.{Raw}
 use Rattle.judge_line.specs.Got.{Got, got, bad}
 use Rattle.judge_file.specs.Place.{FileKind, sdfile, Place, first, Turn, next, done, turnOf}
 use Rattle.judge_file.specs.Takes.{Takes, takes-turn, turn-takes}
-use Rattle.judge_file.specs.Verdict.{at, run}
-use Rattle.judge_file.specs.Runs.{Stop, at-stopped, at-place, at-records, run-next, run-done, run-stop}
+use Rattle.judge_file.specs.Verdict.{at, stopped, run}
+use Rattle.judge_file.specs.Runs.{Stop, stop, run-append, at-stopped, at-place, at-records, run-next, run-done, run-stop}
 use Rattle.judge_file.specs.One.{One, oneFrom, oneRecord}
 use Rattle.judge_file.specs.OneRun.{Same, same, grows}
 use Rattle.judge_refusals.specs.Demand.{Refused}
@@ -80,6 +80,23 @@ module _ (kind : FileKind) (limit : ℕ) where
       refused = refused-because kind limit (b .place) (b .l) e c .1 (b .refused);
     },
   )
+
+  -- so the judge stops there, and nowhere else: there is one refusal at most
+  pub because-run : (ls : List Line) (e i c : ℕ) → (run kind limit first [] 1 ls ≡ stopped e i c) ↔ Because ls e i c
+  because-run ls e i c = (λ h. stop-because ls e i c .0 (stop kind limit first [] 1 ls e i c h), back)
+    where
+      back : Because ls e i c → run kind limit first [] 1 ls ≡ stopped e i c
+      back b =
+          let s = stop-because ls e i c .1 b in
+          ap (run kind limit first [] 1) (s .whole)
+          ∙ run-append kind limit first [] 1 (s .before) (s .q) (s .ys) (s .reached) (s .l ∷ s .after)
+          ∙ run-stop kind limit (s .q) (s .ys) (1 + length (s .before)) (s .l) (s .after) e c (s .refused)
+          ∙ ap (λ (k : ℕ). stopped e k c) (sym (s .line))
+
+  pub because-one : (ls : List Line) (e i c e′ i′ c′ : ℕ) → Because ls e i c → Because ls e′ i′ c′ → (e ≡ e′) × (i ≡ i′) × (c ≡ c′)
+  because-one ls e i c e′ i′ c′ a b =
+      let h : stopped e i c ≡ stopped e′ i′ c′ = sym (because-run ls e i c .1 a) ∙ because-run ls e′ i′ c′ .1 b in
+      (cc, cc, cc)
 
 -- ---- The first record of an SDfile
 

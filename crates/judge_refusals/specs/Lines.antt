@@ -21,7 +21,7 @@ use Rattle.judge_line.specs.Agree.{header-agrees}
 use Rattle.judge_line.specs.GotLaws.{need-got, need-is}
 use Rattle.field_coordinates.specs.Agree.{ten-columns}
 use Rattle.judge_refusals.specs.Demand.{Some}
-use Rattle.judge_refusals.specs.Refusals.{Unreserved, noReserved, countsFields, atomFields, bondFields}
+use Rattle.judge_refusals.specs.Refusals.{Unreserved, noReservedTag, countsDemands, atomDemands, bondDemands}
 use Rattle.judge_refusals.specs.Tells.{Tells, value, then-tells, need-tells}
 use Rattle.judge_refusals.specs.Fields.{number-tells, signed-tells, listed-tells, signed-listed-tells, coordinate-tells, symbol-tells, space-tells, has-tells, spaces-tells, spaces-last}
 
@@ -40,13 +40,13 @@ module _ (l : Line) (w : Within 80 l) where
       let e = header-agrees l l w .1 (record { line = w; no-end = f .0; no-molfile = f .1; no-rxnfile = f .2; no-rdfile = f .3 }, refl) in
       true-false (not (reserved l)) (need-got (not (reserved l)) 5 1 (got l) l e .0) t
 
-  pub header-tells : Tells (noReserved l) (firstHeaderOf l)
+  pub header-tells : Tells (noReservedTag l) (firstHeaderOf l)
   unfolding firstHeaderOf
   header-tells = need-tells (not (reserved l)) free not-free λ t. value tt
 
 -- ---- 2. The counts line
 
-pub counts-tells : (limit : ℕ) (l : Line) → Within 80 l → Tells (countsFields limit l) (countsOf limit l)
+pub counts-tells : (limit : ℕ) (l : Line) → Within 80 l → Tells (countsDemands limit l) (countsOf limit l)
 unfolding countsOf
 counts-tells limit l w =
     then-tells (number-tells l 1 3 0 limit) λ n h₁.
@@ -66,7 +66,7 @@ counts-tells limit l w =
 
 -- ---- 3. Atom lines
 
-pub atom-tells : (n : ℕ) (l : Line) → Within 80 l → Tells (atomFields n l) (atomOf n l)
+pub atom-tells : (n : ℕ) (l : Line) → Within 80 l → Tells (atomDemands n l) (atomOf n l)
 unfolding atomOf
 atom-tells n l w =
     then-tells (coordinate-tells l 1 10 (ten-columns l 1)) λ x h₁.
@@ -105,7 +105,7 @@ module _ (n : ℕ) (l : Line) where
   abbrev Differ : Type 0
   Differ = Some λ first. Some λ second. Number l 1 3 1 n first × Number l 4 6 1 n second × (first ≢ second)
 
-  pub bond-tells : Within 80 l → Tells (bondFields n l) (bondOf n l)
+  pub bond-tells : Within 80 l → Tells (bondDemands n l) (bondOf n l)
   unfolding bondOf
   bond-tells w =
       then-tells (number-tells l 1 3 1 n) λ first h₁.

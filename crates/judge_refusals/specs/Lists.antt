@@ -22,7 +22,7 @@ use Rattle.judge_line.specs.AgreeField.{number-got, has-got, has-is}
 use Rattle.judge_line.specs.AgreeText.{true-false, begins-got, begins-is, blank-got}
 use Rattle.judge_line.specs.AgreeItem.{header-got, header-is, close-got, close-is}
 use Rattle.judge_refusals.specs.Demand.{Demand, _else_at-column_, _and-then_, Some, given, whichever}
-use Rattle.judge_refusals.specs.Refusals.{spaces-from, entryNumber, entries, listing, propertyFields, headerOrEnd, valueOrBlank}
+use Rattle.judge_refusals.specs.Refusals.{spaces-from, entryNumber, entries, listing, propertyDemands, headerOrEnd, valueOrBlank, oneOfFour}
 use Rattle.judge_refusals.specs.Tells as T
 use Rattle.judge_refusals.specs.Tells.{Tells, past, until, then-tells, then-last, need-tells, cond-tells, given-tells, all-given, whichever-all, whichever-tells}
 use Rattle.judge_refusals.specs.Fields.{number-tells, signed-tells, space-tells, spaces-last}
@@ -115,7 +115,7 @@ one-of-three RAD = OneOf.later OneOf.this
 one-of-three ISO = OneOf.later (OneOf.later OneOf.this)
 
 -- the atoms listed, as the judge keeps them
-seen-agrees : (es : List Entry) → Agrees (map (λ e. e .atom) es) (λ a. NotListed a es)
+pub seen-agrees : (es : List Entry) → Agrees (map (λ e. e .atom) es) (λ a. NotListed a es)
 unfolding elem NotListed
 seen-agrees [] a = (λ h. tt, λ h. refl)
 seen-agrees (e ∷ es) a = (to (eqb a (e .atom)) refl (seen-agrees es a .0), λ h. rw (ne-eqb a (e .atom) (h .0)) (seen-agrees es a .1 (h .1)))
@@ -138,14 +138,11 @@ module _ (n : ℕ) (ps : List Property) (l : Line) (w : Within 80 l) where
   abbrev atEnd : List Demand
   atEnd = given (Has l 1 6 "M  END") (spaces-from l 7)
 
-  abbrev oneOfFour : List Demand
-  oneOfFour = ((Some λ kind. Has l 1 6 (tag kind)) ⊎ Has l 1 6 "M  END") else 13 at-column 1 ∷ []
-
   tagged-tells : (kind : Kind) → has l 1 6 (tag kind) ≡ true →
-      Tells (propertyFields n ps l) (listOf n kind (map (λ e. e .atom) (listed kind ps)) l)
+      Tells (propertyDemands n ps l) (listOf n kind (map (λ e. e .atom) (listed kind ps)) l)
   tagged-tells kind t =
       let h = has-got l 1 6 (tag kind) t in
-      past oneOfFour (inl (kind, h), tt)
+      past (oneOfFour l) (inl (kind, h), tt)
       (until atEnd
       (whichever-tells Tagged (λ k. listing n k (New k) l) kind h (only h) (CHG ∷ RAD ∷ ISO ∷ []) (one-of-three kind)
       (list-tells n l kind _ (New kind) (seen-agrees (listed kind ps)) (w .short)))
@@ -158,10 +155,10 @@ module _ (n : ℕ) (ps : List Property) (l : Line) (w : Within 80 l) where
           go true e = inl (same-tag l k kind (has-got l 1 6 (tag k) e) h)
           go false e = inr (λ g. true-false (has l 1 6 (tag k)) (has-is l 1 6 (tag k) g) e)
 
-  end-tells : has l 1 6 "M  END" ≡ true → Tells (propertyFields n ps l) (spacesFrom l 7 (got last))
+  end-tells : has l 1 6 "M  END" ≡ true → Tells (propertyDemands n ps l) (spacesFrom l 7 (got last))
   end-tells t =
       let h = has-got l 1 6 "M  END" t in
-      past oneOfFour (inr h, tt)
+      past (oneOfFour l) (inr h, tt)
       (past byKind (whichever-all Tagged (λ k. listing n k (New k) l) (CHG ∷ RAD ∷ ISO ∷ []) (λ k g. absurd (end-tag l k g h)))
       (given-tells h (spaces-last l last 7 (omega arith) (w .short))))
 
@@ -170,7 +167,7 @@ module _ (n : ℕ) (ps : List Property) (l : Line) (w : Within 80 l) where
   not-tagged RAD a b c h = true-false (has l 1 6 (tag RAD)) (has-is l 1 6 (tag RAD) h) b
   not-tagged ISO a b c h = true-false (has l 1 6 (tag ISO)) (has-is l 1 6 (tag ISO) h) c
 
-  pub property-tells : Tells (propertyFields n ps l) (propertyOf n (λ kind. map (λ e. e .atom) (listed kind ps)) l)
+  pub property-tells : Tells (propertyDemands n ps l) (propertyOf n (λ kind. map (λ e. e .atom) (listed kind ps)) l)
   unfolding propertyOf
   property-tells =
       cond-tells (has l 1 6 (tag CHG)) (tagged-tells CHG) λ a.

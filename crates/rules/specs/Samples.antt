@@ -1,4 +1,5 @@
--- The samples that the format's rules are held against, as one table.
+-- Samples that the rules are held against by themselves, without the judge: what may not follow, what codes and property lines come to, what is written.
+-- The bench samples, with numbers, lines and columns of refusals, stand in `judge_file/specs/Samples`.
 use Prim.Native.Nat.{ℕ}
 use Prim.Native.String.{String}
 use mathlib.Core.Path.{_≡_}
@@ -6,30 +7,23 @@ use mathlib.Core.List.{List, [], _∷_, map}
 use lib.ListN.{length}
 use lib.IntN.{ℤ, pos, negsuc}
 use Rattle.text.specs.Text.{bytes}
-use Rattle.text.specs.Written.{text}
 use Rattle.rules.specs.Record.{Item, Raw, Molfile, SDfile, limit}
 use Rattle.rules.specs.Meaning.{Reading, meaning}
 use Rattle.rules.specs.Viable.{Dead, AMolfile, AnSDfile}
 use Rattle.rules.specs.Canon.{canonFile}
 
--- what lines stand for, as a molfile or as an SDfile; lines that no further lines can finish; what readings are written as; how many bytes lines make
+-- what lines stand for, as a molfile; lines that no further lines can finish, as a molfile or as an SDfile; what readings are written as
 pub data Sample : Type 0 where
   molfile : List String → Reading → Sample
-  no-molfile : List String → Sample
   dead-molfile : List String → Sample
-  sdfile : List String → List Reading → Sample
   dead-sdfile : List String → Sample
   written : List Reading → List String → Sample
-  sized : List String → ℕ → Sample
 
 abbrev pub Holds : Sample → Type 0
 Holds (molfile ls x) = (r : Raw) × Molfile limit (map bytes ls) r × (meaning r ≡ x)
-Holds (no-molfile ls) = (r : Raw) → ¬ Molfile limit (map bytes ls) r
 Holds (dead-molfile ls) = Dead (AMolfile limit) (map bytes ls)
-Holds (sdfile ls xs) = (rs : List Raw) × SDfile limit (map bytes ls) rs × (map meaning rs ≡ xs)
 Holds (dead-sdfile ls) = Dead (AnSDfile limit) (map bytes ls)
 Holds (written xs ls) = canonFile xs ≡ map bytes ls
-Holds (sized ls k) = length (text (map bytes ls)) ≡ k
 
 -- ---- Readings of the samples
 
@@ -59,20 +53,6 @@ reading first third atoms bonds items =
       bonds = bonds;
       items = items;
     }
-
-abbrev pub drum : Reading
-drum =
-    reading "AB-00417" "drum 3" (atom (pos 0) (pos 0) 6 (pos 0) ∷ atom (pos 12500) (negsuc 8249) 8 (negsuc 0) ∷ []) (bond 1 2 ∷ [])
-    (record { name = bytes "LOT"; values = bytes "00417" ∷ [] } ∷ [])
-
-abbrev pub far : Reading
-far = reading "far" "" (atom (pos 999999999) (pos 0) 6 (pos 0) ∷ []) [] []
-
-abbrev pub ring : Reading
-ring = reading "ring" "" (atom (pos 0) (pos 0) 6 (pos 0) ∷ atom (pos 0) (pos 0) 6 (pos 0) ∷ atom (pos 0) (pos 0) 6 (pos 0) ∷ []) (bond 1 2 ∷ bond 2 3 ∷ bond 1 3 ∷ []) []
-
-abbrev pub pure : Reading
-pure = reading "pure" "" [] [] (record { name = bytes "PURITY"; values = bytes ">98%" ∷ [] } ∷ [])
 
 -- the codes from 0 to 7
 abbrev pub codes : Reading
@@ -120,6 +100,7 @@ mixed =
 
 -- ---- The samples
 
+-- the record of thirteen lines, for tables elsewhere
 abbrev pub drumLines : List String
 drumLines =
     "AB-00417" ∷
@@ -135,59 +116,6 @@ drumLines =
     "00417" ∷
     "" ∷
     "$$$$" ∷ []
-
--- a coordinate of nine digits
-abbrev pub nineDigits : Sample
-nineDigits =
-    molfile (
-    "far" ∷ "" ∷ "" ∷
-    "  1  0  0  0  0  0  0  0  0  0999 V2000" ∷
-    "99999.9999    0.0000    0.0000 C   0  0  0  0  0  0  0  0  0  0  0  0" ∷
-    "M  END" ∷ []
-    ) far
-
--- a coordinate with three digits after its point
-abbrev pub threeDigits : Sample
-threeDigits =
-    dead-molfile (
-    "far" ∷ "" ∷ "" ∷
-    "  1  0  0  0  0  0  0  0  0  0999 V2000" ∷
-    "-99999.999    0.0000    0.0000 C   0  0  0  0  0  0  0  0  0  0  0  0" ∷ []
-    )
-
--- a bond to atom 0
-abbrev pub atomZero : Sample
-atomZero =
-    dead-molfile (
-    "nowhere" ∷ "" ∷ "" ∷
-    "  2  1  0  0  0  0  0  0  0  0999 V2000" ∷
-    "    0.0000    0.0000    0.0000 C   0  0  0  0  0  0  0  0  0  0  0  0" ∷
-    "    0.0000    0.0000    0.0000 C   0  0  0  0  0  0  0  0  0  0  0  0" ∷
-    "  1  0  1  0  0  0  0" ∷ []
-    )
-
--- more bonds than pairs
-abbrev pub tooManyBonds : Sample
-tooManyBonds =
-    dead-molfile (
-    "crowded" ∷ "" ∷ "" ∷
-    "  1  1  0  0  0  0  0  0  0  0999 V2000" ∷ []
-    )
-
--- as many bonds as pairs
-abbrev pub allPairs : Sample
-allPairs =
-    molfile (
-    "ring" ∷ "" ∷ "" ∷
-    "  3  3  0  0  0  0  0  0  0  0999 V2000" ∷
-    "    0.0000    0.0000    0.0000 C   0  0  0  0  0  0  0  0  0  0  0  0" ∷
-    "    0.0000    0.0000    0.0000 C   0  0  0  0  0  0  0  0  0  0  0  0" ∷
-    "    0.0000    0.0000    0.0000 C   0  0  0  0  0  0  0  0  0  0  0  0" ∷
-    "  1  2  1  0  0  0  0" ∷
-    "  2  3  1  0  0  0  0" ∷
-    "  1  3  1  0  0  0  0" ∷
-    "M  END" ∷ []
-    ) ring
 
 -- a pair bonded twice, the second time the other way round
 abbrev pub pairTwice : Sample
@@ -256,19 +184,6 @@ radicalsListed =
     "M  END" ∷ []
     ) uncharged
 
--- a value that starts like a header
-abbrev pub valueLikeHeader : Sample
-valueLikeHeader =
-    sdfile (
-    "pure" ∷ "" ∷ "" ∷
-    "  0  0  0  0  0  0  0  0  0  0999 V2000" ∷
-    "M  END" ∷
-    ">  <PURITY>" ∷
-    ">98%" ∷
-    "" ∷
-    "$$$$" ∷ []
-    ) (pure ∷ [])
-
 -- a header where a value or the blank line must stand
 abbrev pub headerAsValue : Sample
 headerAsValue =
@@ -280,38 +195,14 @@ headerAsValue =
     ">  <LOT>" ∷ []
     )
 
--- no lines at all
-abbrev pub noLinesSD : Sample
-noLinesSD = sdfile [] []
-
-abbrev pub noLinesMol : Sample
-noLinesMol = no-molfile []
-
--- charge -1 on atom 2, and a code that keeps its zeros
-abbrev pub theSample : Sample
-theSample = sdfile drumLines (drum ∷ [])
-
-abbrev pub theSampleWritten : Sample
-theSampleWritten = written (drum ∷ []) drumLines
-
-abbrev pub theSampleSized : Sample
-theSampleSized = sized drumLines 265
-
--- the same without the blank line of its item
-abbrev pub noBlankLine : Sample
-noBlankLine =
+-- the end of the record there
+abbrev pub dollarsAsValue : Sample
+dollarsAsValue =
     dead-sdfile (
-    "AB-00417" ∷
-    "" ∷
-    "drum 3" ∷
-    "  2  1  0  0  0  0  0  0  0  0999 V2000" ∷
-    "    0.0000    0.0000    0.0000 C   0  0  0  0  0  0  0  0  0  0  0  0" ∷
-    "    1.2500   -0.8250    0.0000 O   0  5  0  0  0  0  0  0  0  0  0  0" ∷
-    "  1  2  1  0  0  0  0" ∷
-    "M  CHG  1   2  -1" ∷
+    "pure" ∷ "" ∷ "" ∷
+    "  0  0  0  0  0  0  0  0  0  0999 V2000" ∷
     "M  END" ∷
-    ">  <LOT>" ∷
-    "00417" ∷
+    ">  <PURITY>" ∷
     "$$$$" ∷ []
     )
 
@@ -345,22 +236,11 @@ mixedWritten =
 
 abbrev pub samples : List Sample
 samples =
-    nineDigits ∷
-    threeDigits ∷
-    atomZero ∷
-    tooManyBonds ∷
-    allPairs ∷
     pairTwice ∷
     codesAlone ∷
     chargesListed ∷
     othersListed ∷
     radicalsListed ∷
-    valueLikeHeader ∷
     headerAsValue ∷
-    noLinesSD ∷
-    noLinesMol ∷
-    theSample ∷
-    theSampleWritten ∷
-    theSampleSized ∷
-    noBlankLine ∷
+    dollarsAsValue ∷
     mixedWritten ∷ []

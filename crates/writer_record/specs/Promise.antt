@@ -7,7 +7,7 @@ use mathlib.Core.Bool.{Bool, true, false}
 use mathlib.Core.List.{List, [], _∷_, _++_, map, append-nil}
 use lib.Dec.{leb}
 use lib.ListN.{length, drop}
-use borrow.Author.Tests.{leb-true, leb-false, le-leb}
+use borrow.Author.Tests.{leb-true, leb-false, le-leb, lt-leb}
 use Rattle.text.specs.Text.{Bytes, Line, Lines}
 use Rattle.text.specs.Written.{text}
 use Rattle.rules.specs.Record.{Headers, Item, Raw, GoodSDfile, limit}
@@ -65,6 +65,7 @@ pub record Promise (g : Given) (r₀ : Bytes) (a : Written) (r : Bytes) : Type 0
   pub accepted : (l : ℕ) → (a ≡ Written.Done l) ↔ ((x : Reading) × Accepted g x × (l ≡ length (canonText x)) × (l ≤ length r₀))
   pub written : (x : Reading) → Accepted g x → length (canonText x) ≤ length r₀ → r ≡ canonText x ++ drop (length (canonText x)) r₀
   pub refused : (e line column : ℕ) → a ≡ Written.Refused e line column → (r ≡ r₀) × Refusal g (length r₀) e line column
+  pub refuses : (e line column : ℕ) → Refusal g (length r₀) e line column → a ≡ Written.Refused e line column
 
 -- no two answers and no two rooms
 pub one-promise : {g : Given} {r₀ r s : Bytes} {a b : Written} → Promise g r₀ a r → Promise g r₀ b s → (a ≡ b) × (r ≡ s)
@@ -174,10 +175,10 @@ module _ (g : Given) where
         go true a false b v p w q = let r = roomy-agrees g .0 a in Refusal.writable r (λ h is x. false-true (sym b ∙ tables-agree g h is r .1 x))
         go true a true b (refused e line column) p w q =
             let r = roomy-agrees g .0 a in
-            Refusal.headers r (λ h is. tables-agree g h is r .0 b) (refused-headers (g .headers) e line column p)
+            Refusal.headers r (λ h is. tables-agree g h is r .0 b) (refused-headers (g .headers) e line column .0 p)
         go true a true b (good h) p (refused e line column) q =
             let r = roomy-agrees g .0 a in
-            Refusal.items r (λ h is. tables-agree g h is r .0 b) (good-headers (g .headers) h .0 p) (refused-items (g .items) e line column q)
+            Refusal.items r (λ h is. tables-agree g h is r .0 b) (good-headers (g .headers) h .0 p) (refused-items (g .items) e line column .0 q)
         go true a true b (good h) p (good is) q = tt
 
     told-text : Told (textFor g k)
@@ -191,6 +192,48 @@ module _ (g : Given) where
         go : (v : PartVerdict Reading) → recordFor g ≡ v → Told v → Told (andThen v (λ x. demand (leb (length (canonText x)) k) 20 (good (canonText x))))
         go (good x) e t = fit x e (leb (length (canonText x)) k) refl
         go (refused n line column) e t = t
+
+    -- what is wrong is what is answered
+    refused-so : {e line column : ℕ} → recordFor g ≡ refused e line column → writeOf g k ≡ Written.Refused e line column
+    unfolding writeOf textFor
+    refused-so h = rw h
+
+    nameless : Headers
+    nameless = record { first = []; second = []; third = [] }
+
+    tables-hold : Roomy g → Tables g → holds ≡ true
+    tables-hold r t = tables-agree g nameless [] r .1 (t nameless [])
+
+    not-roomy : ¬ Roomy g → roomy (g .atoms) (g .bonds) ≡ false
+    not-roomy n = go (roomy (g .atoms) (g .bonds)) refl
+      where
+        go : (t : Bool) → roomy (g .atoms) (g .bonds) ≡ t → t ≡ false
+        go true e = absurd (n (roomy-agrees g .0 e))
+        go false e = refl
+
+    no-room : (x : Reading) → Accepted g x → k < length (canonText x) → writeOf g k ≡ Written.Refused 20 0 0
+    unfolding writeOf textFor
+    no-room x a s = rw (record-agrees x .1 a, lt-leb (length (canonText x)) k s)
+
+    pub refusal-answer : {e line column : ℕ} → Refusal g k e line column → writeOf g k ≡ Written.Refused e line column
+    unfolding recordFor
+    refusal-answer (Refusal.tables n) = refused-so (rw (not-roomy n))
+    refusal-answer (Refusal.writable r n) = refused-so (rw (roomy-agrees g .1 r, not-held holds refl))
+      where
+        not-held : (t : Bool) → holds ≡ t → t ≡ false
+        not-held true e = absurd (n nameless [] (tables-agree g nameless [] r .0 e))
+        not-held false e = refl
+    refusal-answer (Refusal.headers {e = e} {line = line} {column = column} r t p) =
+        refused-so (rw (roomy-agrees g .1 r, tables-hold r t, refused-headers (g .headers) e line column .1 p))
+    refusal-answer (Refusal.items {e = e} {line = line} {column = column} {h = h} r t f p) =
+        refused-so (rw (roomy-agrees g .1 r, tables-hold r t, good-headers (g .headers) h .1 f, refused-items (g .items) e line column .1 p))
+    refusal-answer (Refusal.room {x = x} a s) = no-room x a s
+
+    -- there is one refusal at most
+    pub refusal-one : {e i c e′ i′ c′ : ℕ} → Refusal g k e i c → Refusal g k e′ i′ c′ → (e ≡ e′) × (i ≡ i′) × (c ≡ c′)
+    refusal-one {e} {i} {c} {e′} {i′} {c′} p q =
+        let z : Written.Refused e i c ≡ Written.Refused e′ i′ c′ = sym (refusal-answer p) ∙ refusal-answer q in
+        (cc, cc, cc)
 
 -- ---- The promise
 
@@ -227,6 +270,7 @@ module _ (g : Given) (r₀ : Bytes) where
         refused = λ n line column h.
             let k = refused-by n line column (textFor g (length r₀)) (told-text g (length r₀)) (sym e ∙ h) in
             (f ∙ k .0, k .1);
+        refuses = λ n line column h. e ∙ refusal-answer g (length r₀) h;
       }
 
   -- as the code comes to its two ends: j is what the tests found
