@@ -1,5 +1,6 @@
 -- A fetch keeps its promise, and any two answers that keep it are equal.
 use Prim.Native.Nat.{ℕ, suc, _+_, _-_}
+use native.Mathlib.Nat.{zero-add}
 use native.Mathlib.Omega.{arith}
 use mathlib.Core.Path.{_≡_, refl, sym, ap, ap₂, _∙_, subst}
 use mathlib.Core.List.{List, [], _∷_}
@@ -223,6 +224,22 @@ handed-one {p = p} {s = s} {name = name} h g =
       h .stands ∙ ap (λ (x : Said). (p .0, stretchOf x .from + p .1)) same ∙ sym (g .stands),
       h .part ∙ ap (λ (x : Said). partOf x s) same ∙ sym (g .part),
     )
+
+-- nothing is handed back from the start, where the fetch is refused and where the item has no value lines
+module _ {p : Address} {s name : Bytes} {q : Address} {bs : Bytes} (h : Handed p s name q bs) where
+  from-start : (x : Said) → foundOf s name ≡ x → stretchOf x ≡ record { from = 0; to = 0 } → (q ≡ p) × (bs ≡ [])
+  unfolding partOf
+  from-start x e z =
+      let same : h .said ≡ x = h .promised .judged ∙ e in (
+        h .stands ∙ ap (λ (y : Said). (p .0, stretchOf y .from + p .1)) same ∙ ap (λ (d : Part). (p .0, d .from + p .1)) z ∙ ap (λ (k : ℕ). (p .0, k)) (zero-add (p .1)),
+        h .part ∙ ap (λ (y : Said). partOf y s) same ∙ ap (λ (d : Part). take (d .to - d .from) (drop (d .from) s)) z,
+      )
+
+  pub handed-refused : {e i c : ℕ} → RefusedAt s name e i c → (q ≡ p) × (bs ≡ [])
+  handed-refused {e = e} {i = i} {c = c} r = from-start (refused e i c) (refused-is s name r) refl
+
+  pub handed-no-values : {ls v : List Line} {rest : Bytes} → Lines s ls rest → ItemIn name ls v [] → (q ≡ p) × (bs ≡ [])
+  handed-no-values l it = from-start (item 0 0) (found-is s name (FoundAt.no-values l it)) refl
 
 -- the bytes handed back are the value lines
 pub handed-values : (p : Address) (s name : Bytes) (q : Address) (bs : Bytes) {ls v vs : List Line} {l : Line} {rest : Bytes} → Handed p s name q bs → Lines s ls rest → ItemIn name ls v (l ∷ vs) → Joined (l ∷ vs) bs
