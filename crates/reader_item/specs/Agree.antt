@@ -1,9 +1,10 @@
 -- A fetch keeps its promise, and any two answers that keep it are equal.
-use Prim.Native.Nat.{ℕ, suc, _+_}
+use Prim.Native.Nat.{ℕ, suc, _+_, _-_}
+use native.Mathlib.Nat.{zero-add}
 use native.Mathlib.Omega.{arith}
 use mathlib.Core.Path.{_≡_, refl, sym, ap, ap₂, _∙_, subst}
 use mathlib.Core.List.{List, [], _∷_}
-use lib.ListN.{length, length-append}
+use lib.ListN.{length, take, drop, length-append}
 use Rattle.text.specs.Text.{Bytes, Line, Lines}
 use Rattle.text.specs.Cut.{Cut, cut, cut-is, lines-cut}
 use Rattle.rules.specs.Record.{Raw, Record, limit}
@@ -15,11 +16,12 @@ use Rattle.judge_file.specs.OneAgree.{one-whole, one-refused, one-short}
 use Rattle.judge_file.specs.WalkText.{afterLines}
 use Rattle.reader_walk.specs.Outcome.{whole, outcomeOf, ofOne}
 use Rattle.reader_walk.specs.Stands.{moleculeLines}
-use Rattle.reader_item.specs.Find.{toOf, Said, item, refused, after, spotOf, saidBy, foundBy, foundOf, partOf}
+use Rattle.reader_item.specs.declared.Part.{Part}
+use Rattle.reader_item.specs.Find.{toOf, Said, item, refused, after, spotOf, saidBy, foundBy, foundOf, stretchOf, partOf}
 use Rattle.reader_item.specs.Position.{Past, past-join, past-molecule}
 use Rattle.judge_refusals.specs.Because.{one-because}
 use Rattle.judge_refusals.specs.NoRecord.{NoRecord}
-use Rattle.reader_item.specs.Promise.{NoneNamed, ItemIn, Joined, Stretch, FoundAt, RefusedAt, Fetched, Promised, Handed}
+use Rattle.reader_item.specs.Promise.{NoneNamed, ItemIn, Joined, Stretch, FoundAt, RefusedAt, Fetched, Promised, Address, Handed}
 use Rattle.reader_item.specs.First.{none-first, item-one, first-lead, Hunted, hunted, stretch, stretch-one}
 
 -- ---- What a fetch finds in a text
@@ -201,15 +203,48 @@ fetched-one s name (refused e i c) r′ f g = sym (g .refuses e i c .1 (f .refus
 pub promised : (s name : Bytes) (r : Said) → r ≡ foundOf s name → Promised s name r
 promised s name r e = record { judged = e; fetched = subst (Fetched s name) (sym e) (fetched s name) }
 
-pub handed : (s name bs : Bytes) → bs ≡ partOf (foundOf s name) s → Handed s name bs
-handed s name bs e = record { said = foundOf s name; promised = promised s name (foundOf s name) refl; part = e }
+pub ruleset promise-laws = (promised)
 
-pub ruleset promise-laws = (promised, handed)
+-- as `fetch` takes the part: x is what the search found, and d its stretch
+pub handed : (p : Address) (s name : Bytes) (x : Said) (d : Part) → Promised s name x → d ≡ stretchOf x →
+    Handed p s name (p .0, d .from + p .1) (take (d .to - d .from) (drop (d .from) s))
+unfolding partOf
+handed p s name x d h e =
+    record {
+      said = x;
+      promised = h;
+      stands = ap (λ (y : Part). (p .0, y .from + p .1)) e;
+      part = ap (λ (y : Part). take (y .to - y .from) (drop (y .from) s)) e;
+    }
+
+-- for every text and name one part is handed back, at one place
+pub handed-one : {p : Address} {s name : Bytes} {q q′ : Address} {bs bs′ : Bytes} → Handed p s name q bs → Handed p s name q′ bs′ → (q ≡ q′) × (bs ≡ bs′)
+handed-one {p = p} {s = s} {name = name} h g =
+    let same = fetched-one s name (h .said) (g .said) (h .promised .fetched) (g .promised .fetched) in (
+      h .stands ∙ ap (λ (x : Said). (p .0, stretchOf x .from + p .1)) same ∙ sym (g .stands),
+      h .part ∙ ap (λ (x : Said). partOf x s) same ∙ sym (g .part),
+    )
+
+-- nothing is handed back from the start, where the fetch is refused and where the item has no value lines
+module _ {p : Address} {s name : Bytes} {q : Address} {bs : Bytes} (h : Handed p s name q bs) where
+  from-start : (x : Said) → foundOf s name ≡ x → stretchOf x ≡ record { from = 0; to = 0 } → (q ≡ p) × (bs ≡ [])
+  unfolding partOf
+  from-start x e z =
+      let same : h .said ≡ x = h .promised .judged ∙ e in (
+        h .stands ∙ ap (λ (y : Said). (p .0, stretchOf y .from + p .1)) same ∙ ap (λ (d : Part). (p .0, d .from + p .1)) z ∙ ap (λ (k : ℕ). (p .0, k)) (zero-add (p .1)),
+        h .part ∙ ap (λ (y : Said). partOf y s) same ∙ ap (λ (d : Part). take (d .to - d .from) (drop (d .from) s)) z,
+      )
+
+  pub handed-refused : {e i c : ℕ} → RefusedAt s name e i c → (q ≡ p) × (bs ≡ [])
+  handed-refused {e = e} {i = i} {c = c} r = from-start (refused e i c) (refused-is s name r) refl
+
+  pub handed-no-values : {ls v : List Line} {rest : Bytes} → Lines s ls rest → ItemIn name ls v [] → (q ≡ p) × (bs ≡ [])
+  handed-no-values l it = from-start (item 0 0) (found-is s name (FoundAt.no-values l it)) refl
 
 -- the bytes handed back are the value lines
-pub handed-values : (s name bs : Bytes) {ls v vs : List Line} {l : Line} {rest : Bytes} → Handed s name bs → Lines s ls rest → ItemIn name ls v (l ∷ vs) → Joined (l ∷ vs) bs
+pub handed-values : (p : Address) (s name : Bytes) (q : Address) (bs : Bytes) {ls v vs : List Line} {l : Line} {rest : Bytes} → Handed p s name q bs → Lines s ls rest → ItemIn name ls v (l ∷ vs) → Joined (l ∷ vs) bs
 unfolding partOf
-handed-values s name bs {v = v} {vs = vs} {l = l} h lines it =
+handed-values p s name q bs {v = v} {vs = vs} {l = l} h lines it =
     let here = subst (λ (t : List Line). ItemIn name t v (l ∷ vs)) (is-cut s name lines) it in
     let at = located s name here in
     subst (Joined (l ∷ vs)) (sym (h .part ∙ ap (λ (x : Said). partOf x s) (h .promised .judged ∙ at .said))) (the-stretch s name here at .values)

@@ -16,6 +16,7 @@ use Rattle.judge_file.specs.WalkText.{afterLines}
 use Rattle.reader_walk.specs.Outcome.{Outcome, whole, outcomeOf}
 use Rattle.reader_walk.specs.Stands.{moleculeLines}
 use Rattle.reader_item.specs.declared.Found.{Found}
+use Rattle.reader_item.specs.declared.Part.{Part}
 use Rattle.reader_item.specs.declared.Title.{Title}
 use Rattle.reader_item.specs.declared.Values.{Values}
 
@@ -66,10 +67,14 @@ foundBy s name (Outcome.refused e i column) = refused e i column
 unfoldable pub foundOf : Bytes → Bytes → Said
 foundOf s name = foundBy s name (outcomeOf sdfile s)
 
+-- the stretch that is handed back: the empty one at the start where the fetch is refused
+abbrev pub stretchOf : Said → Part
+stretchOf (item from to) = record { from = from; to = to }
+stretchOf (refused e i column) = record { from = 0; to = 0 }
+
 -- that part of the text
 unfoldable pub partOf : Said → Bytes → Bytes
-partOf (item from to) s = take (to - from) (drop from s)
-partOf (refused e i column) s = []
+partOf r s = take (stretchOf r .to - stretchOf r .from) (drop (stretchOf r .from) s)
 
 -- ---- What the functions inside answer
 

@@ -25,10 +25,12 @@ use Rattle.reader_walk.specs.Checking.{left-length, left-length-2}
 use Rattle.reader_walk.specs.declared.Walked.{Walked}
 use Rattle.line_counts_bonds.specs.declared.Counts.{Counts}
 use Rattle.reader_item.specs.declared.Found.{Found}
+use Rattle.reader_item.specs.declared.Part.{Part}
 use Rattle.reader_item.specs.declared.Title.{Title}
 use Rattle.reader_item.specs.declared.Values.{Values as Stretch}
-use Rattle.reader_item.specs.Find.{fromOf, toOf, Said, item, refused, numbersOf, Spot, after, nowhere, spotOf, saidBy, foundBy, foundOf, partOf}
+use Rattle.reader_item.specs.Find.{fromOf, toOf, Said, item, refused, numbersOf, Spot, after, nowhere, spotOf, saidBy, foundBy, foundOf, stretchOf}
 use Rattle.reader_item.specs.Find.{titledAs, titleBy, valuesAhead, valuesAt, ItemsStart}
+use Rattle.reader_item.specs.Promise.{Promised}
 use Rattle.reader_item.specs.Position.{after-join, after-low, stretch-within, Past, past-values, past-molecule}
 
 -- ---- A line of the items, with the lines after it
@@ -250,24 +252,29 @@ found-within s name (whole x k) a b h = go (spotOf name (moleculeLines (x .molec
     go nowhere q = absurd (let z : _≡_ {A = ℕ} 0 1 = cc in omega arith)
 found-within s name (Outcome.refused e i c) a b h = absurd (let z : _≡_ {A = ℕ} 0 1 = cc in omega arith)
 
-module _ (s name : Bytes) (r : Found) (e : numbersOf r ≡ foundOf s name) where
-  module _ (a b : ℕ) (q : r ≡ Found.Item a b) where
-    both : (a ≤ b) × (b ≤ length s)
-    unfolding foundOf
-    both = found-within s name (outcomeOf sdfile s) a b (sym e ∙ ap numbersOf q)
+part-within : (s name : Bytes) (x : Said) → foundOf s name ≡ x → (stretchOf x .from ≤ stretchOf x .to) × (stretchOf x .to ≤ length s)
+unfolding foundOf
+part-within s name (item a b) e = found-within s name (outcomeOf sdfile s) a b e
+part-within s name (refused n i c) e = (omega arith, omega arith)
 
-    pub found-order : a ≤ b
-    found-order = both .0
+-- the stretch d of what was found, x
+module _ (s name : Bytes) (x : Said) (d : Part) (h : Promised s name x) (e : d ≡ stretchOf x) where
+  both : (d .from ≤ d .to) × (d .to ≤ length s)
+  both = subst (λ (y : Part). (y .from ≤ y .to) × (y .to ≤ length s)) (sym e) (part-within s name x (sym (h .judged)))
 
-    pub found-inside : b ≤ length s
-    found-inside = both .1
+  pub part-order : d .from ≤ d .to
+  part-order = both .0
 
-    pub part-item : take (b - a) (drop a s) ≡ partOf (foundOf s name) s
-    unfolding partOf
-    part-item = ap (λ (x : Said). partOf x s) (sym (ap numbersOf q) ∙ e)
+  pub part-inside : d .to ≤ length s
+  part-inside = both .1
 
-  pub part-none : (n i c : ℕ) → r ≡ Found.Refused n i c → take (0 - 0) (drop 0 s) ≡ partOf (foundOf s name) s
-  unfolding partOf
-  part-none n i c q = ap (λ (x : Said). partOf x s) (sym (ap numbersOf q) ∙ e)
+pub ruleset part-laws = (part-order, part-inside)
 
-pub ruleset part-laws = (found-order, found-inside, part-item, part-none)
+module _ (x : Found) where
+  pub part-item : (a b : ℕ) → x ≡ Found.Item a b → _≡_ {A = Part} (record { from = a; to = b }) (stretchOf (numbersOf x))
+  part-item a b q = ap (λ (y : Found). stretchOf (numbersOf y)) (sym q)
+
+  pub part-none : (e i c : ℕ) → x ≡ Found.Refused e i c → _≡_ {A = Part} (record { from = 0; to = 0 }) (stretchOf (numbersOf x))
+  part-none e i c q = ap (λ (y : Found). stretchOf (numbersOf y)) (sym q)
+
+pub ruleset stretch-laws = (part-item, part-none)

@@ -1,5 +1,5 @@
 -- The promise of a fetch, in the words of the rules: when an item is found, which bytes are its value lines, and what a refusal says.
-use Prim.Native.Nat.{ℕ, _-_, _≤_}
+use Prim.Native.Nat.{ℕ, _+_, _-_, _≤_}
 use mathlib.Core.Path.{_≡_}
 use mathlib.Core.Logic.{_≢_, _↔_}
 use mathlib.Core.List.{List, [], _∷_, _++_}
@@ -8,7 +8,7 @@ use Rattle.text.specs.Text.{Bytes, Line, LF, Without, Ended, Lines}
 use Rattle.rules.specs.Forms.{DataHeader}
 use Rattle.rules.specs.Record.{Item, Raw, Values, Items, Parts1to5, Record, limit}
 use Rattle.judge_refusals.specs.NoRecord.{NoRecord}
-use Rattle.reader_item.specs.Find.{Said, item, refused, foundOf, partOf}
+use Rattle.reader_item.specs.Find.{Said, item, refused, foundOf, stretchOf, partOf}
 
 -- ---- The first item of a name
 
@@ -72,8 +72,14 @@ pub record Promised (s name : Bytes) (r : Said) : Type 0 where
   pub judged : r ≡ foundOf s name
   pub fetched : Fetched s name r
 
--- the bytes handed back are the stretch of such an answer; none after a refusal
-pub record Handed (s name bs : Bytes) : Type 0 where
+-- where bytes stand in memory: a block, and the place in it of the first one
+abbrev pub Address : Type 0
+Address = ℕ × ℕ
+
+-- The caller's bytes s stand at p; bs is handed back, and stands at q: the stretch of such an answer in s. Refused, or without value lines, it is the empty
+-- stretch at the start of s.
+pub record Handed (p : Address) (s name : Bytes) (q : Address) (bs : Bytes) : Type 0 where
   pub said : Said
   pub promised : Promised s name said
+  pub stands : q ≡ (p .0, stretchOf said .from + p .1)
   pub part : bs ≡ partOf said s

@@ -4,7 +4,7 @@ ghost use Prim.Native.Nat.{_*_, _≤_};
 ghost use lib.ListN.{length};
 ghost use Rattle.judge_line.specs.Judge.{itemOf};
 ghost use Rattle.line_property.specs.Listed.{places};
-ghost use Rattle.reader_item.specs.Find.{titledAs, titleBy, valuesAt, numbersOf, foundOf, ItemsStart};
+ghost use Rattle.reader_item.specs.Find.{titledAs, titleBy, valuesAt, numbersOf, foundOf, stretchOf, ItemsStart};
 ghost use Rattle.reader_item.specs.Promise.{Promised, Handed};
 use line_property::LISTED;
 use line_text::ItemRead;
@@ -23,6 +23,12 @@ enum Title {
     Named,
     Other,
     Close,
+}
+
+// A stretch of the caller's bytes.
+struct Part {
+    from: usize,
+    to: usize,
 }
 
 // The value lines of an item, and where the line after its blank line starts.
@@ -154,16 +160,26 @@ pub fn find_item(s: &[u8], name: &[u8]) -> Found
     find_with(s, name, &mut atoms, &mut bonds, &mut listed)
 }
 
-// Those value lines themselves, as a part of the caller's bytes: nothing where the fetch is refused.
-pub fn fetch<'a>(s: &'a [u8], name: &[u8]) -> &'a [u8]
-    ensures { λ r. ⌜ Handed (now (s .entry)) (now (name .entry)) (now r) ⌝ }
+// The stretch that a fetch hands back: the empty one at the start where it is refused.
+fn part_of(found: Found) -> Part
+    ensures { λ r. ⌜ r ≡ stretchOf (numbersOf found) ⌝ }
 {
-    match find_item(s, name) {
-        Found::Item { from, to } => &s[from..to],
+    match found {
+        Found::Item { from, to } => Part { from, to },
         Found::Refused {
             no: _,
             line: _,
             column: _,
-        } => &s[0..0],
+        } => Part { from: 0, to: 0 },
     }
+}
+
+// Those value lines themselves, as a part of the caller's bytes: nothing where the fetch is refused.
+pub fn fetch<'a>(s: &'a [u8], name: &[u8]) -> &'a [u8]
+    ensures { λ r. ⌜ Handed (s .entry .ptr) (now (s .entry)) (now (name .entry)) (r .ptr) (now r) ⌝ }
+{
+    let part = part_of(find_item(s, name));
+    let from = part.from;
+    let to = part.to;
+    &s[from..to]
 }

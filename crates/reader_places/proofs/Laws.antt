@@ -1,8 +1,7 @@
 -- Laws on a place, and on a line's length and bytes.
 use Prim.Native.Nat.{ℕ, _+_, _≤_, _<_}
 use native.Mathlib.Numerals.{add-one}
-use mathlib.Core.Path.{_≡_, refl}
-use mathlib.Core.Bool.{Bool, true, false}
+use mathlib.Core.Path.{_≡_}
 use lib.ListN.{length}
 use borrow.Author.Tests.{ne-eqb, le-leb, lt-leb}
 use Rattle.text.specs.Text.{Line}
@@ -10,10 +9,9 @@ use Rattle.text.specs.Find.{badColumn}
 use Rattle.text.specs.declared.Found.{Found}
 use Rattle.judge_line.specs.Got.{Got, bad, need}
 use Rattle.judge_line.specs.Field.{within}
-use Rattle.reader_places.specs.Places.{beforeHeader, finishedAt, bondsOwed, atomsOwed}
+use Rattle.reader_places.specs.Places.{bondsOwed, atomsOwed}
 use Rattle.reader_places.specs.declared.Place.{Place}
 use Rattle.reader_places.specs.declared.Place.the-variants as P
-use Rattle.reader_places.specs.declared.Finish.{Finish}
 
 -- ---- length and bytes
 
@@ -51,20 +49,3 @@ unfolding atomsOwed
 some-atoms k m h = rw (ne-eqb k 0 h)
 
 pub ruleset owed-laws = (no-bonds, some-bonds, no-atoms, some-atoms)
-
--- ---- the end of the input
-
-pub may-begin : (sd : Bool) (owed : ℕ) → owed ≡ 3 → sd ≡ true → Finish.MayEnd ≡ beforeHeader sd owed
-may-begin sd owed h e = rw (h, e)
-
-pub molfile-owes : (sd : Bool) (owed : ℕ) → owed ≡ 3 → sd ≡ false → Finish.Owes ≡ beforeHeader sd owed
-molfile-owes sd owed h e = rw (h, e)
-
-pub header-owes : (sd : Bool) (owed : ℕ) → (owed ≡ 3 → ⊥) → Finish.Owes ≡ beforeHeader sd owed
-header-owes true owed h = rw (ne-eqb owed 3 h)
-header-owes false owed h = refl
-
-pub finish-at : (sd : Bool) (p q : Place) (x : Finish) → p ≡ q → x ≡ finishedAt sd q → x ≡ finishedAt sd p
-finish-at sd p q x e h = rw e h
-
-pub ruleset finish-laws = (may-begin, molfile-owes, header-owes, finish-at)

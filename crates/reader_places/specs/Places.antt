@@ -1,6 +1,6 @@
 -- The places of a record's lines, and what is asked and answered of a place alone.
 use Prim.Native.Nat.{ℕ}
-use mathlib.Core.Bool.{Bool, true, false, cond, _&&_}
+use mathlib.Core.Bool.{Bool, true, false, cond}
 use lib.Dec.{eqb}
 use Rattle.text.specs.Text.{Line}
 use Rattle.judge_line.specs.Got.{Got, got, bad}
@@ -25,20 +25,16 @@ abbrev pub lineGot : Line → LineJudged → Got Line
 lineGot l LineJudged.Good = got l
 lineGot l (LineJudged.Bad e column) = bad e column
 
--- a record may begin here, in an SDfile
-abbrev pub beforeHeader : Bool → ℕ → Finish
-beforeHeader sd owed = cond (sd && eqb owed 3) Finish.MayEnd Finish.Owes
-
--- whether the input may end at a place
-abbrev pub finishedAt : Bool → Place → Finish
-finishedAt sd (P.Header owed) = beforeHeader sd owed
-finishedAt sd P.Counts = Finish.Owes
-finishedAt sd (P.Atoms owed) = Finish.Owes
-finishedAt sd (P.Bonds owed) = Finish.Owes
-finishedAt sd P.Properties = Finish.Owes
-finishedAt sd P.Over = Finish.MayEnd
-finishedAt sd P.Items = Finish.Owes
-finishedAt sd P.Values = Finish.Owes
+-- whether the input may end at a place of a record; an SDfile's ends with its `$$$$` line
+abbrev pub finishedAt : Place → Finish
+finishedAt (P.Header owed) = Finish.Owes
+finishedAt P.Counts = Finish.Owes
+finishedAt (P.Atoms owed) = Finish.Owes
+finishedAt (P.Bonds owed) = Finish.Owes
+finishedAt P.Properties = Finish.Owes
+finishedAt P.Over = Finish.MayEnd
+finishedAt P.Items = Finish.Owes
+finishedAt P.Values = Finish.Owes
 
 -- so many bond lines owed, or none
 unfoldable pub bondsOwed : ℕ → Place

@@ -3,7 +3,7 @@ ghost use mathlib.Core.Path.{_≡_};
 ghost use Prim.Native.Nat.{_≤_};
 ghost use Rattle.judge_line.specs.Got.{got};
 ghost use Rattle.judge_line.specs.Field.{within};
-ghost use Rattle.reader_places.specs.Places.{longestIn, lineGot, beforeHeader, finishedAt, bondsOwed, atomsOwed, afterEnd};
+ghost use Rattle.reader_places.specs.Places.{longestIn, lineGot, finishedAt, bondsOwed, atomsOwed, afterEnd};
 use text::Found;
 
 // `owed` counts the lines that still belong to the place, the next one among them.
@@ -31,25 +31,12 @@ pub enum Finish {
     Owes,
 }
 
-// Whether an SDfile's record may begin: all three header lines are owed.
-fn before_header(sd: bool, owed: u32) -> Finish
-    ensures { λ r. ⌜ r ≡ beforeHeader sd owed ⌝ }
-{
-    if owed == 3 {
-        if sd {
-            return Finish::MayEnd;
-        }
-        return Finish::Owes;
-    }
-    Finish::Owes
-}
-
-// Whether the input may end at a place.
-pub fn may_end(sd: bool, place: Place) -> Finish
-    ensures { λ r. ⌜ r ≡ finishedAt sd place ⌝ }
+// Whether the input may end at a place of a record: a molfile's after its `M  END`, an SDfile's nowhere before its `$$$$` line.
+pub fn may_end(place: Place) -> Finish
+    ensures { λ r. ⌜ r ≡ finishedAt place ⌝ }
 {
     match place {
-        Place::Header { owed } => before_header(sd, owed),
+        Place::Header { owed: _ } => Finish::Owes,
         Place::Counts => Finish::Owes,
         Place::Atoms { owed: _ } => Finish::Owes,
         Place::Bonds { owed: _ } => Finish::Owes,

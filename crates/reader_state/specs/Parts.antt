@@ -19,7 +19,7 @@ abbrev pub begun : Bool → Reader
 begun sd = record { sd = sd; place = P.Header 3; counts = record { atoms = 0; bonds = 0; chiral = 0 } }
 
 unfoldable pub finished : Reader → Finish
-finished r = finishedAt (r .sd) (r .place)
+finished r = finishedAt (r .place)
 
 -- a title's name lies in the line
 unfoldable pub titleIn : Line → Step → Type 0

@@ -97,13 +97,12 @@ impl Reader {
         }
     }
 
-    // At the end of the input: where a record may begin in an SDfile, or after a molfile's `M  END`.
+    // At the end of the input: only a molfile's record ends there, after its `M  END`.
     pub fn finish(self) -> Finish
         ensures { λ r. ⌜ r ≡ finished self ⌝ }
     {
         let place = self.place;
-        let sd = self.sd;
-        reader_places::may_end(sd, place)
+        reader_places::may_end(place)
     }
 }
 

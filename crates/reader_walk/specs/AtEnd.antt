@@ -1,21 +1,23 @@
--- The end of the lines: an SDfile's record is cut short there, a molfile may end after its `M  END`.
+-- The end of the lines: what the state's `finish` says there. An SDfile's record is cut short, a molfile may end after its `M  END`.
 use Prim.Native.Nat.{ℕ, suc, _-_}
 use native.Mathlib.Omega.{arith}
-use mathlib.Core.Path.{_≡_, refl, sym, ap, ap₂, _∙_, subst}
+use mathlib.Core.Path.{_≡_, refl, sym, ap, _∙_, subst}
 use mathlib.Core.List.{List, [], _∷_}
 use mathlib.Core.Bool.{Bool, true, false, cond}
 use lib.Dec.{eqb}
 use lib.ListN.{length, drop, length-drop}
 use lib.IntN.{ℤ}
-use borrow.Author.Tests.{eqb-true, eqb-false}
+use borrow.Author.Tests.{ne-eqb}
 use Rattle.text.specs.Text.{Bytes}
 use Rattle.text.specs.Find.{lineAt}
 use Rattle.text.specs.Cut.{Cut, line-rest}
 use Rattle.text.specs.declared.LineAt.{LineAt}
+use Rattle.rules.specs.Record.{limit}
 use Rattle.line_counts_bonds.specs.declared.Counts.{Counts}
 use Rattle.judge_file.specs.Place as J
-use Rattle.judge_file.specs.Place.{molfile}
+use Rattle.judge_file.specs.Place.{FileKind, molfile, sdfile}
 use Rattle.judge_file.specs.Place.{first, second, third, counts, atoms, bonds, properties, over, items, values}
+use Rattle.judge_file.specs.Sound.{Sound}
 use Rattle.judge_file.specs.WalkText.{afterLines}
 use Rattle.reader_state.specs.declared.Reader.{Reader}
 use Rattle.reader_places.specs.declared.Finish.{Finish}
@@ -26,26 +28,46 @@ use Rattle.reader_line.specs.declared.Notes.{Notes}
 use Rattle.reader_walk.specs.declared.Walked.{Walked}
 use Rattle.reader_walk.specs.Outcome.{Outcome, outcomeOf, endAt, recordFrom}
 use Rattle.reader_line.specs.Took.{countsBack}
-use Rattle.reader_walk.specs.Stands.{isSd, kindOf, placeOf, Rows, Counted, Marks, atomsIn, bondsIn, moleculeLines}
+use Rattle.reader_walk.specs.Stands.{kindOf, placeOf, Rows, Counted, Marks, atomsIn, bondsIn, moleculeLines}
 use Rattle.reader_walk.specs.Walked.{walkedBy, walkOf, HeldBy, Left}
 use Rattle.reader_walk.specs.Walking.{Walking}
 
--- before line i, at position `at`, by what the state says of an end there
-abbrev pub endWalked : Reader → Notes → ℕ → ℕ → Finish → Walked
-endWalked r m at i Finish.MayEnd = Walked.Whole (r .counts) at (i - 1) (m .«header_end») (m .«items_start») (m .«items_start»)
-endWalked r m at i Finish.Owes = Walked.Refused 19 i 1
+-- before line i, at position `at`, with so many bytes left: after a molfile's `M  END`
+unfoldable pub lastOf : ℕ → Counts → Notes → ℕ → ℕ → Walked
+lastOf left c m at i = cond (eqb left 0) (Walked.Whole c at (i - 1) (m .«header_end») (m .«items_start») (m .«items_start»)) (Walked.Refused 19 i 1)
 
--- with so many bytes left
-unfoldable pub endOf : Bool → ℕ → Reader → Notes → ℕ → ℕ → Walked
-endOf sd left r m at i = cond sd (Walked.Refused 19 i 1) (cond (eqb left 0) (endWalked r m at i (finished r)) (Walked.Refused 19 i 1))
+-- and anywhere, by what the state says of an end there
+abbrev pub endWalked : ℕ → Reader → Notes → ℕ → ℕ → Finish → Walked
+endWalked left r m at i Finish.MayEnd = lastOf left (r .counts) m at i
+endWalked left r m at i Finish.Owes = Walked.Refused 19 i 1
+
+-- at every place of an SDfile lines are owed
+sd-owes : (p : J.Place) → Sound sdfile limit p → finishedAt (placeOf p) ≡ Finish.Owes
+sd-owes first h = refl
+sd-owes (second h₁) h = refl
+sd-owes (third h₁ h₂) h = refl
+sd-owes (counts hs) h = refl
+sd-owes (atoms hs x j xs) h = refl
+sd-owes (bonds hs x xs j bs) h = refl
+sd-owes (properties hs x xs bs ps) h = refl
+sd-owes (over mol) h = absurd h
+sd-owes (items mol is) h = refl
+sd-owes (values mol is name vs) h = refl
 
 module _ (s : Bytes) (r : Reader) (m : Notes) (at i : ℕ) (t keys : List ℕ) (ta tb : List ℤ) (k : ℕ) (line : i ≡ suc k) (start : afterLines s 0 k ≡ at) where
+  -- bytes after the last LF
+  some-left : (left : ℕ) (f : Finish) → (left ≡ 0 → ⊥) → endWalked left r m at i f ≡ Walked.Refused 19 i 1
+  unfolding lastOf
+  some-left left Finish.MayEnd z = rw (ne-eqb left 0 z)
+  some-left left Finish.Owes z = refl
+
   abbrev Both : J.Place → Walked → Outcome → Type 0
   Both p w o = (w ≡ walkedBy molfile s o) × HeldBy ta tb t o
 
   -- a molfile with nothing left
   mol-ends : (p : J.Place) → Counted (r .counts) t p → Rows m keys ta tb (atomsIn p) (bondsIn p) → Marks s m i p →
-      Both p (endWalked r m at i (finishedAt false (placeOf p))) (endAt molfile p [] i)
+      Both p (endWalked 0 r m at i (finishedAt (placeOf p))) (endAt molfile p [] i)
+  unfolding lastOf
   mol-ends first c rows mark = (refl, tt)
   mol-ends (second h₁) c rows mark = (refl, tt)
   mol-ends (third h₁ h₂) c rows mark = (refl, tt)
@@ -67,28 +89,28 @@ module _ (s : Bytes) (r : Reader) (m : Notes) (at i : ℕ) (t keys : List ℕ) (
 
 module _ (sd : Bool) (s : Bytes) (ta₀ tb₀ : List ℤ) (r : Reader) (m : Notes) (at i : ℕ) (t keys : List ℕ) (ta tb : List ℤ)
     (g : Walking sd s ta₀ tb₀ r m at i t keys ta tb) (l : lineAt s at ≡ LineAt.Unfinished) where
-  ends : (endOf sd (length s - at) r m at i ≡ walkedBy (kindOf sd) s (endAt (kindOf sd) (g .p) (drop at s) i)) × HeldBy ta tb t (endAt (kindOf sd) (g .p) (drop at s) i)
-  unfolding endOf finished
-  ends = go sd refl (eqb (length s - at) 0) refl (drop at s) refl
+  abbrev Ends : FileKind → ℕ → Finish → Bytes → Type 0
+  Ends kind left f rest =
+      (endWalked left r m at i f ≡ walkedBy kind s (endAt kind (g .p) rest i)) × HeldBy ta tb t (endAt kind (g .p) rest i)
+
+  ends : Ends (kindOf sd) (length s - at) (finished r) (drop at s)
+  unfolding finished
+  ends = subst (λ (p : Place). Ends (kindOf sd) (length s - at) (finishedAt p) (drop at s)) (sym (g .stands .place)) (go sd (g .sound) (length s - at) refl (drop at s) refl)
     where
-      go : (b : Bool) → sd ≡ b → (z : Bool) → eqb (length s - at) 0 ≡ z → (rest : Bytes) → drop at s ≡ rest →
-          (cond b (Walked.Refused 19 i 1) (cond z (endWalked r m at i (finishedAt (r .sd) (r .place))) (Walked.Refused 19 i 1))
-          ≡ walkedBy (kindOf b) s (endAt (kindOf b) (g .p) rest i)) × HeldBy ta tb t (endAt (kindOf b) (g .p) rest i)
-      go true eb z ez rest er = (refl, tt)
-      go false eb true ez [] er =
-          let none : r .sd ≡ false = g .stands .sd ∙ ap (λ (x : Bool). isSd (kindOf x)) eb in
-          subst (λ (f : Finish). (endWalked r m at i f ≡ walkedBy molfile s (endAt molfile (g .p) [] i)) × HeldBy ta tb t (endAt molfile (g .p) [] i))
-          (sym (ap₂ finishedAt none (g .stands .place)))
+      go : (b : Bool) → Sound (kindOf b) limit (g .p) → (left : ℕ) → length s - at ≡ left → (rest : Bytes) → drop at s ≡ rest → Ends (kindOf b) left (finishedAt (placeOf (g .p))) rest
+      go true ok left el rest er = (ap (endWalked left r m at i) (sd-owes (g .p) ok), tt)
+      go false ok left el [] er =
+          let none : 0 ≡ left = omega (arith, ap length er, length-drop at s) in
+          subst (λ (n : ℕ). Ends molfile n (finishedAt (placeOf (g .p))) []) none
           (mol-ends s r m at i t keys ta tb (g .k) (g .line) (g .start) (g .p) (g .stands .counted) (g .stands .rows) (g .stands .marks))
-      go false eb true ez (b ∷ rest) er = absurd (omega (arith, eqb-true (length s - at) 0 ez, ap length er, length-drop at s))
-      go false eb false ez [] er = absurd (eqb-false (length s - at) 0 ez (omega (arith, ap length er, length-drop at s)))
-      go false eb false ez (b ∷ rest) er = (refl, tt)
+      go false ok left el (b ∷ rest) er =
+          (some-left s r m at i t keys ta tb (g .k) (g .line) (g .start) left (finishedAt (placeOf (g .p))) (λ z. omega (arith, ap length er, length-drop at s)), tt)
 
   end-is : outcomeOf (kindOf sd) s ≡ endAt (kindOf sd) (g .p) (drop at s) i
   unfolding recordFrom
   end-is = g .same ∙ ap (λ (c : Cut). recordFrom (kindOf sd) (g .p) i (c .lines) (c .rest)) (line-rest s at l)
 
-  pub walking-end : (y : Walked) → y ≡ endOf sd (length s - at) r m at i → y ≡ walkOf (kindOf sd) s
+  pub walking-end : (y : Walked) → y ≡ endWalked (length s - at) r m at i (finished r) → y ≡ walkOf (kindOf sd) s
   unfolding walkOf
   walking-end y e = e ∙ ends .0 ∙ ap (walkedBy (kindOf sd) s) (sym end-is)
 

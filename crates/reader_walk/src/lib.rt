@@ -7,7 +7,7 @@ ghost use Rattle.reader_state.specs.Parts.{finished};
 ghost use Rattle.reader_walk.specs.Outcome.{outcomeOf};
 ghost use Rattle.reader_walk.specs.Stands.{kindOf};
 ghost use Rattle.reader_walk.specs.Walked.{walkOf, Left};
-ghost use Rattle.reader_walk.specs.AtEnd.{endWalked, endOf};
+ghost use Rattle.reader_walk.specs.AtEnd.{lastOf, endWalked};
 use line_counts_bonds::Counts;
 use line_property::LISTED;
 use reader_line::Notes;
@@ -56,48 +56,41 @@ fn closed(reader: Reader, notes: Notes, at: usize, line: usize, next: usize) -> 
     }
 }
 
-// A molfile's end, with nothing left.
-fn at_end(reader: Reader, notes: Notes, at: usize, line: usize) -> Walked
+// After a molfile's `M  END`, with so many bytes left.
+fn at_end(left: usize, counts: Counts, notes: Notes, at: usize, line: usize) -> Walked
     requires { ⌜ 1 ≤ line ⌝ }
-    ensures { λ r. ⌜ r ≡ endWalked reader notes at line (finished reader) ⌝ }
+    ensures { λ r. ⌜ r ≡ lastOf left counts notes at line ⌝ }
 {
-    let counts = reader.counts;
-    match reader.finish() {
-        Finish::MayEnd => Walked::Whole {
+    if left == 0 {
+        return Walked::Whole {
             counts,
             length: at,
             lines: line - 1,
             header_end: notes.header_end,
             items_start: notes.items_start,
             items_end: notes.items_start,
-        },
-        Finish::Owes => Walked::Refused {
-            no: 19,
-            line,
-            column: 1,
-        },
-    }
-}
-
-// The end of the lines, with so many bytes left.
-fn end_walk(sd: bool, left: usize, reader: Reader, notes: Notes, at: usize, line: usize) -> Walked
-    requires { ⌜ 1 ≤ line ⌝ }
-    ensures { λ r. ⌜ r ≡ endOf sd left reader notes at line ⌝ }
-{
-    if sd {
-        return Walked::Refused {
-            no: 19,
-            line,
-            column: 1,
         };
-    }
-    if left == 0 {
-        return at_end(reader, notes, at, line);
     }
     Walked::Refused {
         no: 19,
         line,
         column: 1,
+    }
+}
+
+// The end of the lines, with so many bytes left. Whether a record may end there the state says.
+fn end_walk(left: usize, reader: Reader, notes: Notes, at: usize, line: usize) -> Walked
+    requires { ⌜ 1 ≤ line ⌝ }
+    ensures { λ r. ⌜ r ≡ endWalked left reader notes at line (finished reader) ⌝ }
+{
+    let counts = reader.counts;
+    match reader.finish() {
+        Finish::MayEnd => at_end(left, counts, notes, at, line),
+        Finish::Owes => Walked::Refused {
+            no: 19,
+            line,
+            column: 1,
+        },
     }
 }
 
@@ -120,7 +113,7 @@ fn walk_lines(
     let mut line: usize = 1;
     let repeat = 'walk: loop {
         let LineAt::Line { end, next } = text::line_at(s, at) else {
-            return end_walk(sd, s.len() - at, reader, notes, at, line);
+            return end_walk(s.len() - at, reader, notes, at, line);
         };
         match reader_line::take_line(reader, notes, &s[at..end], next, atoms, listed) {
             Taken::Next(r, m) => {

@@ -26,6 +26,7 @@ use Rattle.reader_record.specs.Promise as R
 use Rattle.reader_record.specs.Promise.{Reply, Begins, Told, Roomy, kindNumber, ReadPromise}
 use Rattle.reader_record.specs.Promised as P
 use Rattle.reader_record.specs.Told.{linesOf, replyOf, told-reply, begins-told, begins-outcome, whole-lines, outcome-begins, outcome-refused}
+use Rattle.judge_parts.specs.Part.{PartVerdict, good}
 use Rattle.writer_copy.specs.declared.Copied.{Copied}
 use Rattle.writer_copy.specs.Copy.{textOf, fitting, copyFor, answerBy, roomBy, copyOf, roomAfter}
 use Rattle.writer_copy.specs.Bridge.{begins-good}
@@ -49,6 +50,17 @@ pub data Refusal (kind : ℕ) (s : Bytes) (ta tb : List ℤ) (k : ℕ) : ℕ →
   unread : {e i c : ℕ} (f : FileKind) → kind ≡ kindNumber f → Roomy ta tb → R.Refusal f s e i c → Refusal kind s ta tb k e i c
   room : (x : Raw) (f : FileKind) → kind ≡ kindNumber f → Roomy ta tb → Begins f s x → k < length (textOf x) → Refusal kind s ta tb k 20 0 0
 
+-- the bytes and lines that a record takes, and the length of its text
+pub record Lengths : Type 0 where
+  pub taken : ℕ
+  pub lines : ℕ
+  pub text : ℕ
+
+-- what an answer says: these, or the number, line and column of a refusal
+abbrev pub numbersOf : Copied → PartVerdict Lengths
+numbersOf (Copied.Done t j l) = good (record { taken = t; lines = j; text = l })
+numbersOf (Copied.Refused e i c) = PartVerdict.refused e i c
+
 -- tables ta₀ and tb₀ and room r₀ were lent, a is the answer, and they are then ta, tb and r
 pub record Promise (kind : ℕ) (s : Bytes) (ta₀ tb₀ : List ℤ) (r₀ : Bytes) (a : Copied) (ta tb : List ℤ) (r : Bytes) : Type 0 where
   pub answer : a ≡ copyOf kind (length ta₀) (length tb₀) s (length r₀)
@@ -57,9 +69,9 @@ pub record Promise (kind : ℕ) (s : Bytes) (ta₀ tb₀ : List ℤ) (r₀ : Byt
   pub bonds : tb ≡ bondsAfter kind (length ta₀) s tb₀
   -- the tables are as a reading leaves them
   pub tables : ReadPromise kind s ta₀ tb₀ (readOf kind (length ta₀) (length tb₀) s) ta tb
-  pub accepted : (t j l : ℕ) → (a ≡ Copied.Done t j l) ↔ Copies kind s ta₀ tb₀ (length r₀) t j l
+  pub accepted : (t j l : ℕ) → (numbersOf a ≡ good (record { taken = t; lines = j; text = l })) ↔ Copies kind s ta₀ tb₀ (length r₀) t j l
   pub written : (t j l : ℕ) (c : Copies kind s ta₀ tb₀ (length r₀) t j l) → r ≡ textOf (c .x) ++ drop l r₀
-  pub refused : (e i c : ℕ) → a ≡ Copied.Refused e i c → (r ≡ r₀) × Refusal kind s ta₀ tb₀ (length r₀) e i c
+  pub refused : (e i c : ℕ) → numbersOf a ≡ PartVerdict.refused e i c → (r ≡ r₀) × Refusal kind s ta₀ tb₀ (length r₀) e i c
 
 -- no two answers, and no two memories
 pub one-promise : {kind : ℕ} {s : Bytes} {ta₀ tb₀ : List ℤ} {r₀ : Bytes} {a b : Copied} {ta tb ua ub : List ℤ} {r q : Bytes} →
@@ -187,6 +199,18 @@ room-by : (r s : Bytes) (e i c : ℕ) (o : Outcome) → answerBy s o ≡ Copied.
 room-by r s e i c (whole x j) q = refused-done (sym q)
 room-by r s e i c (refused n j d) q = refl
 
+-- the numbers tell the answer
+abbrev backOf : PartVerdict Lengths → Copied
+backOf (good w) = Copied.Done (w .taken) (w .lines) (w .text)
+backOf (PartVerdict.refused e i c) = Copied.Refused e i c
+
+pub same-copied : (a b : Copied) → numbersOf a ≡ numbersOf b → a ≡ b
+same-copied a b h = sym (back a) ∙ ap backOf h ∙ back b
+  where
+    back : (x : Copied) → backOf (numbersOf x) ≡ x
+    back (Copied.Done t j l) = refl
+    back (Copied.Refused e i c) = refl
+
 module _ (kind : ℕ) (s : Bytes) (ta₀ tb₀ : List ℤ) (r₀ : Bytes) where
   pub promise : (a : Copied) (ta tb : List ℤ) (r : Bytes) → a ≡ copyOf kind (length ta₀) (length tb₀) s (length r₀) → r ≡ roomAfter kind (length ta₀) (length tb₀) s r₀ →
       ta ≡ atomsAfter kind (length tb₀) s ta₀ → tb ≡ bondsAfter kind (length ta₀) s tb₀ → Promise kind s ta₀ tb₀ r₀ a ta tb r
@@ -201,14 +225,15 @@ module _ (kind : ℕ) (s : Bytes) (ta₀ tb₀ : List ℤ) (r₀ : Bytes) where
         bonds = gb;
         tables = P.promise s ta₀ tb₀ kind (readOf kind (length ta₀) (length tb₀) s) ta tb refl ga gb;
         accepted = λ t j l. (
-          (λ h. done-by kind s ta₀ tb₀ k t j l o (sym e ∙ h)),
+          (λ h. done-by kind s ta₀ tb₀ k t j l o (sym e ∙ same-copied a (Copied.Done t j l) h)),
           (λ c.
               let b = by-copies kind s ta₀ tb₀ k c in
-              e ∙ ap (answerBy s) (b .0) ∙ ap (λ (z : ℕ). Copied.Done z j (length (textOf (c .x)))) (sym (b .1)) ∙ ap (Copied.Done t j) (sym (c .size))),
+              ap numbersOf (e ∙ ap (answerBy s) (b .0) ∙ ap (λ (z : ℕ). Copied.Done z j (length (textOf (c .x)))) (sym (b .1)) ∙ ap (Copied.Done t j) (sym (c .size)))),
         );
         written = λ t j l c. f ∙ ap (roomBy r₀) (by-copies kind s ta₀ tb₀ k c .0) ∙ ap (λ (z : ℕ). textOf (c .x) ++ drop z r₀) (sym (c .size));
-        refused = λ n j c h. (
-          f ∙ room-by r₀ s n j c (copyFor kind (length ta₀) (length tb₀) s k) (sym e ∙ h),
-          refused-by kind s ta₀ tb₀ k n j c o (sym e ∙ h),
-        );
+        refused = λ n j c h.
+            let q = sym e ∙ same-copied a (Copied.Refused n j c) h in (
+              f ∙ room-by r₀ s n j c (copyFor kind (length ta₀) (length tb₀) s k) q,
+              refused-by kind s ta₀ tb₀ k n j c o q,
+            );
       }

@@ -58,14 +58,19 @@ pub data Refusal (g : Given) (k : ℕ) : ℕ → ℕ → ℕ → Type 0 where
       Refusal g k e line column
   room : {x : Reading} → Accepted g x → k < length (canonText x) → Refusal g k 20 0 0
 
+-- what an answer says: the length of the text, or the number, line and column of a refusal
+abbrev pub numbersOf : Written → PartVerdict ℕ
+numbersOf (Written.Done l) = good l
+numbersOf (Written.Refused e line column) = refused e line column
+
 -- room r₀ was lent, a is the answer, and the room is then r
 pub record Promise (g : Given) (r₀ : Bytes) (a : Written) (r : Bytes) : Type 0 where
   pub answer : a ≡ writeOf g (length r₀)
   pub room : r ≡ roomAfter g r₀
-  pub accepted : (l : ℕ) → (a ≡ Written.Done l) ↔ ((x : Reading) × Accepted g x × (l ≡ length (canonText x)) × (l ≤ length r₀))
+  pub accepted : (l : ℕ) → (numbersOf a ≡ good l) ↔ ((x : Reading) × Accepted g x × (l ≡ length (canonText x)) × (l ≤ length r₀))
   pub written : (x : Reading) → Accepted g x → length (canonText x) ≤ length r₀ → r ≡ canonText x ++ drop (length (canonText x)) r₀
-  pub refused : (e line column : ℕ) → a ≡ Written.Refused e line column → (r ≡ r₀) × Refusal g (length r₀) e line column
-  pub refuses : (e line column : ℕ) → Refusal g (length r₀) e line column → a ≡ Written.Refused e line column
+  pub refused : (e line column : ℕ) → numbersOf a ≡ PartVerdict.refused e line column → (r ≡ r₀) × Refusal g (length r₀) e line column
+  pub refuses : (e line column : ℕ) → Refusal g (length r₀) e line column → numbersOf a ≡ PartVerdict.refused e line column
 
 -- no two answers and no two rooms
 pub one-promise : {g : Given} {r₀ r s : Bytes} {a b : Written} → Promise g r₀ a r → Promise g r₀ b s → (a ≡ b) × (r ≡ s)
@@ -237,6 +242,18 @@ module _ (g : Given) where
 
 -- ---- The promise
 
+-- the numbers tell the answer
+abbrev backOf : PartVerdict ℕ → Written
+backOf (good l) = Written.Done l
+backOf (refused e line column) = Written.Refused e line column
+
+pub same-written : (a b : Written) → numbersOf a ≡ numbersOf b → a ≡ b
+same-written a b h = sym (back a) ∙ ap backOf h ∙ back b
+  where
+    back : (x : Written) → backOf (numbersOf x) ≡ x
+    back (Written.Done l) = refl
+    back (Written.Refused e line column) = refl
+
 module _ (g : Given) (r₀ : Bytes) where
   done-by : (l : ℕ) → (v : PartVerdict Bytes) → textFor g (length r₀) ≡ v → W.answer v ≡ Written.Done l →
       (x : Reading) × Accepted g x × (l ≡ length (canonText x)) × (l ≤ length r₀)
@@ -263,14 +280,14 @@ module _ (g : Given) (r₀ : Bytes) where
         answer = e;
         room = f;
         accepted = λ l. (
-          (λ h. done-by l (textFor g (length r₀)) refl (sym e ∙ h)),
-          (λ x. e ∙ ap W.answer (text-of g (length r₀) (x .0) (x .1) (omega (arith, x .2, x .3))) ∙ ap Written.Done (sym (x .2))),
+          (λ h. done-by l (textFor g (length r₀)) refl (sym e ∙ same-written a (Written.Done l) h)),
+          (λ x. ap numbersOf (e ∙ ap W.answer (text-of g (length r₀) (x .0) (x .1) (omega (arith, x .2, x .3))) ∙ ap Written.Done (sym (x .2)))),
         );
         written = λ x b h. f ∙ ap (W.room r₀) (text-of g (length r₀) x b h);
         refused = λ n line column h.
-            let k = refused-by n line column (textFor g (length r₀)) (told-text g (length r₀)) (sym e ∙ h) in
+            let k = refused-by n line column (textFor g (length r₀)) (told-text g (length r₀)) (sym e ∙ same-written a (Written.Refused n line column) h) in
             (f ∙ k .0, k .1);
-        refuses = λ n line column h. e ∙ refusal-answer g (length r₀) h;
+        refuses = λ n line column h. ap numbersOf (e ∙ refusal-answer g (length r₀) h);
       }
 
   -- as the code comes to its two ends: j is what the tests found
