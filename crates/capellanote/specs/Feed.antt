@@ -1,0 +1,130 @@
+-- The answer of the counter to a part: what the array holds, and what the last array of a sequence of calls tells in the words of the rules.
+use Prim.Native.Nat.{ℕ, zero, suc, _+_, _<_, _^_}
+use native.Mathlib.Omega.{arith}
+use mathlib.Core.Path.{_≡_, refl, sym, ap, _∙_}
+use mathlib.Core.Logic.{_↔_, _⊎_, inl, inr}
+use mathlib.Core.Bool.{Bool, true, false}
+use mathlib.Core.List.{List, [], _∷_}
+use lib.ListN.{length}
+use Rattle.text.specs.Text.{Bytes}
+use Rattle.rules.specs.Record.{Raw, GoodSDfile}
+use Rattle.reader_walk.specs.Promise.{Said}
+use Rattle.reader_feed.specs.declared.Counter.{Counter}
+use Rattle.reader_feed.specs.declared.Fed.{Fed}
+use Rattle.reader_feed.specs.Fed.{begun, fedOf}
+use Rattle.reader_feed.specs.Says.{Told, accepted, refused, too-long}
+use Rattle.reader_feed.specs.TooLong.{TooLong}
+use Rattle.reader_feed.specs.Calls.{fedAs, Feeds}
+use Rattle.reader_feed.specs.Promise.{Writes, counter-writes}
+use Rattle.capellanote.specs.Answer.{number, byFirst, first-refused, first-found, first-zero}
+use Rattle.capellanote.specs.Check.{at-numbered}
+
+-- a byte of C as a truth value
+abbrev pub truth : ℕ → Bool
+truth zero = false
+truth (suc n) = true
+
+-- 0, and 0 where more is asked for: records, lines, bytes used; 1 where the input is accepted: records; 2 where a record is too long: which
+unfoldable pub fedNumbers : Fed → List ℕ
+fedNumbers (Fed.More c used) = 0 ∷ (0 ∷ (c .records ∷ (c .lines ∷ (used ∷ []))))
+fedNumbers (Fed.Accepted n) = 0 ∷ (1 ∷ (n ∷ (0 ∷ (0 ∷ []))))
+fedNumbers (Fed.Refused e i column) = e ∷ (i ∷ (column ∷ (0 ∷ (0 ∷ []))))
+fedNumbers (Fed.TooLong k) = 0 ∷ (2 ∷ (k ∷ (0 ∷ (0 ∷ []))))
+
+-- what an array tells
+abbrev pub goodTold : ℕ → List ℕ → Fed
+goodTold zero a = Fed.More (record { records = number a 2; lines = number a 3 }) (number a 4)
+goodTold (suc zero) a = Fed.Accepted (number a 2)
+goodTold (suc (suc n)) a = Fed.TooLong (number a 2)
+
+unfoldable pub fedTold : List ℕ → Fed
+fedTold a = byFirst (number a 0) (goodTold (number a 1) a) (λ e. Fed.Refused e (number a 1) (number a 2))
+
+-- by the rules the input is a good SDfile, or one of its records is too long
+abbrev pub Good : ℕ → Bytes → Type 0
+Good room t = ((xs : List Raw) × GoodSDfile t xs) ⊎ ((k : ℕ) × TooLong room t k)
+
+-- ---- The array, of the answer
+
+module _ (x : Fed) where
+  pub fed-more : (c : Counter) (used : ℕ) → x ≡ Fed.More c used → 0 ∷ (0 ∷ (c .records ∷ (c .lines ∷ (used ∷ [])))) ≡ fedNumbers x
+  unfolding fedNumbers
+  fed-more c used h = ap fedNumbers (sym h)
+
+  pub fed-accepted : (n : ℕ) → x ≡ Fed.Accepted n → 0 ∷ (1 ∷ (n ∷ (0 ∷ (0 ∷ [])))) ≡ fedNumbers x
+  unfolding fedNumbers
+  fed-accepted n h = ap fedNumbers (sym h)
+
+  pub fed-refusal : (e i column : ℕ) → x ≡ Fed.Refused e i column → e ∷ (i ∷ (column ∷ (0 ∷ (0 ∷ [])))) ≡ fedNumbers x
+  unfolding fedNumbers
+  fed-refusal e i column h = ap fedNumbers (sym h)
+
+  pub fed-long : (k : ℕ) → x ≡ Fed.TooLong k → 0 ∷ (2 ∷ (k ∷ (0 ∷ (0 ∷ [])))) ≡ fedNumbers x
+  unfolding fedNumbers
+  fed-long k h = ap fedNumbers (sym h)
+
+pub ruleset fed-array = (fed-more, fed-accepted, fed-refusal, fed-long)
+
+pub fed-held : (c : Counter) (part : Bytes) (t : Bool) (b room : ℕ) (x : Fed) (out : List ℕ) → out ≡ fedNumbers x → x ≡ fedOf c part t room → t ≡ truth b →
+    out ≡ fedNumbers (fedOf c part (truth b) room)
+fed-held c part t b room x out e h q = e ∙ ap fedNumbers (h ∙ ap (λ (u : Bool). fedOf c part u room) q)
+
+pub ruleset fed-laws = fed-held
+
+pub truth-none : (b : ℕ) → b ≡ 0 → false ≡ truth b
+truth-none zero h = refl
+truth-none (suc n) h = absurd (omega (arith, h))
+
+pub truth-some : (b : ℕ) → (b ≡ 0 → ⊥) → true ≡ truth b
+truth-some zero h = absurd (h refl)
+truth-some (suc n) h = refl
+
+pub ruleset truth-laws = (truth-none, truth-some)
+
+-- ---- After the last call of a sequence over an input: the array tells what is to be said of it, since no refusal has the number 0
+
+apart-accepted : {X : Type 0} {e i c n : ℕ} → Fed.Refused e i c ≡ Fed.Accepted n → X
+apart-accepted h = absurd (let z : _≡_ {A = ℕ} 0 1 = cc in omega arith)
+
+apart-long : {X : Type 0} {e i c n : ℕ} → Fed.Refused e i c ≡ Fed.TooLong n → X
+apart-long h = absurd (let z : _≡_ {A = ℕ} 0 1 = cc in omega arith)
+
+good-kept : {X : Type 0} (n : ℕ) (a : List ℕ) (e i c : ℕ) → goodTold n a ≡ Fed.Refused e i c → X
+good-kept zero a e i c h = absurd (let z : _≡_ {A = ℕ} 0 1 = cc in omega arith)
+good-kept (suc zero) a e i c h = apart-accepted (sym h)
+good-kept (suc (suc n)) a e i c h = apart-long (sym h)
+
+module _ (a : List ℕ) where
+  zero-told : (y : Fed) → ((e : ℕ) → Fed.Refused e (number a 1) (number a 2) ≡ y → ⊥) → fedTold a ≡ y → number a 0 ≡ 0
+  unfolding fedTold
+  zero-told y other h = first-zero (number a 0) (goodTold (number a 1) a) y (λ (e : ℕ). Fed.Refused e (number a 1) (number a 2)) other h
+
+  told-zero : {X : Type 0} (e i c : ℕ) → number a 0 ≡ 0 → fedTold a ≡ Fed.Refused e i c → X
+  unfolding fedTold
+  told-zero e i c z h =
+      good-kept (number a 1) a e i c (sym (first-found (number a 0) (goodTold (number a 1) a) (λ (e : ℕ). Fed.Refused e (number a 1) (number a 2)) z) ∙ h)
+
+  ends : (room : ℕ) (t : Bytes) (told : Told) → Writes room t told → fedTold a ≡ fedAs told → (number a 0 ≡ 0) ↔ Good room t
+  ends room t (accepted n) w h = ((λ z. let g = w .0 .accepts n .0 refl in inl (g .0, g .1)), (λ g. zero-told (Fed.Accepted n) (λ e. apart-accepted) h))
+  ends room t (too-long k) w h = ((λ z. inr (k, w)), (λ g. zero-told (Fed.TooLong k) (λ e. apart-long) h))
+  ends room t (refused e i c) w h = ((λ z. told-zero e i c z h), off)
+    where
+      off : Good room t → number a 0 ≡ 0
+      off (inl g) =
+          let q : Said.refused e i c ≡ Said.accepted (length (g .0)) = w .0 .accepts (length (g .0)) .1 (g .0, g .1, refl) in
+          absurd (let z : _≡_ {A = ℕ} 0 1 = cc in omega arith)
+      off (inr l) = absurd (w .1 (l .0) (l .1))
+
+tells : (room : ℕ) (t : Bytes) (told : Told) → Writes room t told → fedTold (fedNumbers (fedAs told)) ≡ fedAs told
+unfolding fedNumbers fedTold
+tells room t (accepted n) w = refl
+tells room t (too-long k) w = refl
+tells room t (refused e i c) w = first-refused e (goodTold i (fedNumbers (Fed.Refused e i c))) (λ (n : ℕ). Fed.Refused n i c) (at-numbered (w .0 .refuses e i c refl))
+
+module _ (room : ℕ) (t : Bytes) (told : Told) (a : List ℕ) (few : length t + 1 < 2 ^ 64) (f : Feeds room begun t told) (h : a ≡ fedNumbers (fedAs told)) where
+  pub feed-told : (fedTold a ≡ fedAs told) × Writes room t told
+  feed-told = let w = counter-writes room t told few f in (ap fedTold h ∙ tells room t told w, w)
+
+  -- the first number is 0 exactly if the input is a good SDfile or has a record that is too long
+  pub feed-good : (number a 0 ≡ 0) ↔ Good room t
+  feed-good = ends a room t told (feed-told .1) (feed-told .0)
