@@ -2,7 +2,8 @@
 use Prim.Native.Nat.{ℕ, zero, suc, _≤_}
 use native.Mathlib.Omega.{arith}
 use mathlib.Core.Path.{_≡_, refl}
-use mathlib.Core.List.{List, [], _∷_}
+use mathlib.Core.Logic.{_↔_}
+use mathlib.Core.List.{List}
 use lib.ListN.{getD}
 
 -- answer[i], as C counts
@@ -18,11 +19,8 @@ pub first-refused : {A : Type 0} (e : ℕ) (x : A) (refused : ℕ → A) → 1 �
 first-refused zero x refused h = absurd (omega (arith, h))
 first-refused (suc e) x refused h = refl
 
-pub first-found : {A : Type 0} (e : ℕ) (x : A) (refused : ℕ → A) → e ≡ 0 → byFirst e x refused ≡ x
-first-found zero x refused h = refl
-first-found (suc e) x refused h = absurd (omega (arith, h))
-
--- what is told is no refusal, so the first number is 0
-pub first-zero : {A : Type 0} (e : ℕ) (x y : A) (refused : ℕ → A) → ((n : ℕ) → refused n ≡ y → ⊥) → byFirst e x refused ≡ y → e ≡ 0
-first-zero zero x y refused other h = refl
-first-zero (suc e) x y refused other h = absurd (other (suc e) h)
+-- The first number is 0 exactly for good input, if what is then told is good, and good input is told as something that is no refusal.
+pub zero-exactly : {A Good : Type 0} (e : ℕ) (x : A) (refused : ℕ → A) →
+    (byFirst e x refused ≡ x → Good) → (Good → (y : A) × (byFirst e x refused ≡ y) × ((n : ℕ) → refused n ≡ y → ⊥)) → (e ≡ 0) ↔ Good
+zero-exactly zero x refused told good = ((λ h. told refl), (λ g. refl))
+zero-exactly (suc e) x refused told good = ((λ h. absurd (omega (arith, h))), (λ g. let y = good g in absurd (y .2 (suc e) (y .1))))

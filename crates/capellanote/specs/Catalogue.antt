@@ -14,7 +14,7 @@ use Rattle.reader_record.specs.Promise.{Roomy}
 use Rattle.writer_catalogue.specs.declared.Catalogue.{Catalogue}
 use Rattle.writer_catalogue.specs.Catalogue.{catalogueText, catalogueOf}
 use Rattle.writer_catalogue.specs.Promise.{Refusal, Promise}
-use Rattle.capellanote.specs.Answer.{number, byFirst, first-refused, first-found, first-zero}
+use Rattle.capellanote.specs.Answer.{number, byFirst, first-refused, zero-exactly}
 use Rattle.capellanote.specs.Check.{at-numbered}
 
 -- 0, length, records
@@ -66,20 +66,13 @@ pub ruleset catalogue-laws = (catalogue-held, catalogue-told)
 
 -- ---- The first number is 0 exactly for tables with room and a good SDfile whose text fits
 
-module _ (s : Bytes) (ta₀ tb₀ : List ℤ) (r₀ : Bytes) (ta tb : List ℤ) (r : Bytes) (a : List ℕ) (p : Promise s ta₀ tb₀ r₀ (catalogueTold a) ta tb r) where
-  zero-told : (n m : ℕ) → catalogueTold a ≡ Catalogue.Done n m → number a 0 ≡ 0
-  unfolding catalogueTold
-  zero-told n m h =
-      first-zero (number a 0) (Catalogue.Done (number a 1) (number a 2)) (Catalogue.Done n m) (λ (e : ℕ). Catalogue.Refused e (number a 1) (number a 2)) (λ e. apart) h
-
-  told-zero : number a 0 ≡ 0 → catalogueTold a ≡ Catalogue.Done (number a 1) (number a 2)
-  unfolding catalogueTold
-  told-zero h = first-found (number a 0) (Catalogue.Done (number a 1) (number a 2)) (λ (e : ℕ). Catalogue.Refused e (number a 1) (number a 2)) h
-
-  pub catalogue-good : (number a 0 ≡ 0) ↔ (Roomy ta₀ tb₀ × ((xs : List Raw) × GoodSDfile s xs × (length (catalogueText xs) ≤ length r₀)))
-  catalogue-good = (
-    (λ z. let d = p .accepted (number a 1) (number a 2) .0 (told-zero z) in (d .1, (d .0, d .2, omega (arith, d .3, d .5)))),
+pub catalogue-good : (s : Bytes) (ta₀ tb₀ : List ℤ) (r₀ : Bytes) (ta tb : List ℤ) (r : Bytes) (a : List ℕ) → Promise s ta₀ tb₀ r₀ (catalogueTold a) ta tb r →
+    (number a 0 ≡ 0) ↔ (Roomy ta₀ tb₀ × ((xs : List Raw) × GoodSDfile s xs × (length (catalogueText xs) ≤ length r₀)))
+unfolding catalogueTold
+catalogue-good s ta₀ tb₀ r₀ ta tb r a p =
+    zero-exactly (number a 0) (Catalogue.Done (number a 1) (number a 2)) (λ (e : ℕ). Catalogue.Refused e (number a 1) (number a 2))
+    (λ h. let d = p .accepted (number a 1) (number a 2) .0 h in (d .1, (d .0, d .2, omega (arith, d .3, d .5))))
     (λ x.
-        let xs = x .1 .0 in
-        zero-told (length (catalogueText xs)) (length xs) (p .accepted (length (catalogueText xs)) (length xs) .1 (xs, x .0, x .1 .1, refl, refl, x .1 .2))),
-  )
+    let xs = x .1 .0 in
+    let l = length (catalogueText xs) in
+    (Catalogue.Done l (length xs), p .accepted l (length xs) .1 (xs, x .0, x .1 .1, refl, refl, x .1 .2), λ n. apart))

@@ -12,7 +12,7 @@ use Rattle.reader_walk.specs.Promise.{Said, accepted, refused, RefusedAt, Check
 use Rattle.reader_walk.specs.Checking.{checkOf}
 use Rattle.reader_check.specs.declared.Answer.{Answer}
 use Rattle.reader_check.specs.Promised.{numbersOf, Promised}
-use Rattle.capellanote.specs.Answer.{number, byFirst, first-refused, first-found, first-zero}
+use Rattle.capellanote.specs.Answer.{number, byFirst, first-refused, zero-exactly}
 
 -- 0, records, 0
 unfoldable pub checkNumbers : Said → List ℕ
@@ -73,21 +73,16 @@ pub ruleset check-laws = (check-held, check-told)
 -- ---- The first number is 0 exactly for a good file
 
 module _ (s : Bytes) (a : List ℕ) where
-  zero-told : (n : ℕ) → checkTold a ≡ accepted n → number a 0 ≡ 0
-  unfolding checkTold
-  zero-told n h = first-zero (number a 0) (accepted (number a 1)) (accepted n) (λ (e : ℕ). refused e (number a 1) (number a 2)) (λ e. apart) h
+  told : (kind : ℕ) → CheckedAs kind s (checkTold a) → checkTold a ≡ accepted (number a 1) → GoodFile kind s
+  told zero p h = let g = p .accepts (number a 1) .0 h in (g .0, g .1)
+  told (suc zero) p h = let g = p .accepts (number a 1) .0 h in (g .0, g .1)
+  told (suc (suc kind)) p h = apart (sym p ∙ h)
 
-  told-zero : number a 0 ≡ 0 → checkTold a ≡ accepted (number a 1)
-  unfolding checkTold
-  told-zero h = first-found (number a 0) (accepted (number a 1)) (λ (e : ℕ). refused e (number a 1) (number a 2)) h
+  good : (kind : ℕ) → CheckedAs kind s (checkTold a) → GoodFile kind s → (y : Said) × (checkTold a ≡ y) × ((n : ℕ) → refused n (number a 1) (number a 2) ≡ y → ⊥)
+  good zero p g = (accepted 1, p .accepts 1 .1 (g .0, g .1, refl), λ n. apart)
+  good (suc zero) p g = (accepted (length (g .0)), p .accepts (length (g .0)) .1 (g .0, g .1, refl), λ n. apart)
+  good (suc (suc kind)) p g = absurd g
 
   pub check-good : (kind : ℕ) → CheckedAs kind s (checkTold a) → (number a 0 ≡ 0) ↔ GoodFile kind s
-  check-good zero p = (
-    (λ h. let g = p .accepts (number a 1) .0 (told-zero h) in (g .0, g .1)),
-    (λ g. zero-told 1 (p .accepts 1 .1 (g .0, g .1, refl))),
-  )
-  check-good (suc zero) p = (
-    (λ h. let g = p .accepts (number a 1) .0 (told-zero h) in (g .0, g .1)),
-    (λ g. zero-told (length (g .0)) (p .accepts (length (g .0)) .1 (g .0, g .1, refl))),
-  )
-  check-good (suc (suc kind)) p = ((λ h. apart (sym p ∙ told-zero h)), (λ g. absurd g))
+  unfolding checkTold
+  check-good kind p = zero-exactly (number a 0) (accepted (number a 1)) (λ (e : ℕ). refused e (number a 1) (number a 2)) (told kind p) (good kind p)

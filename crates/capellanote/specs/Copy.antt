@@ -10,7 +10,7 @@ use Rattle.text.specs.Text.{Bytes}
 use Rattle.writer_copy.specs.declared.Copied.{Copied}
 use Rattle.writer_copy.specs.Copy.{copyOf}
 use Rattle.writer_copy.specs.Promise.{Copies, Refusal, Promise}
-use Rattle.capellanote.specs.Answer.{number, byFirst, first-refused, first-found, first-zero}
+use Rattle.capellanote.specs.Answer.{number, byFirst, first-refused, zero-exactly}
 use Rattle.capellanote.specs.Read.{refusal-numbered}
 
 -- 0, bytes and lines that the record takes, length of its text
@@ -62,18 +62,10 @@ pub ruleset copied-laws = (copied-held, copied-told)
 
 -- ---- The first number is 0 exactly where a record begins the text, and its text fits
 
-module _ (kind : ℕ) (s : Bytes) (ta₀ tb₀ : List ℤ) (r₀ : Bytes) (ta tb : List ℤ) (r : Bytes) (a : List ℕ) (p : Promise kind s ta₀ tb₀ r₀ (copiedTold a) ta tb r) where
-  zero-told : (t j l : ℕ) → copiedTold a ≡ Copied.Done t j l → number a 0 ≡ 0
-  unfolding copiedTold
-  zero-told t j l h =
-      first-zero (number a 0) (Copied.Done (number a 1) (number a 2) (number a 3)) (Copied.Done t j l) (λ (e : ℕ). Copied.Refused e (number a 1) (number a 2)) (λ e. apart) h
-
-  told-zero : number a 0 ≡ 0 → copiedTold a ≡ Copied.Done (number a 1) (number a 2) (number a 3)
-  unfolding copiedTold
-  told-zero h = first-found (number a 0) (Copied.Done (number a 1) (number a 2) (number a 3)) (λ (e : ℕ). Copied.Refused e (number a 1) (number a 2)) h
-
-  pub copy-good : (number a 0 ≡ 0) ↔ ((t : ℕ) × (j : ℕ) × (l : ℕ) × Copies kind s ta₀ tb₀ (length r₀) t j l)
-  copy-good = (
-    (λ z. (number a 1, number a 2, number a 3, p .accepted (number a 1) (number a 2) (number a 3) .0 (told-zero z))),
-    (λ c. zero-told (c .0) (c .1) (c .2) (p .accepted (c .0) (c .1) (c .2) .1 (c .3))),
-  )
+pub copy-good : (kind : ℕ) (s : Bytes) (ta₀ tb₀ : List ℤ) (r₀ : Bytes) (ta tb : List ℤ) (r : Bytes) (a : List ℕ) → Promise kind s ta₀ tb₀ r₀ (copiedTold a) ta tb r →
+    (number a 0 ≡ 0) ↔ ((t : ℕ) × (j : ℕ) × (l : ℕ) × Copies kind s ta₀ tb₀ (length r₀) t j l)
+unfolding copiedTold
+copy-good kind s ta₀ tb₀ r₀ ta tb r a p =
+    zero-exactly (number a 0) (Copied.Done (number a 1) (number a 2) (number a 3)) (λ (e : ℕ). Copied.Refused e (number a 1) (number a 2))
+    (λ h. (number a 1, number a 2, number a 3, p .accepted (number a 1) (number a 2) (number a 3) .0 h))
+    (λ c. (Copied.Done (c .0) (c .1) (c .2), p .accepted (c .0) (c .1) (c .2) .1 (c .3), λ n. apart))

@@ -16,7 +16,7 @@ use Rattle.reader_feed.specs.Says.{Told, accepted, refused, too-long}
 use Rattle.reader_feed.specs.TooLong.{TooLong}
 use Rattle.reader_feed.specs.Calls.{fedAs, Feeds}
 use Rattle.reader_feed.specs.Promise.{Writes, counter-writes}
-use Rattle.capellanote.specs.Answer.{number, byFirst, first-refused, first-found, first-zero}
+use Rattle.capellanote.specs.Answer.{number, byFirst, first-refused, zero-exactly}
 use Rattle.capellanote.specs.Check.{at-numbered}
 
 -- a byte of C as a truth value
@@ -94,26 +94,22 @@ good-kept zero a e i c h = absurd (let z : _≡_ {A = ℕ} 0 1 = cc in omega ari
 good-kept (suc zero) a e i c h = apart-accepted (sym h)
 good-kept (suc (suc n)) a e i c h = apart-long (sym h)
 
-module _ (a : List ℕ) where
-  zero-told : (y : Fed) → ((e : ℕ) → Fed.Refused e (number a 1) (number a 2) ≡ y → ⊥) → fedTold a ≡ y → number a 0 ≡ 0
-  unfolding fedTold
-  zero-told y other h = first-zero (number a 0) (goodTold (number a 1) a) y (λ (e : ℕ). Fed.Refused e (number a 1) (number a 2)) other h
+module _ (a : List ℕ) (room : ℕ) (t : Bytes) where
+  abbrev said : Fed
+  said = goodTold (number a 1) a
 
-  told-zero : {X : Type 0} (e i c : ℕ) → number a 0 ≡ 0 → fedTold a ≡ Fed.Refused e i c → X
-  unfolding fedTold
-  told-zero e i c z h =
-      good-kept (number a 1) a e i c (sym (first-found (number a 0) (goodTold (number a 1) a) (λ (e : ℕ). Fed.Refused e (number a 1) (number a 2)) z) ∙ h)
+  told : (x : Told) → Writes room t x → fedTold a ≡ fedAs x → fedTold a ≡ said → Good room t
+  told (accepted n) w h z = let g = w .0 .accepts n .0 refl in inl (g .0, g .1)
+  told (too-long k) w h z = inr (k, w)
+  told (refused e i c) w h z = good-kept (number a 1) a e i c (sym z ∙ h)
 
-  ends : (room : ℕ) (t : Bytes) (told : Told) → Writes room t told → fedTold a ≡ fedAs told → (number a 0 ≡ 0) ↔ Good room t
-  ends room t (accepted n) w h = ((λ z. let g = w .0 .accepts n .0 refl in inl (g .0, g .1)), (λ g. zero-told (Fed.Accepted n) (λ e. apart-accepted) h))
-  ends room t (too-long k) w h = ((λ z. inr (k, w)), (λ g. zero-told (Fed.TooLong k) (λ e. apart-long) h))
-  ends room t (refused e i c) w h = ((λ z. told-zero e i c z h), off)
-    where
-      off : Good room t → number a 0 ≡ 0
-      off (inl g) =
-          let q : Said.refused e i c ≡ Said.accepted (length (g .0)) = w .0 .accepts (length (g .0)) .1 (g .0, g .1, refl) in
-          absurd (let z : _≡_ {A = ℕ} 0 1 = cc in omega arith)
-      off (inr l) = absurd (w .1 (l .0) (l .1))
+  good : (x : Told) → Writes room t x → fedTold a ≡ fedAs x → Good room t → (y : Fed) × (fedTold a ≡ y) × ((n : ℕ) → Fed.Refused n (number a 1) (number a 2) ≡ y → ⊥)
+  good (accepted n) w h g = (Fed.Accepted n, h, λ e. apart-accepted)
+  good (too-long k) w h g = (Fed.TooLong k, h, λ e. apart-long)
+  good (refused e i c) w h (inl g) =
+      let q : Said.refused e i c ≡ Said.accepted (length (g .0)) = w .0 .accepts (length (g .0)) .1 (g .0, g .1, refl) in
+      absurd (let z : _≡_ {A = ℕ} 0 1 = cc in omega arith)
+  good (refused e i c) w h (inr l) = absurd (w .1 (l .0) (l .1))
 
 tells : (room : ℕ) (t : Bytes) (told : Told) → Writes room t told → fedTold (fedNumbers (fedAs told)) ≡ fedAs told
 unfolding fedNumbers fedTold
@@ -121,10 +117,13 @@ tells room t (accepted n) w = refl
 tells room t (too-long k) w = refl
 tells room t (refused e i c) w = first-refused e (goodTold i (fedNumbers (Fed.Refused e i c))) (λ (n : ℕ). Fed.Refused n i c) (at-numbered (w .0 .refuses e i c refl))
 
-module _ (room : ℕ) (t : Bytes) (told : Told) (a : List ℕ) (few : length t + 1 < 2 ^ 64) (f : Feeds room begun t told) (h : a ≡ fedNumbers (fedAs told)) where
-  pub feed-told : (fedTold a ≡ fedAs told) × Writes room t told
-  feed-told = let w = counter-writes room t told few f in (ap fedTold h ∙ tells room t told w, w)
+module _ (room : ℕ) (t : Bytes) (x : Told) (a : List ℕ) (few : length t + 1 < 2 ^ 64) (f : Feeds room begun t x) (h : a ≡ fedNumbers (fedAs x)) where
+  pub feed-told : (fedTold a ≡ fedAs x) × Writes room t x
+  feed-told = let w = counter-writes room t x few f in (ap fedTold h ∙ tells room t x w, w)
 
   -- the first number is 0 exactly if the input is a good SDfile or has a record that is too long
   pub feed-good : (number a 0 ≡ 0) ↔ Good room t
-  feed-good = ends a room t told (feed-told .1) (feed-told .0)
+  unfolding fedTold
+  feed-good =
+      zero-exactly (number a 0) (said a room t) (λ (e : ℕ). Fed.Refused e (number a 1) (number a 2)) (told a room t x (feed-told .1) (feed-told .0))
+      (good a room t x (feed-told .1) (feed-told .0))

@@ -8,7 +8,7 @@ use Rattle.text.specs.Text.{Bytes}
 use Rattle.reader_item.specs.declared.Found.{Found}
 use Rattle.reader_item.specs.Find.{Said, item, refused, numbersOf, foundOf}
 use Rattle.reader_item.specs.Promise.{FoundAt, RefusedAt, Fetched, Promised}
-use Rattle.capellanote.specs.Answer.{number, byFirst, first-refused, first-found, first-zero}
+use Rattle.capellanote.specs.Answer.{number, byFirst, first-refused, zero-exactly}
 use Rattle.capellanote.specs.Read.{none-numbered}
 
 -- 0, start and end of the values
@@ -58,17 +58,8 @@ pub ruleset found-laws = (found-held, found-told)
 
 -- ---- The first number is 0 exactly where a good record has the item
 
-module _ (s name : Bytes) (a : List ℕ) (p : Fetched s name (foundTold a)) where
-  zero-told : (from to : ℕ) → foundTold a ≡ item from to → number a 0 ≡ 0
-  unfolding foundTold
-  zero-told from to h = first-zero (number a 0) (item (number a 1) (number a 2)) (item from to) (λ (e : ℕ). refused e (number a 1) (number a 2)) (λ e. apart) h
-
-  told-zero : number a 0 ≡ 0 → foundTold a ≡ item (number a 1) (number a 2)
-  unfolding foundTold
-  told-zero h = first-found (number a 0) (item (number a 1) (number a 2)) (λ (e : ℕ). refused e (number a 1) (number a 2)) h
-
-  pub find-good : (number a 0 ≡ 0) ↔ ((from : ℕ) × (to : ℕ) × FoundAt s name from to)
-  find-good = (
-    (λ z. (number a 1, number a 2, p .finds (number a 1) (number a 2) .0 (told-zero z))),
-    (λ g. zero-told (g .0) (g .1) (p .finds (g .0) (g .1) .1 (g .2))),
-  )
+pub find-good : (s name : Bytes) (a : List ℕ) → Fetched s name (foundTold a) → (number a 0 ≡ 0) ↔ ((from : ℕ) × (to : ℕ) × FoundAt s name from to)
+unfolding foundTold
+find-good s name a p =
+    zero-exactly (number a 0) (item (number a 1) (number a 2)) (λ (e : ℕ). refused e (number a 1) (number a 2))
+    (λ h. (number a 1, number a 2, p .finds (number a 1) (number a 2) .0 h)) (λ g. (item (g .0) (g .1), p .finds (g .0) (g .1) .1 (g .2), λ n. apart))

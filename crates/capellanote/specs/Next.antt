@@ -1,5 +1,5 @@
 -- The answer of a cursor over a file: what the array holds, and what it tells in the words of the rules.
-use Prim.Native.Nat.{ℕ, zero, suc, _≤_}
+use Prim.Native.Nat.{ℕ, zero, suc, _+_, _≤_}
 use native.Mathlib.Omega.{arith}
 use mathlib.Core.Path.{_≡_, refl, sym, ap, _∙_, subst}
 use mathlib.Core.Logic.{_↔_}
@@ -20,8 +20,8 @@ use Rattle.reader_record.specs.Told.{replyOf, begins-told}
 use Rattle.reader_file.specs.declared.Cursor.{Cursor}
 use Rattle.reader_file.specs.declared.Next.{Next}
 use Rattle.reader_file.specs.Next.{Within, within, nextBy, nextAt, atomsAt, bondsAt, nextOn, atomsOn, bondsOn, nextOf, atomsNext, bondsNext}
-use Rattle.reader_file.specs.Stepping.{not-left, many-lines, many-records, here, all-within}
-use Rattle.capellanote.specs.Answer.{number, byFirst, first-refused, first-found, first-zero}
+use Rattle.reader_file.specs.Stepping.{here}
+use Rattle.capellanote.specs.Answer.{number, byFirst, first-refused, zero-exactly}
 use Rattle.capellanote.specs.Read.{by-room, read-numbered}
 
 -- 0, then of a record its eight numbers as a reading tells them, the cursor past it, and 1; at the end and after a refusal the cursor is the one handed in
@@ -35,10 +35,11 @@ nextNumbers c (Next.Refused e i column) = e ∷ (i ∷ (column ∷ (0 ∷ (0 ∷
 abbrev pub cursorTold : List ℕ → Cursor
 cursorTold a = record { at = number a 9; lines = number a 10; records = number a 11 }
 
+abbrev pub recordTold : List ℕ → Next
+recordTold a = Next.Record (number a 1) (number a 2) (number a 3) (number a 4) (number a 5) (number a 6) (number a 7) (number a 8) (cursorTold a)
+
 abbrev pub foundTold : List ℕ → Next
-foundTold a =
-    byFirst (number a 12) Next.End
-    (λ e. Next.Record (number a 1) (number a 2) (number a 3) (number a 4) (number a 5) (number a 6) (number a 7) (number a 8) (cursorTold a))
+foundTold a = byFirst (number a 12) Next.End (λ e. recordTold a)
 
 unfoldable pub nextTold : List ℕ → Next
 nextTold a = byFirst (number a 0) (foundTold a) (λ e. Next.Refused e (number a 1) (number a 2))
@@ -51,17 +52,26 @@ pub record NextPromise (c : Cursor) (s : Bytes) (ta tb : List ℤ) (r : Next) (t
   pub at-end : Roomy ta tb → ¬ Within c s → (r ≡ Next.End) × (ta′ ≡ ta) × (tb′ ≡ tb)
   pub reads : Roomy ta tb → Within c s → (x : RecordRead) × (r ≡ nextBy c x) × ReadPromise 1 (drop (c .at) s) ta tb x ta′ tb′
 
-by-within : {X : Type 0} (c : Cursor) (s : Bytes) → (Within c s → X) → (within c s ≡ false → X) → X
+by-within : {X : Type 0} (c : Cursor) (s : Bytes) → (Within c s → X) → (¬ Within c s → X) → X
 by-within {X} c s y n = go (ltb (c .at) (length s)) refl (leb (c .lines) (c .at)) refl (leb (c .records) (c .lines)) refl
   where
     go : (t : Bool) → ltb (c .at) (length s) ≡ t → (u : Bool) → leb (c .lines) (c .at) ≡ u → (v : Bool) → leb (c .records) (c .lines) ≡ v → X
-    go false p u q v w = n (not-left c s (ltb-false (c .at) (length s) p))
-    go true p false q v w = n (many-lines c s (ltb-true (c .at) (length s) p) (leb-false (c .lines) (c .at) q))
-    go true p true q false w = n (many-records c s (ltb-true (c .at) (length s) p) (leb-true (c .lines) (c .at) q) (leb-false (c .records) (c .lines) w))
-    go true p true q true w = y (all-within c s (ltb-true (c .at) (length s) p) (leb-true (c .lines) (c .at) q) (leb-true (c .records) (c .lines) w))
+    go false p u q v r = let h = ltb-false (c .at) (length s) p in n (λ w. omega (arith, h, w .left))
+    go true p false q v r = let h = leb-false (c .lines) (c .at) q in n (λ w. omega (arith, h, w .lines))
+    go true p true q false r = let h = leb-false (c .records) (c .lines) r in n (λ w. omega (arith, h, w .records))
+    go true p true q true r =
+        y (record { left = ltb-true (c .at) (length s) p; lines = leb-true (c .lines) (c .at) q; records = leb-true (c .records) (c .lines) r })
 
 not-within : (c : Cursor) (s : Bytes) → ¬ Within c s → within c s ≡ false
-not-within c s n = by-within c s (λ w. absurd (n w)) (λ e. e)
+unfolding within
+not-within c s n = go (ltb (c .at) (length s)) refl (leb (c .lines) (c .at)) refl (leb (c .records) (c .lines)) refl
+  where
+    go : (t : Bool) → ltb (c .at) (length s) ≡ t → (u : Bool) → leb (c .lines) (c .at) ≡ u → (v : Bool) → leb (c .records) (c .lines) ≡ v → within c s ≡ false
+    go false p u q v r = rw p
+    go true p false q v r = rw (p, q)
+    go true p true q false r = rw (p, q, r)
+    go true p true q true r =
+        absurd (n (record { left = ltb-true (c .at) (length s) p; lines = leb-true (c .lines) (c .at) q; records = leb-true (c .records) (c .lines) r }))
 
 module _ {A : Type 0} (ta tb : List ℤ) (x y : A) where
   room-short : ¬ Roomy ta tb → byRoom (length ta) (length tb) x y ≡ x
@@ -134,7 +144,7 @@ module _ (c : Cursor) (s : Bytes) (ta tb ta′ tb′ : List ℤ) where
   numbered : (e i column : ℕ) → NextPromise c s ta tb (Next.Refused e i column) ta′ tb′ → 1 ≤ e
   numbered e i column p =
       by-room ta tb
-      (λ y. by-within c s (λ w. let x = p .reads y w in refused-by e i column (x .0) (x .1) (x .2)) (λ f. apart-end (p .at-end y (λ w. absurd (let z : true ≡ false = sym (here c s w) ∙ f in let o : _≡_ {A = ℕ} 0 1 = cc in omega arith)) .0)))
+      (λ y. by-within c s (λ w. let x = p .reads y w in refused-by e i column (x .0) (x .1) (x .2)) (λ n. apart-end (p .at-end y n .0)))
       (λ n. let z = same-number (p .no-room n .0) in omega (arith, z))
 
   tells : (x : Next) → NextPromise c s ta tb x ta′ tb′ → nextTold (nextNumbers c x) ≡ x
@@ -156,37 +166,40 @@ pub ruleset next-laws = (next-held, next-told)
 
 -- ---- The first number is 0 exactly where the tables have room, and what is left of the file, if anything, begins with a record
 
+-- what is told with a first number of 0 is no refusal
+found-kept : {X : Type 0} (a : List ℕ) (n e i k : ℕ) → byFirst n Next.End (λ (j : ℕ). recordTold a) ≡ Next.Refused e i k → X
+found-kept a zero e i k h = apart-end (sym h)
+found-kept a (suc n) e i k h = apart-record (sym h)
+
 module _ (c : Cursor) (s : Bytes) (ta tb : List ℤ) (a : List ℕ) (ta′ tb′ : List ℤ) (p : NextPromise c s ta tb (nextTold a) ta′ tb′) where
-  found-kept : {X : Type 0} (e i k : ℕ) → foundTold a ≡ Next.Refused e i k → X
-  found-kept {X} e i k h = go (number a 12) h
-    where
-      go : (n : ℕ) → byFirst n Next.End (λ (j : ℕ). Next.Record (number a 1) (number a 2) (number a 3) (number a 4) (number a 5) (number a 6) (number a 7) (number a 8) (cursorTold a)) ≡ Next.Refused e i k → X
-      go zero h = apart-end (sym h)
-      go (suc n) h = apart-record (sym h)
+  abbrev Good : Type 0
+  Good = Roomy ta tb × (Within c s → (x : Raw) × Begins sdfile (drop (c .at) s) x)
 
-  told-zero : {X : Type 0} (e i k : ℕ) → number a 0 ≡ 0 → nextTold a ≡ Next.Refused e i k → X
-  unfolding nextTold
-  told-zero e i k z h = found-kept e i k (sym (first-found (number a 0) (foundTold a) (λ (j : ℕ). Next.Refused j (number a 1) (number a 2)) z) ∙ h)
+  abbrev Kept : Type 0
+  Kept = (y : Next) × (nextTold a ≡ y) × ((n : ℕ) → Next.Refused n (number a 1) (number a 2) ≡ y → ⊥)
 
-  record-by : number a 0 ≡ 0 → (x : RecordRead) → nextTold a ≡ nextBy c x → ReadPromise 1 (drop (c .at) s) ta tb x ta′ tb′ → Roomy ta tb → (y : Raw) × Begins sdfile (drop (c .at) s) y
-  record-by z (RecordRead.Read n m chiral bytes lines h i j) q r y = let g = r .reads sdfile refl y .accepts _ .0 refl in (g .0, g .1)
-  record-by z (RecordRead.Refused e i k) q r y = told-zero e _ k z q
+  told-record : nextTold a ≡ foundTold a → (x : RecordRead) → nextTold a ≡ nextBy c x → ReadPromise 1 (drop (c .at) s) ta tb x ta′ tb′ → Roomy ta tb → (x : Raw) × Begins sdfile (drop (c .at) s) x
+  told-record h (RecordRead.Read n m chiral bytes lines e i j) q r y = let g = r .reads sdfile refl y .accepts _ .0 refl in (g .0, g .1)
+  told-record h (RecordRead.Refused e i k) q r y = found-kept a (number a 12) e (c .lines + i) k (sym h ∙ q)
 
-  zero-told : (x : RecordRead) → nextTold a ≡ nextBy c x → ReadPromise 1 (drop (c .at) s) ta tb x ta′ tb′ → Roomy ta tb → (y : Raw) → Begins sdfile (drop (c .at) s) y → number a 0 ≡ 0
-  unfolding nextTold
-  zero-told (RecordRead.Read n m chiral bytes lines h i j) q r y x b =
-      first-zero (number a 0) (foundTold a) _ (λ (e : ℕ). Next.Refused e (number a 1) (number a 2)) (λ e. apart-record) q
-  zero-told (RecordRead.Refused e i k) q r y x b =
+  told : nextTold a ≡ foundTold a → Good
+  told h =
+      by-room ta tb (λ y. (y, λ w. let x = p .reads y w in told-record h (x .0) (x .1) (x .2) y))
+      (λ n. found-kept a (number a 12) 2 0 0 (sym h ∙ p .no-room n .0))
+
+  good-record : (x : RecordRead) → nextTold a ≡ nextBy c x → ReadPromise 1 (drop (c .at) s) ta tb x ta′ tb′ → Roomy ta tb → (x : Raw) × Begins sdfile (drop (c .at) s) x → Kept
+  good-record (RecordRead.Read n m chiral bytes lines e i j) q r y b = (nextBy c (RecordRead.Read n m chiral bytes lines e i j), q, λ n. apart-record)
+  good-record (RecordRead.Refused e i k) q r y b =
       let t = drop (c .at) s in
-      let h : numbersOf (RecordRead.Refused e i k) ≡ accepted (replyOf sdfile t x) = r .reads sdfile refl y .accepts (replyOf sdfile t x) .1 (x, b, begins-told sdfile t x b) in
+      let w = replyOf sdfile t (b .0) in
+      let h : numbersOf (RecordRead.Refused e i k) ≡ accepted w = r .reads sdfile refl y .accepts w .1 (b .0, b .1, begins-told sdfile t (b .0) (b .1)) in
       absurd (let z : _≡_ {A = ℕ} 0 1 = cc in omega arith)
 
-  end-told : nextTold a ≡ Next.End → number a 0 ≡ 0
-  unfolding nextTold
-  end-told h = first-zero (number a 0) (foundTold a) Next.End (λ (e : ℕ). Next.Refused e (number a 1) (number a 2)) (λ e. apart-end) h
+  good : Good → Kept
+  good g =
+      by-within c s (λ w. let x = p .reads (g .0) w in good-record (x .0) (x .1) (x .2) (g .0) (g .1 w))
+      (λ n. (Next.End, p .at-end (g .0) n .0, λ n. apart-end))
 
-  pub next-good : (number a 0 ≡ 0) ↔ (Roomy ta tb × (Within c s → (x : Raw) × Begins sdfile (drop (c .at) s) x))
-  next-good = (
-    (λ z. by-room ta tb (λ y. (y, λ w. let x = p .reads y w in record-by z (x .0) (x .1) (x .2) y)) (λ n. told-zero 2 0 0 z (p .no-room n .0))),
-    (λ g. by-within c s (λ w. let x = p .reads (g .0) w in let b = g .1 w in zero-told (x .0) (x .1) (x .2) (g .0) (b .0) (b .1)) (λ f. end-told (p .at-end (g .0) (λ w. absurd (let z : true ≡ false = sym (here c s w) ∙ f in let o : _≡_ {A = ℕ} 0 1 = cc in omega arith)) .0))),
-  )
+  pub next-good : (number a 0 ≡ 0) ↔ Good
+  unfolding nextTold
+  next-good = zero-exactly (number a 0) (foundTold a) (λ (e : ℕ). Next.Refused e (number a 1) (number a 2)) told good

@@ -11,7 +11,7 @@ use Rattle.judge_parts.specs.AnyPart.{PartRefusal}
 use Rattle.writer_record.specs.declared.Written.{Written}
 use Rattle.writer_record.specs.Write.{Given, canonText, writeOf}
 use Rattle.writer_record.specs.Promise.{Accepted, Refusal, Promise}
-use Rattle.capellanote.specs.Answer.{number, byFirst, first-refused, first-found, first-zero}
+use Rattle.capellanote.specs.Answer.{number, byFirst, first-refused, zero-exactly}
 
 -- 0, length, 0
 unfoldable pub writtenNumbers : Written → List ℕ
@@ -67,17 +67,10 @@ pub ruleset written-laws = (written-held, written-told)
 
 -- ---- The first number is 0 exactly where what is handed in can be written, and fits
 
-module _ (g : Given) (r₀ r : Bytes) (a : List ℕ) (p : Promise g r₀ (writtenTold a) r) where
-  zero-told : (n : ℕ) → writtenTold a ≡ Written.Done n → number a 0 ≡ 0
-  unfolding writtenTold
-  zero-told n h = first-zero (number a 0) (Written.Done (number a 1)) (Written.Done n) (λ (e : ℕ). Written.Refused e (number a 1) (number a 2)) (λ e. apart) h
-
-  told-zero : number a 0 ≡ 0 → writtenTold a ≡ Written.Done (number a 1)
-  unfolding writtenTold
-  told-zero h = first-found (number a 0) (Written.Done (number a 1)) (λ (e : ℕ). Written.Refused e (number a 1) (number a 2)) h
-
-  pub write-good : (number a 0 ≡ 0) ↔ ((x : Reading) × Accepted g x × (length (canonText x) ≤ length r₀))
-  write-good = (
-    (λ z. let d = p .accepted (number a 1) .0 (told-zero z) in (d .0, d .1, omega (arith, d .2, d .3))),
-    (λ x. zero-told (length (canonText (x .0))) (p .accepted (length (canonText (x .0))) .1 (x .0, x .1, refl, x .2))),
-  )
+pub write-good : (g : Given) (r₀ r : Bytes) (a : List ℕ) → Promise g r₀ (writtenTold a) r →
+    (number a 0 ≡ 0) ↔ ((x : Reading) × Accepted g x × (length (canonText x) ≤ length r₀))
+unfolding writtenTold
+write-good g r₀ r a p =
+    zero-exactly (number a 0) (Written.Done (number a 1)) (λ (e : ℕ). Written.Refused e (number a 1) (number a 2))
+    (λ h. let d = p .accepted (number a 1) .0 h in (d .0, d .1, omega (arith, d .2, d .3)))
+    (λ x. let l = length (canonText (x .0)) in (Written.Done l, p .accepted l .1 (x .0, x .1, refl, x .2), λ n. apart))
