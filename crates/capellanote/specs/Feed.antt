@@ -44,6 +44,10 @@ fedTold a = byFirst (number a 0) (goodTold (number a 1) a) (λ e. Fed.Refused e 
 abbrev pub Good : ℕ → Bytes → Type 0
 Good room t = ((xs : List Raw) × GoodSDfile t xs) ⊎ ((k : ℕ) × TooLong room t k)
 
+-- where a call answers as the last of a sequence over an input, its array tells what is to be said of that input
+pub record FeedPromise (c : Counter) (part : Bytes) (ended : Bool) (room : ℕ) (a : List ℕ) : Type 0 where
+  pub last : (t : Bytes) (x : Told) → length t + 1 < 2 ^ 64 → Feeds room begun t x → fedOf c part ended room ≡ fedAs x → (fedTold a ≡ fedAs x) × Writes room t x
+
 -- ---- The array, of the answer
 
 module _ (x : Fed) where
@@ -65,12 +69,6 @@ module _ (x : Fed) where
 
 pub ruleset fed-array = (fed-more, fed-accepted, fed-refusal, fed-long)
 
-pub fed-held : (c : Counter) (part : Bytes) (t : Bool) (b room : ℕ) (x : Fed) (out : List ℕ) → out ≡ fedNumbers x → x ≡ fedOf c part t room → t ≡ truth b →
-    out ≡ fedNumbers (fedOf c part (truth b) room)
-fed-held c part t b room x out e h q = e ∙ ap fedNumbers (h ∙ ap (λ (u : Bool). fedOf c part u room) q)
-
-pub ruleset fed-laws = fed-held
-
 pub truth-none : (b : ℕ) → b ≡ 0 → false ≡ truth b
 truth-none zero h = refl
 truth-none (suc n) h = absurd (omega (arith, h))
@@ -81,7 +79,29 @@ truth-some (suc n) h = refl
 
 pub ruleset truth-laws = (truth-none, truth-some)
 
--- ---- After the last call of a sequence over an input: the array tells what is to be said of it, since no refusal has the number 0
+-- ---- The last array tells what is to be said, since no refusal has the number 0
+
+tells : (room : ℕ) (t : Bytes) (told : Told) → Writes room t told → fedTold (fedNumbers (fedAs told)) ≡ fedAs told
+unfolding fedNumbers fedTold
+tells room t (accepted n) w = refl
+tells room t (too-long k) w = refl
+tells room t (refused e i c) w = first-refused e (goodTold i (fedNumbers (Fed.Refused e i c))) (λ (n : ℕ). Fed.Refused n i c) (at-numbered (w .0 .refuses e i c refl))
+
+module _ (c : Counter) (part : Bytes) (t : Bool) (b room : ℕ) (x : Fed) (out : List ℕ) (e : out ≡ fedNumbers x) (h : x ≡ fedOf c part t room) (q : t ≡ truth b) where
+  pub fed-held : out ≡ fedNumbers (fedOf c part (truth b) room)
+  fed-held = e ∙ ap fedNumbers (h ∙ ap (λ (u : Bool). fedOf c part u room) q)
+
+  pub fed-told : FeedPromise c part (truth b) room out
+  fed-told =
+      record {
+        last = λ s y few f same.
+            let w = counter-writes room s y few f in
+            (ap fedTold (fed-held ∙ ap fedNumbers same) ∙ tells room s y w, w);
+      }
+
+pub ruleset fed-laws = (fed-held, fed-told)
+
+-- ---- Its first number is 0 exactly if the input is a good SDfile or has a record that is too long
 
 apart-accepted : {X : Type 0} {e i c n : ℕ} → Fed.Refused e i c ≡ Fed.Accepted n → X
 apart-accepted h = absurd (let z : _≡_ {A = ℕ} 0 1 = cc in omega arith)
@@ -111,19 +131,9 @@ module _ (a : List ℕ) (room : ℕ) (t : Bytes) where
       absurd (let z : _≡_ {A = ℕ} 0 1 = cc in omega arith)
   good (refused e i c) w h (inr l) = absurd (w .1 (l .0) (l .1))
 
-tells : (room : ℕ) (t : Bytes) (told : Told) → Writes room t told → fedTold (fedNumbers (fedAs told)) ≡ fedAs told
-unfolding fedNumbers fedTold
-tells room t (accepted n) w = refl
-tells room t (too-long k) w = refl
-tells room t (refused e i c) w = first-refused e (goodTold i (fedNumbers (Fed.Refused e i c))) (λ (n : ℕ). Fed.Refused n i c) (at-numbered (w .0 .refuses e i c refl))
-
-module _ (room : ℕ) (t : Bytes) (x : Told) (a : List ℕ) (few : length t + 1 < 2 ^ 64) (f : Feeds room begun t x) (h : a ≡ fedNumbers (fedAs x)) where
-  pub feed-told : (fedTold a ≡ fedAs x) × Writes room t x
-  feed-told = let w = counter-writes room t x few f in (ap fedTold h ∙ tells room t x w, w)
-
-  -- the first number is 0 exactly if the input is a good SDfile or has a record that is too long
-  pub feed-good : (number a 0 ≡ 0) ↔ Good room t
+module _ (c : Counter) (part : Bytes) (ended : Bool) (room : ℕ) (a : List ℕ) (p : FeedPromise c part ended room a) where
+  pub feed-good : (t : Bytes) (x : Told) → length t + 1 < 2 ^ 64 → Feeds room begun t x → fedOf c part ended room ≡ fedAs x → (number a 0 ≡ 0) ↔ Good room t
   unfolding fedTold
-  feed-good =
-      zero-exactly (number a 0) (said a room t) (λ (e : ℕ). Fed.Refused e (number a 1) (number a 2)) (told a room t x (feed-told .1) (feed-told .0))
-      (good a room t x (feed-told .1) (feed-told .0))
+  feed-good t x few f same =
+      let l = p .last t x few f same in
+      zero-exactly (number a 0) (said a room t) (λ (e : ℕ). Fed.Refused e (number a 1) (number a 2)) (told a room t x (l .1) (l .0)) (good a room t x (l .1) (l .0))

@@ -22,7 +22,7 @@ ghost use Rattle.capellanote.specs.Check.{checkNumbers, checkTold};
 ghost use Rattle.capellanote.specs.Read.{readNumbers, readTold};
 ghost use Rattle.capellanote.specs.Find.{foundNumbers, foundTold};
 ghost use Rattle.capellanote.specs.Next.{nextNumbers, nextTold, NextPromise};
-ghost use Rattle.capellanote.specs.Feed.{truth, fedNumbers};
+ghost use Rattle.capellanote.specs.Feed.{truth, fedNumbers, FeedPromise};
 ghost use Rattle.capellanote.specs.Write.{writtenNumbers, writtenTold};
 ghost use Rattle.capellanote.specs.Copy.{copiedNumbers, copiedTold};
 ghost use Rattle.capellanote.specs.Catalogue.{catalogueNumbers, catalogueTold};
@@ -273,6 +273,7 @@ pub extern "C" fn capellanote_feed(
     answer: &mut [u64; 5],
 )
     ensures { λ _. ⌜ now (answer .exit) ≡ fedNumbers (fedOf (record { records = records; lines = lines }) (now (part .entry)) (truth ended) room) ⌝ }
+    ensures { λ _. ⌜ FeedPromise (record { records = records; lines = lines }) (now (part .entry)) (truth ended) room (now (answer .exit)) ⌝ }
 {
     let counter = Counter { records, lines };
     *answer = of_fed(counter.take(part, truth_of(ended), room));
