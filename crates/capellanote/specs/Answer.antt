@@ -19,8 +19,8 @@ pub first-refused : {A : Type 0} (e : ℕ) (x : A) (refused : ℕ → A) → 1 �
 first-refused zero x refused h = absurd (omega (arith, h))
 first-refused (suc e) x refused h = refl
 
--- The first number is 0 exactly for good input, if what is then told is good, and good input is told as something that is no refusal.
+-- The first number is 0 exactly for good input, if what is then told is good, and good input is told as no refusal.
 pub zero-exactly : {A Good : Type 0} (e : ℕ) (x : A) (refused : ℕ → A) →
-    (byFirst e x refused ≡ x → Good) → (Good → (y : A) × (byFirst e x refused ≡ y) × ((n : ℕ) → refused n ≡ y → ⊥)) → (e ≡ 0) ↔ Good
-zero-exactly zero x refused told good = ((λ h. told refl), (λ g. refl))
-zero-exactly (suc e) x refused told good = ((λ h. absurd (omega (arith, h))), (λ g. let y = good g in absurd (y .2 (suc e) (y .1))))
+    (byFirst e x refused ≡ x → Good) → (Good → (n : ℕ) → byFirst e x refused ≡ refused n → ⊥) → (e ≡ 0) ↔ Good
+zero-exactly zero x refused told kept = ((λ h. told refl), (λ g. refl))
+zero-exactly (suc e) x refused told kept = ((λ h. absurd (omega (arith, h))), (λ g. absurd (kept g (suc e) refl)))

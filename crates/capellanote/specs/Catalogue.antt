@@ -41,9 +41,6 @@ pub ruleset catalogue-array = (catalogue-done, catalogue-refused)
 
 -- ---- It tells that answer, since no refusal has the number 0
 
-apart : {X : Type 0} {e i c n m : ℕ} → Catalogue.Refused e i c ≡ Catalogue.Done n m → X
-apart h = absurd (let z : _≡_ {A = ℕ} 0 1 = cc in omega arith)
-
 numbered : {s : Bytes} {ta tb : List ℤ} {k e i column : ℕ} → Refusal s ta tb k e i column → 1 ≤ e
 numbered (Refusal.tables n) = omega arith
 numbered (Refusal.file y r) = at-numbered r
@@ -66,13 +63,23 @@ pub ruleset catalogue-laws = (catalogue-held, catalogue-told)
 
 -- ---- The first number is 0 exactly for tables with room and a good SDfile whose text fits
 
-pub catalogue-good : (s : Bytes) (ta₀ tb₀ : List ℤ) (r₀ : Bytes) (ta tb : List ℤ) (r : Bytes) (a : List ℕ) → Promise s ta₀ tb₀ r₀ (catalogueTold a) ta tb r →
-    (number a 0 ≡ 0) ↔ (Roomy ta₀ tb₀ × ((xs : List Raw) × GoodSDfile s xs × (length (catalogueText xs) ≤ length r₀)))
-unfolding catalogueTold
-catalogue-good s ta₀ tb₀ r₀ ta tb r a p =
-    zero-exactly (number a 0) (Catalogue.Done (number a 1) (number a 2)) (λ (e : ℕ). Catalogue.Refused e (number a 1) (number a 2))
-    (λ h. let d = p .accepted (number a 1) (number a 2) .0 h in (d .1, (d .0, d .2, omega (arith, d .3, d .5))))
-    (λ x.
-    let xs = x .1 .0 in
-    let l = length (catalogueText xs) in
-    (Catalogue.Done l (length xs), p .accepted l (length xs) .1 (xs, x .0, x .1 .1, refl, refl, x .1 .2), λ n. apart))
+module _ (s : Bytes) (ta₀ tb₀ : List ℤ) (r₀ : Bytes) (ta tb : List ℤ) (r : Bytes) (a : List ℕ) (p : Promise s ta₀ tb₀ r₀ (catalogueTold a) ta tb r) where
+  abbrev Good : Type 0
+  Good = Roomy ta₀ tb₀ × ((xs : List Raw) × GoodSDfile s xs × (length (catalogueText xs) ≤ length r₀))
+
+  told : catalogueTold a ≡ Catalogue.Done (number a 1) (number a 2) → Good
+  told h =
+      let q = subst (λ (y : Catalogue). Promise s ta₀ tb₀ r₀ y ta tb r) h p in
+      let d = q .accepted (number a 1) (number a 2) .0 refl in
+      (d .1, (d .0, d .2, omega (arith, d .3, d .5)))
+
+  kept : Good → (n : ℕ) → catalogueTold a ≡ Catalogue.Refused n (number a 1) (number a 2) → ⊥
+  kept x n h =
+      let q = subst (λ (y : Catalogue). Promise s ta₀ tb₀ r₀ y ta tb r) h p in
+      let xs = x .1 .0 in
+      let e = q .accepted (length (catalogueText xs)) (length xs) .1 (xs, x .0, x .1 .1, refl, refl, x .1 .2) in
+      absurd (let z : _≡_ {A = ℕ} 0 1 = cc in omega arith)
+
+  pub catalogue-good : (number a 0 ≡ 0) ↔ Good
+  unfolding catalogueTold
+  catalogue-good = zero-exactly (number a 0) (Catalogue.Done (number a 1) (number a 2)) (λ (e : ℕ). Catalogue.Refused e (number a 1) (number a 2)) told kept

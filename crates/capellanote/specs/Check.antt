@@ -78,11 +78,11 @@ module _ (s : Bytes) (a : List ℕ) where
   told (suc zero) p h = let g = p .accepts (number a 1) .0 h in (g .0, g .1)
   told (suc (suc kind)) p h = apart (sym p ∙ h)
 
-  good : (kind : ℕ) → CheckedAs kind s (checkTold a) → GoodFile kind s → (y : Said) × (checkTold a ≡ y) × ((n : ℕ) → refused n (number a 1) (number a 2) ≡ y → ⊥)
-  good zero p g = (accepted 1, p .accepts 1 .1 (g .0, g .1, refl), λ n. apart)
-  good (suc zero) p g = (accepted (length (g .0)), p .accepts (length (g .0)) .1 (g .0, g .1, refl), λ n. apart)
-  good (suc (suc kind)) p g = absurd g
+  kept : (kind : ℕ) → CheckedAs kind s (checkTold a) → GoodFile kind s → (n : ℕ) → checkTold a ≡ refused n (number a 1) (number a 2) → ⊥
+  kept zero p g n h = apart (sym h ∙ p .accepts 1 .1 (g .0, g .1, refl))
+  kept (suc zero) p g n h = apart (sym h ∙ p .accepts (length (g .0)) .1 (g .0, g .1, refl))
+  kept (suc (suc kind)) p g n h = absurd g
 
   pub check-good : (kind : ℕ) → CheckedAs kind s (checkTold a) → (number a 0 ≡ 0) ↔ GoodFile kind s
   unfolding checkTold
-  check-good kind p = zero-exactly (number a 0) (accepted (number a 1)) (λ (e : ℕ). refused e (number a 1) (number a 2)) (told kind p) (good kind p)
+  check-good kind p = zero-exactly (number a 0) (accepted (number a 1)) (λ (e : ℕ). refused e (number a 1) (number a 2)) (told kind p) (kept kind p)

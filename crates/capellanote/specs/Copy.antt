@@ -37,9 +37,6 @@ pub ruleset copied-array = (copied-done, copied-refused)
 
 -- ---- It tells that answer, since no refusal has the number 0
 
-apart : {X : Type 0} {e i c t j l : ℕ} → Copied.Refused e i c ≡ Copied.Done t j l → X
-apart h = absurd (let z : _≡_ {A = ℕ} 0 1 = cc in omega arith)
-
 numbered : {kind : ℕ} {s : Bytes} {ta tb : List ℤ} {k e i column : ℕ} → Refusal kind s ta tb k e i column → 1 ≤ e
 numbered (Refusal.other-kind h) = omega arith
 numbered (Refusal.tables h n) = omega arith
@@ -62,10 +59,21 @@ pub ruleset copied-laws = (copied-held, copied-told)
 
 -- ---- The first number is 0 exactly where a record begins the text, and its text fits
 
-pub copy-good : (kind : ℕ) (s : Bytes) (ta₀ tb₀ : List ℤ) (r₀ : Bytes) (ta tb : List ℤ) (r : Bytes) (a : List ℕ) → Promise kind s ta₀ tb₀ r₀ (copiedTold a) ta tb r →
-    (number a 0 ≡ 0) ↔ ((t : ℕ) × (j : ℕ) × (l : ℕ) × Copies kind s ta₀ tb₀ (length r₀) t j l)
-unfolding copiedTold
-copy-good kind s ta₀ tb₀ r₀ ta tb r a p =
-    zero-exactly (number a 0) (Copied.Done (number a 1) (number a 2) (number a 3)) (λ (e : ℕ). Copied.Refused e (number a 1) (number a 2))
-    (λ h. (number a 1, number a 2, number a 3, p .accepted (number a 1) (number a 2) (number a 3) .0 h))
-    (λ c. (Copied.Done (c .0) (c .1) (c .2), p .accepted (c .0) (c .1) (c .2) .1 (c .3), λ n. apart))
+module _ (kind : ℕ) (s : Bytes) (ta₀ tb₀ : List ℤ) (r₀ : Bytes) (ta tb : List ℤ) (r : Bytes) (a : List ℕ) (p : Promise kind s ta₀ tb₀ r₀ (copiedTold a) ta tb r) where
+  abbrev Good : Type 0
+  Good = (t : ℕ) × (j : ℕ) × (l : ℕ) × Copies kind s ta₀ tb₀ (length r₀) t j l
+
+  told : copiedTold a ≡ Copied.Done (number a 1) (number a 2) (number a 3) → Good
+  told h =
+      let q = subst (λ (y : Copied). Promise kind s ta₀ tb₀ r₀ y ta tb r) h p in
+      (number a 1, number a 2, number a 3, q .accepted (number a 1) (number a 2) (number a 3) .0 refl)
+
+  kept : Good → (n : ℕ) → copiedTold a ≡ Copied.Refused n (number a 1) (number a 2) → ⊥
+  kept c n h =
+      let q = subst (λ (y : Copied). Promise kind s ta₀ tb₀ r₀ y ta tb r) h p in
+      let e = q .accepted (c .0) (c .1) (c .2) .1 (c .3) in
+      absurd (let z : _≡_ {A = ℕ} 0 1 = cc in omega arith)
+
+  pub copy-good : (number a 0 ≡ 0) ↔ Good
+  unfolding copiedTold
+  copy-good = zero-exactly (number a 0) (Copied.Done (number a 1) (number a 2) (number a 3)) (λ (e : ℕ). Copied.Refused e (number a 1) (number a 2)) told kept

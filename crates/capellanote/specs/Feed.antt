@@ -123,17 +123,17 @@ module _ (a : List ℕ) (room : ℕ) (t : Bytes) where
   told (too-long k) w h z = inr (k, w)
   told (refused e i c) w h z = good-kept (number a 1) a e i c (sym z ∙ h)
 
-  good : (x : Told) → Writes room t x → fedTold a ≡ fedAs x → Good room t → (y : Fed) × (fedTold a ≡ y) × ((n : ℕ) → Fed.Refused n (number a 1) (number a 2) ≡ y → ⊥)
-  good (accepted n) w h g = (Fed.Accepted n, h, λ e. apart-accepted)
-  good (too-long k) w h g = (Fed.TooLong k, h, λ e. apart-long)
-  good (refused e i c) w h (inl g) =
+  kept : (x : Told) → Writes room t x → fedTold a ≡ fedAs x → Good room t → (n : ℕ) → fedTold a ≡ Fed.Refused n (number a 1) (number a 2) → ⊥
+  kept (accepted n) w h g e f = apart-accepted (sym f ∙ h)
+  kept (too-long k) w h g e f = apart-long (sym f ∙ h)
+  kept (refused e i c) w h (inl g) n f =
       let q : Said.refused e i c ≡ Said.accepted (length (g .0)) = w .0 .accepts (length (g .0)) .1 (g .0, g .1, refl) in
       absurd (let z : _≡_ {A = ℕ} 0 1 = cc in omega arith)
-  good (refused e i c) w h (inr l) = absurd (w .1 (l .0) (l .1))
+  kept (refused e i c) w h (inr l) n f = absurd (w .1 (l .0) (l .1))
 
 module _ (c : Counter) (part : Bytes) (ended : Bool) (room : ℕ) (a : List ℕ) (p : FeedPromise c part ended room a) where
   pub feed-good : (t : Bytes) (x : Told) → length t + 1 < 2 ^ 64 → Feeds room begun t x → fedOf c part ended room ≡ fedAs x → (number a 0 ≡ 0) ↔ Good room t
   unfolding fedTold
   feed-good t x few f same =
       let l = p .last t x few f same in
-      zero-exactly (number a 0) (said a room t) (λ (e : ℕ). Fed.Refused e (number a 1) (number a 2)) (told a room t x (l .1) (l .0)) (good a room t x (l .1) (l .0))
+      zero-exactly (number a 0) (said a room t) (λ (e : ℕ). Fed.Refused e (number a 1) (number a 2)) (told a room t x (l .1) (l .0)) (kept a room t x (l .1) (l .0))

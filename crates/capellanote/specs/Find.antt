@@ -62,4 +62,4 @@ pub find-good : (s name : Bytes) (a : List ℕ) → Fetched s name (foundTold a)
 unfolding foundTold
 find-good s name a p =
     zero-exactly (number a 0) (item (number a 1) (number a 2)) (λ (e : ℕ). refused e (number a 1) (number a 2))
-    (λ h. (number a 1, number a 2, p .finds (number a 1) (number a 2) .0 h)) (λ g. (item (g .0) (g .1), p .finds (g .0) (g .1) .1 (g .2), λ n. apart))
+    (λ h. (number a 1, number a 2, p .finds (number a 1) (number a 2) .0 h)) (λ g n h. apart (sym h ∙ p .finds (g .0) (g .1) .1 (g .2)))

@@ -175,9 +175,6 @@ module _ (c : Cursor) (s : Bytes) (ta tb : List ℤ) (a : List ℕ) (ta′ tb′
   abbrev Good : Type 0
   Good = Roomy ta tb × (Within c s → (x : Raw) × Begins sdfile (drop (c .at) s) x)
 
-  abbrev Kept : Type 0
-  Kept = (y : Next) × (nextTold a ≡ y) × ((n : ℕ) → Next.Refused n (number a 1) (number a 2) ≡ y → ⊥)
-
   told-record : nextTold a ≡ foundTold a → (x : RecordRead) → nextTold a ≡ nextBy c x → ReadPromise 1 (drop (c .at) s) ta tb x ta′ tb′ → Roomy ta tb → (x : Raw) × Begins sdfile (drop (c .at) s) x
   told-record h (RecordRead.Read n m chiral bytes lines e i j) q r y = let g = r .reads sdfile refl y .accepts _ .0 refl in (g .0, g .1)
   told-record h (RecordRead.Refused e i k) q r y = found-kept a (number a 12) e (c .lines + i) k (sym h ∙ q)
@@ -187,19 +184,19 @@ module _ (c : Cursor) (s : Bytes) (ta tb : List ℤ) (a : List ℕ) (ta′ tb′
       by-room ta tb (λ y. (y, λ w. let x = p .reads y w in told-record h (x .0) (x .1) (x .2) y))
       (λ n. found-kept a (number a 12) 2 0 0 (sym h ∙ p .no-room n .0))
 
-  good-record : (x : RecordRead) → nextTold a ≡ nextBy c x → ReadPromise 1 (drop (c .at) s) ta tb x ta′ tb′ → Roomy ta tb → (x : Raw) × Begins sdfile (drop (c .at) s) x → Kept
-  good-record (RecordRead.Read n m chiral bytes lines e i j) q r y b = (nextBy c (RecordRead.Read n m chiral bytes lines e i j), q, λ n. apart-record)
-  good-record (RecordRead.Refused e i k) q r y b =
+  kept-record : (n : ℕ) → nextTold a ≡ Next.Refused n (number a 1) (number a 2) → (x : RecordRead) → nextTold a ≡ nextBy c x →
+      ReadPromise 1 (drop (c .at) s) ta tb x ta′ tb′ → Roomy ta tb → (x : Raw) × Begins sdfile (drop (c .at) s) x → ⊥
+  kept-record n f (RecordRead.Read m o chiral bytes lines e i j) q r y b = apart-record (sym f ∙ q)
+  kept-record n f (RecordRead.Refused e i k) q r y b =
       let t = drop (c .at) s in
       let w = replyOf sdfile t (b .0) in
       let h : numbersOf (RecordRead.Refused e i k) ≡ accepted w = r .reads sdfile refl y .accepts w .1 (b .0, b .1, begins-told sdfile t (b .0) (b .1)) in
       absurd (let z : _≡_ {A = ℕ} 0 1 = cc in omega arith)
 
-  good : Good → Kept
-  good g =
-      by-within c s (λ w. let x = p .reads (g .0) w in good-record (x .0) (x .1) (x .2) (g .0) (g .1 w))
-      (λ n. (Next.End, p .at-end (g .0) n .0, λ n. apart-end))
+  kept : Good → (n : ℕ) → nextTold a ≡ Next.Refused n (number a 1) (number a 2) → ⊥
+  kept g n f =
+      by-within c s (λ w. let x = p .reads (g .0) w in kept-record n f (x .0) (x .1) (x .2) (g .0) (g .1 w)) (λ o. apart-end (sym f ∙ p .at-end (g .0) o .0))
 
   pub next-good : (number a 0 ≡ 0) ↔ Good
   unfolding nextTold
-  next-good = zero-exactly (number a 0) (foundTold a) (λ (e : ℕ). Next.Refused e (number a 1) (number a 2)) told good
+  next-good = zero-exactly (number a 0) (foundTold a) (λ (e : ℕ). Next.Refused e (number a 1) (number a 2)) told kept

@@ -16,7 +16,6 @@ use Rattle.judge_refusals.specs.NoRecord.{NoRecord}
 use Rattle.reader_record.specs.declared.RecordRead.{RecordRead}
 use Rattle.reader_record.specs.Promise.{Begins, Roomy, Reads, Refusal, kindNumber, numbersOf, accepted, ReadPromise}
 use Rattle.reader_record.specs.Promise as R
-use Rattle.reader_record.specs.Promised.{readBack, same-read}
 use Rattle.reader_record.specs.Told.{replyOf, begins-told}
 use Rattle.capellanote.specs.Answer.{number, byFirst, first-refused, zero-exactly}
 use Rattle.capellanote.specs.Check.{at-numbered}
@@ -101,27 +100,24 @@ pub ruleset read-laws = (read-held, read-told)
 
 -- ---- The first number is 0 exactly for a good record
 
-apart : {X : Type 0} {e i c n m chiral len lines h a b : ℕ} → RecordRead.Refused e i c ≡ RecordRead.Read n m chiral len lines h a b → X
+apart : {X : Type 0} {e i c : ℕ} {w : R.Reply} → R.refused e i c ≡ accepted w → X
 apart h = absurd (let z : _≡_ {A = ℕ} 0 1 = cc in omega arith)
-
-refused-accepted : {X : Type 0} {e i c : ℕ} {w : R.Reply} → R.refused e i c ≡ accepted w → X
-refused-accepted h = absurd (let z : _≡_ {A = ℕ} 0 1 = cc in omega arith)
 
 module _ (kind : ℕ) (s : Bytes) (ta tb : List ℤ) (a : List ℕ) (ta′ tb′ : List ℤ) (p : ReadPromise kind s ta tb (readTold a) ta′ tb′) where
   told : readTold a ≡ recordTold a → GoodRecord kind s ta tb
   told h = by-kind kind
       (λ k e few. by-room ta tb
       (λ y. let g = p .reads k e y .accepts _ .0 (ap numbersOf h) in (k, e, y, (g .0, g .1)))
-      (λ n. refused-accepted (sym (p .no-room few n .0) ∙ ap numbersOf h)))
-      (λ e. refused-accepted (sym (p .other-kind e .0) ∙ ap numbersOf h))
+      (λ n. apart (sym (p .no-room few n .0) ∙ ap numbersOf h)))
+      (λ e. apart (sym (p .other-kind e .0) ∙ ap numbersOf h))
 
-  good : GoodRecord kind s ta tb → (y : RecordRead) × (readTold a ≡ y) × ((n : ℕ) → RecordRead.Refused n (number a 1) (number a 2) ≡ y → ⊥)
-  good g =
+  kept : GoodRecord kind s ta tb → (n : ℕ) → readTold a ≡ RecordRead.Refused n (number a 1) (number a 2) → ⊥
+  kept g n h =
       let k = g .0 in
       let x = g .3 .0 in
       let w = replyOf k s x in
-      (readBack w, same-read (readTold a) (readBack w) (p .reads k (g .1) (g .2) .accepts w .1 (x, g .3 .1, begins-told k s x (g .3 .1))), λ n. apart)
+      apart (sym (ap numbersOf h) ∙ p .reads k (g .1) (g .2) .accepts w .1 (x, g .3 .1, begins-told k s x (g .3 .1)))
 
   pub read-good : (number a 0 ≡ 0) ↔ GoodRecord kind s ta tb
   unfolding readTold
-  read-good = zero-exactly (number a 0) (recordTold a) (λ (e : ℕ). RecordRead.Refused e (number a 1) (number a 2)) told good
+  read-good = zero-exactly (number a 0) (recordTold a) (λ (e : ℕ). RecordRead.Refused e (number a 1) (number a 2)) told kept

@@ -37,9 +37,6 @@ pub ruleset written-array = (written-done, written-refused)
 
 -- ---- It tells that answer, since no refusal has the number 0
 
-apart : {X : Type 0} {e i c n : ℕ} → Written.Refused e i c ≡ Written.Done n → X
-apart h = absurd (let z : _≡_ {A = ℕ} 0 1 = cc in omega arith)
-
 part-numbered : {L : List Line → Type 0} {Why : List Line → ℕ → ℕ → ℕ → Type 0} {s : Bytes} {e i column : ℕ} → PartRefusal L Why s e i column → 1 ≤ e
 part-numbered (PartRefusal.line h m c d why) = omega (arith, m .0)
 part-numbered (PartRefusal.cut-short h v bad) = omega arith
@@ -67,10 +64,22 @@ pub ruleset written-laws = (written-held, written-told)
 
 -- ---- The first number is 0 exactly where what is handed in can be written, and fits
 
-pub write-good : (g : Given) (r₀ r : Bytes) (a : List ℕ) → Promise g r₀ (writtenTold a) r →
-    (number a 0 ≡ 0) ↔ ((x : Reading) × Accepted g x × (length (canonText x) ≤ length r₀))
-unfolding writtenTold
-write-good g r₀ r a p =
-    zero-exactly (number a 0) (Written.Done (number a 1)) (λ (e : ℕ). Written.Refused e (number a 1) (number a 2))
-    (λ h. let d = p .accepted (number a 1) .0 h in (d .0, d .1, omega (arith, d .2, d .3)))
-    (λ x. let l = length (canonText (x .0)) in (Written.Done l, p .accepted l .1 (x .0, x .1, refl, x .2), λ n. apart))
+module _ (g : Given) (r₀ r : Bytes) (a : List ℕ) (p : Promise g r₀ (writtenTold a) r) where
+  abbrev Good : Type 0
+  Good = (x : Reading) × Accepted g x × (length (canonText x) ≤ length r₀)
+
+  told : writtenTold a ≡ Written.Done (number a 1) → Good
+  told h =
+      let q = subst (λ (y : Written). Promise g r₀ y r) h p in
+      let d = q .accepted (number a 1) .0 refl in
+      (d .0, d .1, omega (arith, d .2, d .3))
+
+  kept : Good → (n : ℕ) → writtenTold a ≡ Written.Refused n (number a 1) (number a 2) → ⊥
+  kept x n h =
+      let q = subst (λ (y : Written). Promise g r₀ y r) h p in
+      let e = q .accepted (length (canonText (x .0))) .1 (x .0, x .1, refl, x .2) in
+      absurd (let z : _≡_ {A = ℕ} 0 1 = cc in omega arith)
+
+  pub write-good : (number a 0 ≡ 0) ↔ Good
+  unfolding writtenTold
+  write-good = zero-exactly (number a 0) (Written.Done (number a 1)) (λ (e : ℕ). Written.Refused e (number a 1) (number a 2)) told kept
