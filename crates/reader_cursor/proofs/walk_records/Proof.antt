@@ -1,16 +1,19 @@
--- `reader_check::check_sdfile` meets its contract.
+-- `reader_cursor::walk_records` meets its contract.
 use borrow.Author.Needs.{needs}
 use Prim.Native.Nat.{_-_}
 use lib.ListN.{length}
-use Rattle.reader_check.specs.Going.{Going, going-laws}
-use Rattle.reader_check.proofs.check_sdfile.Statement.{statement}
-use Rattle.reader_check.proofs.check_sdfile.Tie as tie
+use Rattle.reader_cursor.specs.Going.{Going, going-laws}
+use Rattle.reader_cursor.proofs.walk_records.Statement.{statement}
+use Rattle.reader_cursor.proofs.walk_records.Tie as tie
 
 abbrev Inv-loop : tie.InvT-loop
-Inv-loop s atoms₀ bonds₀ listed₀ at₀ line₀ records₀ atoms bonds listed at line records = Going s atoms₀ bonds₀ atoms bonds listed at line records
+Inv-loop s atoms₀ bonds₀ listed₀ cursor₀ atoms bonds listed cursor = Going s atoms₀ bonds₀ atoms bonds listed cursor
 
 abbrev μ-loop : tie.MeasureT-loop
-μ-loop s atoms₀ bonds₀ listed₀ at₀ line₀ records₀ atoms bonds listed at line records = length s - at
+μ-loop s atoms₀ bonds₀ listed₀ cursor₀ atoms bonds listed cursor = length s - cursor .at
+
+new-requires : tie.Need-new-requires Inv-loop μ-loop
+new-requires c κs = search (needs, going-laws)
 
 loop-holds : tie.Need-loop-holds Inv-loop μ-loop
 loop-holds c = search (needs, going-laws)
@@ -30,14 +33,8 @@ walk-record-requires c κs = search (needs, going-laws)
 enum-known-length : tie.Need-enum-known-length Inv-loop μ-loop
 enum-known-length c = search (needs, going-laws)
 
-add-at : tie.Need-add-at Inv-loop μ-loop
-add-at c = search (needs, going-laws)
-
-add-line : tie.Need-add-line Inv-loop μ-loop
-add-line c = search (needs, going-laws)
-
-add-records : tie.Need-add-records Inv-loop μ-loop
-add-records c = search (needs, going-laws)
+past-requires : tie.Need-past-requires Inv-loop μ-loop
+past-requires c κs = search (needs, going-laws)
 
 loop-less : tie.Need-loop-less Inv-loop μ-loop
 loop-less c = search (needs, going-laws)
@@ -48,11 +45,8 @@ loop-again c = search (needs, going-laws)
 enum-known-no : tie.Need-enum-known-no Inv-loop μ-loop
 enum-known-no c = search (needs, going-laws)
 
-add-t24 : tie.Need-add-t24 Inv-loop μ-loop
-add-t24 c = search (needs, going-laws)
-
-sub-t25 : tie.Need-sub-t25 Inv-loop μ-loop
-sub-t25 c = search (needs, going-laws)
+stop-requires : tie.Need-stop-requires Inv-loop μ-loop
+stop-requires c κs = search (needs, going-laws)
 
 same-length : tie.Need-same-length Inv-loop μ-loop
 same-length c = search (needs, going-laws)
@@ -72,26 +66,24 @@ same-length-4 c = search (needs, going-laws)
 returns-2 : tie.Need-returns-2 Inv-loop μ-loop
 returns-2 c = search (needs, going-laws)
 
-pub check-sdfile-spec : {M : Type 1} → statement M
-check-sdfile-spec =
+pub walk-records-spec : {M : Type 1} → statement M
+walk-records-spec =
     tie.close
     (tie.spec
     Inv-loop
     μ-loop
+    new-requires
     loop-holds
     sub-walk-record
     part-walk-record-start
     part-walk-record-end
     walk-record-requires
     enum-known-length
-    add-at
-    add-line
-    add-records
+    past-requires
     loop-less
     loop-again
     enum-known-no
-    add-t24
-    sub-t25
+    stop-requires
     same-length
     same-length-2
     returns

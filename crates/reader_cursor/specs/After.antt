@@ -1,0 +1,361 @@
+-- The law of the walk: what holds where the cursor stands after some records of a text, and how it moves on. It is the walk of the judge.
+use Prim.Native.Nat.{ℕ, zero, suc, _+_, _-_, _*_, _≤_, _<_, _^_}
+use native.Mathlib.Omega.{arith}
+use mathlib.Core.Path.{_≡_, refl, sym, ap, ap₂, _∙_, subst}
+use mathlib.Core.List.{List, [], _∷_, _++_, append-nil, append-assoc}
+use mathlib.Core.Bool.{Bool, true, false}
+use lib.Dec.{ltb}
+use lib.ListN.{length, take, drop, length-drop, length-append, drop-of-length-le}
+use lib.Seq.{drop-drop, take-all}
+use borrow.Author.Tests.{ne-eqb, ltb-true, ltb-false}
+use Rattle.text.specs.Text.{Bytes, Line}
+use Rattle.text.specs.Cut.{cut}
+use Rattle.rules.specs.Record.{Raw, Parts1to5, Record, limit}
+use Rattle.judge_file.specs.Place.{sdfile}
+use Rattle.judge_file.specs.Verdict.{Verdict, verdict}
+use Rattle.judge_file.specs.One.{One, oneRecord}
+use Rattle.judge_file.specs.OneAgree.{one-whole, one-refused, one-short}
+use Rattle.judge_file.specs.Front.{record-front}
+use Rattle.judge_file.specs.WalkText.{afterLines, after-within, fileText, verdict-text, text-room, text-end, text-whole, text-refused, text-short}
+use Rattle.reader_walk.specs.Outcome.{Outcome, whole, refused, ofOne, outcomeOf}
+use Rattle.reader_cursor.specs.declared.Cursor.{Cursor}
+use Rattle.reader_cursor.specs.Walk.{fresh, past, Countable, Walk, over, short, stopped, walkFrom, fileWalk, recordsOf, cursorOf, endedBy, verdictBy, stopAt}
+
+-- ---- The record at the front of a text
+
+-- what is lent from place i on
+pub tail-is : (s : Bytes) (i : ℕ) → take (length s - i) (drop i s) ≡ drop i s
+tail-is s i = take-all (length s - i) (drop i s) (omega (arith, length-drop i s))
+
+some-line : {ls rest : List Line} {x : Raw} → Record limit ls x rest → 0 < length ls
+some-line (Record.record-of (Parts1to5.parts f g h l a b w q o) i) = omega arith
+
+record-shorter : {ls rest : List Line} {x : Raw} → Record limit ls x rest → length rest < length ls
+record-shorter {rest = rest} r =
+    let f = record-front r in
+    omega (arith, ap length (f .parts), length-append (f .before) rest, some-line (f .any []), length-append (f .before) [])
+
+-- a text has no more lines than bytes
+few-lines : (t : Bytes) → length (cut t .lines) ≤ length t
+few-lines t = let w = after-within t 0 (length (cut t .lines)) (omega arith) (omega arith) in omega (arith, w .0, w .1)
+
+module _ (t : Bytes) where
+  -- a whole record has a line or more, no more lines than bytes, and lies within the text
+  pub whole-size : (x : Raw) (k : ℕ) (rest : List Line) → oneRecord limit (cut t .lines) ≡ One.whole x k rest →
+      (1 ≤ k) × (k ≤ afterLines t 0 k) × (afterLines t 0 k ≤ length t)
+  whole-size x k rest h =
+      let f = one-whole limit (cut t .lines) x k rest .0 h in
+      let r = text-room limit [] 1 t x k rest h in
+      (omega (arith, f .1, record-shorter (f .0)), r .0, r .1)
+
+  pub refused-size : (e k column : ℕ) → oneRecord limit (cut t .lines) ≡ One.refused e k column → (1 ≤ k) × (k ≤ length t)
+  refused-size e k column h =
+      let f = one-refused limit (omega arith) (cut t .lines) e k column h .2 in
+      let many : length (cut t .lines) ≡ length (f .before) + suc (length (f .after)) = ap length (f .whole) ∙ length-append (f .before) (f .l ∷ (f .after)) in
+      (omega (arith, f .line), omega (arith, f .line, few-lines t))
+
+  pub short-size : (k : ℕ) → oneRecord limit (cut t .lines) ≡ One.short k → (1 ≤ k) × (k ≤ length t + 1)
+  short-size k h =
+      let f = one-short limit (omega arith) (cut t .lines) k h .0 in
+      (omega arith, omega (arith, few-lines t))
+
+-- ---- Steps of the walk
+
+walk-skip : (xs : List Raw) (c : Cursor) (skip : ℕ) (t : Bytes) → walkFrom xs c skip t ≡ walkFrom xs c 0 (drop skip t)
+unfolding walkFrom
+walk-skip xs c zero t = refl
+walk-skip xs c (suc skip) [] = refl
+walk-skip xs c (suc skip) (b ∷ t) = walk-skip xs c skip t
+
+module _ (xs : List Raw) (c : Cursor) where
+  pub walk-over : walkFrom xs c 0 [] ≡ over xs c
+  unfolding walkFrom
+  walk-over = refl
+
+  module _ (t : Bytes) (some : 0 < length t) where
+    pub walk-whole : (x : Raw) (k : ℕ) (rest : List Line) → oneRecord limit (cut t .lines) ≡ One.whole x k rest →
+        walkFrom xs c 0 t ≡ walkFrom (xs ++ (x ∷ [])) (past c (afterLines t 0 k) k) 0 (drop (afterLines t 0 k) t)
+    unfolding walkFrom
+    walk-whole x k rest h = go t refl (whole-size t x k rest h)
+      where
+        go : (u : Bytes) → u ≡ t → (1 ≤ k) × (k ≤ afterLines t 0 k) × (afterLines t 0 k ≤ length t) →
+            walkFrom xs c 0 u ≡ walkFrom (xs ++ (x ∷ [])) (past c (afterLines u 0 k) k) 0 (drop (afterLines u 0 k) u)
+        go [] e r = absurd (omega (arith, ap length e))
+        go (b ∷ u) e r =
+            let n = afterLines (b ∷ u) 0 k in
+            let p : oneRecord limit (cut (b ∷ u) .lines) ≡ One.whole x k rest = ap (λ (v : Bytes). oneRecord limit (cut v .lines)) e ∙ h in
+            let m : afterLines (b ∷ u) 0 k ≡ suc (afterLines (b ∷ u) 0 k - 1) = omega (arith, r .0, r .1, ap (λ (v : Bytes). afterLines v 0 k) e) in
+            let one : walkFrom xs c 0 (b ∷ u) ≡ walkFrom (xs ++ (x ∷ [])) (past c n k) (n - 1) u = rw (p, walkFrom) in
+            one ∙ walk-skip (xs ++ (x ∷ [])) (past c n k) (n - 1) u ∙ ap (λ (j : ℕ). walkFrom (xs ++ (x ∷ [])) (past c n k) 0 (drop j (b ∷ u))) (sym m)
+
+    pub walk-refused : (e k column : ℕ) → oneRecord limit (cut t .lines) ≡ One.refused e k column → walkFrom xs c 0 t ≡ stopped xs c e (c .lines + k) column
+    unfolding walkFrom
+    walk-refused e k column h = go t refl
+      where
+        go : (u : Bytes) → u ≡ t → walkFrom xs c 0 u ≡ stopped xs c e (c .lines + k) column
+        go [] q = absurd (omega (arith, ap length q))
+        go (b ∷ u) q =
+            let p : oneRecord limit (cut (b ∷ u) .lines) ≡ One.refused e k column = ap (λ (v : Bytes). oneRecord limit (cut v .lines)) q ∙ h in
+            rw (p, walkFrom)
+
+    pub walk-short : (k : ℕ) → oneRecord limit (cut t .lines) ≡ One.short k → walkFrom xs c 0 t ≡ short xs c (c .lines + k)
+    unfolding walkFrom
+    walk-short k h = go t refl
+      where
+        go : (u : Bytes) → u ≡ t → walkFrom xs c 0 u ≡ short xs c (c .lines + k)
+        go [] q = absurd (omega (arith, ap length q))
+        go (b ∷ u) q =
+            let p : oneRecord limit (cut (b ∷ u) .lines) ≡ One.short k = ap (λ (v : Bytes). oneRecord limit (cut v .lines)) q ∙ h in
+            rw (p, walkFrom)
+
+-- ---- It is the judge's
+
+judged-from : (t : Bytes) (xs : List Raw) (c : Cursor) (skip : ℕ) → fileText limit xs (c .lines + 1) (drop skip t) ≡ verdictBy (walkFrom xs c skip t)
+unfolding walkFrom
+judged-from [] xs c zero = text-end limit xs (c .lines + 1)
+judged-from [] xs c (suc skip) = text-end limit xs (c .lines + 1)
+judged-from (b ∷ t) xs c (suc skip) = judged-from t xs c skip
+judged-from (b ∷ t) xs c zero = go (λ ys d skip. judged-from t ys d skip) (oneRecord limit (cut (b ∷ t) .lines)) refl
+  where
+    go : ((ys : List Raw) (d : Cursor) (skip : ℕ) → fileText limit ys (d .lines + 1) (drop skip t) ≡ verdictBy (walkFrom ys d skip t)) → (o : One) →
+        oneRecord limit (cut (b ∷ t) .lines) ≡ o → fileText limit xs (c .lines + 1) (b ∷ t) ≡ verdictBy (walkFrom xs c 0 (b ∷ t))
+    go r (One.whole x k rest) h =
+        let n = afterLines (b ∷ t) 0 k in
+        let w = whole-size (b ∷ t) x k rest h in
+        let m : afterLines (b ∷ t) 0 k ≡ suc (afterLines (b ∷ t) 0 k - 1) = omega (arith, w .0, w .1) in
+        let i : c .lines + 1 + k ≡ c .lines + k + 1 = omega arith in
+        text-whole limit xs (c .lines + 1) (b ∷ t) x k rest h
+        ∙ ap₂ (λ (j l : ℕ). fileText limit (xs ++ (x ∷ [])) j (drop l (b ∷ t))) i m
+        ∙ r (xs ++ (x ∷ [])) (past c n k) (n - 1)
+        ∙ ap verdictBy
+        (walk-skip (xs ++ (x ∷ [])) (past c n k) (n - 1) t
+        ∙ ap (λ (j : ℕ). walkFrom (xs ++ (x ∷ [])) (past c n k) 0 (drop j (b ∷ t))) (sym m)
+        ∙ sym (walk-whole xs c (b ∷ t) (omega arith) x k rest h))
+    go r (One.refused e k column) h =
+        let i : c .lines + 1 + k - 1 ≡ c .lines + k = omega arith in
+        text-refused limit xs (c .lines + 1) (b ∷ t) e k column h
+        ∙ ap (λ (j : ℕ). Verdict.refused e j column) i
+        ∙ sym (ap verdictBy (walk-refused xs c (b ∷ t) (omega arith) e k column h))
+    go r (One.short k) h =
+        let i : c .lines + 1 + k - 1 ≡ c .lines + k = omega arith in
+        text-short limit xs (c .lines + 1) (b ∷ t) k h (omega arith)
+        ∙ ap (λ (j : ℕ). Verdict.refused 19 j 1) i
+        ∙ sym (ap verdictBy (walk-short xs c (b ∷ t) (omega arith) k h))
+
+pub verdict-walk : (s : Bytes) → verdict sdfile limit s ≡ verdictBy (fileWalk s)
+unfolding fileWalk
+verdict-walk s = verdict-text limit s ∙ judged-from s [] fresh 0
+
+-- records that are read stay the first
+pub walk-more : (t : Bytes) (xs : List Raw) (c : Cursor) (skip : ℕ) → (ys : List Raw) × (recordsOf (walkFrom xs c skip t) ≡ xs ++ ys)
+unfolding walkFrom
+walk-more [] xs c zero = ([], sym (append-nil xs))
+walk-more [] xs c (suc skip) = ([], sym (append-nil xs))
+walk-more (b ∷ t) xs c (suc skip) = walk-more t xs c skip
+walk-more (b ∷ t) xs c zero = go (λ ys d skip. walk-more t ys d skip) (oneRecord limit (cut (b ∷ t) .lines)) refl
+  where
+    same : {v w : Walk} {zs : List Raw} → v ≡ w → recordsOf w ≡ zs → recordsOf v ≡ zs
+    same e h = ap recordsOf e ∙ h
+
+    go : ((ys : List Raw) (d : Cursor) (skip : ℕ) → (zs : List Raw) × (recordsOf (walkFrom ys d skip t) ≡ ys ++ zs)) → (o : One) →
+        oneRecord limit (cut (b ∷ t) .lines) ≡ o → (zs : List Raw) × (recordsOf (walkFrom xs c 0 (b ∷ t)) ≡ xs ++ zs)
+    go r (One.whole x k rest) h =
+        let n = afterLines (b ∷ t) 0 k in
+        let m = r (xs ++ (x ∷ [])) (past c n k) (n - 1) in
+        let e : walkFrom xs c 0 (b ∷ t) ≡ walkFrom (xs ++ (x ∷ [])) (past c n k) (n - 1) t = rw (h, walkFrom) in
+        (x ∷ (m .0), same e (m .1) ∙ append-assoc xs (x ∷ []) (m .0))
+    go r (One.refused e k column) h = ([], same (walk-refused xs c (b ∷ t) (omega arith) e k column h) (sym (append-nil xs)))
+    go r (One.short k) h = ([], same (walk-short xs c (b ∷ t) (omega arith) k h) (sym (append-nil xs)))
+
+-- ---- The law
+
+-- cursor c stands after the records xs of the text: what the walk from the start comes to, the walk from here comes to
+pub record After (s : Bytes) (xs : List Raw) (c : Cursor) : Type 0 where
+  pub inside : c .at ≤ length s
+  pub lines : c .lines ≤ c .at
+  pub records : c .records ≤ c .lines
+  pub count : c .records ≡ length xs
+  pub same : fileWalk s ≡ walkFrom xs c 0 (drop (c .at) s)
+
+pub after-start : (s : Bytes) → After s [] fresh
+unfolding fileWalk
+after-start s = record { inside = omega arith; lines = omega arith; records = omega arith; count = refl; same = refl }
+
+-- the record at the front, as its outcome tells of it
+abbrev Whole : Bytes → Raw → ℕ → Type 0
+Whole t x k = (rest : List Line) × (oneRecord limit (cut t .lines) ≡ One.whole x k rest)
+
+data Not (t : Bytes) : ℕ → ℕ → ℕ → Type 0 where
+  dead : {e k column : ℕ} → oneRecord limit (cut t .lines) ≡ One.refused e k column → Not t e k column
+  cut-short : {k : ℕ} → oneRecord limit (cut t .lines) ≡ One.short k → Not t 19 k 1
+
+module _ (t : Bytes) where
+  whole-one : (x : Raw) (k : ℕ) → outcomeOf sdfile t ≡ whole x k → Whole t x k
+  unfolding outcomeOf
+  whole-one x k h = go (oneRecord limit (cut t .lines)) refl h
+    where
+      go : (o : One) → oneRecord limit (cut t .lines) ≡ o → ofOne o ≡ whole x k → Whole t x k
+      go (One.whole y j rest) e q =
+          let xy : y ≡ x = cc in
+          let jk : j ≡ k = cc in
+          (rest, e ∙ ap₂ (λ (z : Raw) (i : ℕ). One.whole z i rest) xy jk)
+      go (One.refused n j c) e q = absurd (let z : _≡_ {A = ℕ} 0 1 = cc in omega arith)
+      go (One.short j) e q = absurd (let z : _≡_ {A = ℕ} 0 1 = cc in omega arith)
+
+  not-one : (e k column : ℕ) → outcomeOf sdfile t ≡ refused e k column → Not t e k column
+  unfolding outcomeOf
+  not-one e k column h = go (oneRecord limit (cut t .lines)) refl h
+    where
+      as-told : {n j d : ℕ} → Not t n j d → refused n j d ≡ refused e k column → Not t e k column
+      as-told {n} {j} {d} f q =
+          let ne : n ≡ e = cc in
+          let jk : j ≡ k = cc in
+          let dc : d ≡ column = cc in
+          subst (λ (z : ℕ). Not t e k z) dc (subst (λ (z : ℕ). Not t e z d) jk (subst (λ (z : ℕ). Not t z j d) ne f))
+
+      go : (o : One) → oneRecord limit (cut t .lines) ≡ o → ofOne o ≡ refused e k column → Not t e k column
+      go (One.whole y j rest) o q = absurd (let z : _≡_ {A = ℕ} 0 1 = cc in omega arith)
+      go (One.refused n j d) o q = as-told (Not.dead o) q
+      go (One.short j) o q = as-told (Not.cut-short o) q
+
+module _ (s : Bytes) (xs : List Raw) (c : Cursor) (g : After s xs c) where
+  -- nothing is left
+  pub after-over : length s ≤ c .at → fileWalk s ≡ over xs c
+  after-over h = g .same ∙ ap (walkFrom xs c 0) (drop-of-length-le s h) ∙ walk-over xs c
+
+  -- all records of the text begin with these
+  pub after-more : (ys : List Raw) × (recordsOf (fileWalk s) ≡ xs ++ ys)
+  after-more = let m = walk-more (drop (c .at) s) xs c 0 in (m .0, ap recordsOf (g .same) ∙ m .1)
+
+  module _ (some : c .at < length s) where
+    left : 0 < length (drop (c .at) s)
+    left = omega (arith, length-drop (c .at) s)
+
+    -- ---- A whole record: the cursor moves past it
+
+    module _ (x : Raw) (k : ℕ) (h : outcomeOf sdfile (drop (c .at) s) ≡ whole x k) where
+      abbrev bytes : ℕ
+      bytes = afterLines (drop (c .at) s) 0 k
+
+      pub after-size : (1 ≤ k) × (k ≤ bytes) × (c .at + bytes ≤ length s)
+      after-size =
+          let o = whole-one (drop (c .at) s) x k h in
+          let w = whole-size (drop (c .at) s) x k (o .0) (o .1) in
+          (w .0, w .1, omega (arith, w .2, length-drop (c .at) s))
+
+      pub after-less : length s - (c .at + bytes) < length s - c .at
+      after-less = let w = after-size in omega (arith, w .0, w .1, w .2)
+
+      -- its numbers fit
+      pub after-fits : length s * 1 < 2 ^ 63 → Countable c bytes k
+      after-fits f =
+          let w = after-size in
+          record {
+            at = omega (arith, w .2);
+            lines = omega (arith, w .1, w .2, g .lines);
+            records = omega (arith, w .2, g .lines, g .records);
+          }
+
+      pub after-next : After s (xs ++ (x ∷ [])) (past c bytes k)
+      after-next =
+          let o = whole-one (drop (c .at) s) x k h in
+          let w = after-size in
+          record {
+            inside = w .2;
+            lines = omega (arith, w .1, g .lines);
+            records = omega (arith, w .0, g .records);
+            count = omega (arith, g .count, length-append xs (x ∷ []));
+            same =
+                g .same ∙ walk-whole xs c (drop (c .at) s) left x k (o .0) (o .1)
+                ∙ ap (walkFrom (xs ++ (x ∷ [])) (past c bytes k) 0) (drop-drop bytes (c .at) s);
+          }
+
+    -- ---- A refusal: its line counts from the text's start
+
+    module _ (e k column : ℕ) (h : outcomeOf sdfile (drop (c .at) s) ≡ refused e k column) where
+      pub after-line : length s * 1 < 2 ^ 63 → c .lines + k < 2 ^ 64
+      after-line f = go (not-one (drop (c .at) s) e k column h)
+        where
+          go : {e k column : ℕ} → Not (drop (c .at) s) e k column → c .lines + k < 2 ^ 64
+          go {e} {k} {column} (Not.dead o) =
+              omega (arith, refused-size (drop (c .at) s) e k column o .1, length-drop (c .at) s, g .lines, g .inside)
+          go {e} {k} (Not.cut-short o) = omega (arith, short-size (drop (c .at) s) k o .1, length-drop (c .at) s, g .lines, g .inside)
+
+      pub after-verdict : verdict sdfile limit s ≡ Verdict.refused e (c .lines + k) column
+      after-verdict = verdict-walk s ∙ go (not-one (drop (c .at) s) e k column h)
+        where
+          go : {e k column : ℕ} → Not (drop (c .at) s) e k column → verdictBy (fileWalk s) ≡ Verdict.refused e (c .lines + k) column
+          go {e} {k} {column} (Not.dead o) = ap verdictBy (g .same ∙ walk-refused xs c (drop (c .at) s) left e k column o)
+          go {e} {k} (Not.cut-short o) = ap verdictBy (g .same ∙ walk-short xs c (drop (c .at) s) left k o)
+
+      -- the walk ends here
+      pub after-stops : (recordsOf (fileWalk s) ≡ xs) × (cursorOf (fileWalk s) ≡ c)
+      after-stops = go (not-one (drop (c .at) s) e k column h)
+        where
+          by : (w : Walk) → fileWalk s ≡ w → recordsOf w ≡ xs → cursorOf w ≡ c → (recordsOf (fileWalk s) ≡ xs) × (cursorOf (fileWalk s) ≡ c)
+          by w q a b = (ap recordsOf q ∙ a, ap cursorOf q ∙ b)
+
+          go : {e k column : ℕ} → Not (drop (c .at) s) e k column → (recordsOf (fileWalk s) ≡ xs) × (cursorOf (fileWalk s) ≡ c)
+          go {e} {k} {column} (Not.dead o) =
+              by (stopped xs c e (c .lines + k) column) (g .same ∙ walk-refused xs c (drop (c .at) s) left e k column o) refl refl
+          go {e} {k} (Not.cut-short o) = by (short xs c (c .lines + k)) (g .same ∙ walk-short xs c (drop (c .at) s) left k o) refl refl
+
+      -- as the code says it: 19 is given nowhere else
+      pub after-ended : stopAt c e k column ≡ endedBy (fileWalk s)
+      unfolding stopAt
+      after-ended = go (not-one (drop (c .at) s) e k column h)
+        where
+          go : {e k column : ℕ} → Not (drop (c .at) s) e k column → stopAt c e k column ≡ endedBy (fileWalk s)
+          go {e} {k} {column} (Not.dead o) =
+              let m = one-refused limit (omega arith) (cut (drop (c .at) s) .lines) e k column o .0 in
+              rw (ne-eqb e 19 (λ q. omega (arith, q, m .1))) (sym (ap endedBy (g .same ∙ walk-refused xs c (drop (c .at) s) left e k column o)))
+          go {e} {k} (Not.cut-short o) = sym (ap endedBy (g .same ∙ walk-short xs c (drop (c .at) s) left k o))
+
+  -- the text is good: these are its records, in the order of the rules
+  pub after-good : length s ≤ c .at → verdict sdfile limit s ≡ Verdict.accepted xs
+  after-good h = verdict-walk s ∙ ap verdictBy (after-over h)
+
+-- ---- By induction over the walk: what holds where it ends, and holds before a record if it holds after it, holds at every cursor
+
+module _ (s : Bytes) (P : List Raw → Cursor → Type 0)
+    (ends : (xs : List Raw) (c : Cursor) → After s xs c → length s ≤ c .at → P xs c)
+    (stops : (xs : List Raw) (c : Cursor) → After s xs c → c .at < length s → (e k column : ℕ) → outcomeOf sdfile (drop (c .at) s) ≡ refused e k column → P xs c)
+    (goes : (xs : List Raw) (c : Cursor) → After s xs c → c .at < length s → (x : Raw) (k : ℕ) → outcomeOf sdfile (drop (c .at) s) ≡ whole x k →
+    P (xs ++ (x ∷ [])) (past c (afterLines (drop (c .at) s) 0 k) k) → P xs c) where
+  abbrev Again : ℕ → Type 0
+  Again fuel = (ys : List Raw) (d : Cursor) → After s ys d → length s - d .at ≤ fuel → P ys d
+
+  one-more : (fuel : ℕ) → Again fuel → (xs : List Raw) (c : Cursor) → After s xs c → length s - c .at ≤ suc fuel → c .at < length s → P xs c
+  one-more fuel again xs c g h some = go (outcomeOf sdfile (drop (c .at) s)) refl
+    where
+      go : (o : Outcome) → outcomeOf sdfile (drop (c .at) s) ≡ o → P xs c
+      go (whole x k) e =
+          let less = after-less s xs c g some x k e in
+          goes xs c g some x k e
+          (again (xs ++ (x ∷ [])) (past c (afterLines (drop (c .at) s) 0 k) k) (after-next s xs c g some x k e) (omega (arith, less, h)))
+      go (refused e k column) q = stops xs c g some e k column q
+
+  by-fuel : (fuel : ℕ) → Again fuel
+  by-fuel zero xs c g h = ends xs c g (omega (arith, h))
+  by-fuel (suc fuel) xs c g h = go (λ ys d u v. by-fuel fuel ys d u v) (ltb (c .at) (length s)) refl
+    where
+      go : Again fuel → (b : Bool) → ltb (c .at) (length s) ≡ b → P xs c
+      go again true e = one-more fuel again xs c g h (ltb-true (c .at) (length s) e)
+      go again false e = ends xs c g (ltb-false (c .at) (length s) e)
+
+  pub after-all : (xs : List Raw) (c : Cursor) → After s xs c → P xs c
+  after-all xs c g = by-fuel (length s) xs c g (omega arith)
+
+-- the cursor with which the walk ends stands after the records it has read
+pub walk-after : (s : Bytes) → After s (recordsOf (fileWalk s)) (cursorOf (fileWalk s))
+walk-after s = after-all s (λ (xs : List Raw) (c : Cursor). After s (recordsOf (fileWalk s)) (cursorOf (fileWalk s))) ends stops (λ xs c g some x k e v. v) [] fresh (after-start s)
+  where
+    by : (xs : List Raw) (c : Cursor) → After s xs c → recordsOf (fileWalk s) ≡ xs → cursorOf (fileWalk s) ≡ c → After s (recordsOf (fileWalk s)) (cursorOf (fileWalk s))
+    by xs c g a b = subst (λ (ys : List Raw). After s ys (cursorOf (fileWalk s))) (sym a) (subst (After s xs) (sym b) g)
+
+    ends : (xs : List Raw) (c : Cursor) → After s xs c → length s ≤ c .at → After s (recordsOf (fileWalk s)) (cursorOf (fileWalk s))
+    ends xs c g h = let e = after-over s xs c g h in by xs c g (ap recordsOf e) (ap cursorOf e)
+
+    stops : (xs : List Raw) (c : Cursor) → After s xs c → c .at < length s → (e k column : ℕ) → outcomeOf sdfile (drop (c .at) s) ≡ refused e k column →
+        After s (recordsOf (fileWalk s)) (cursorOf (fileWalk s))
+    stops xs c g some e k column h = let t = after-stops s xs c g some e k column h in by xs c g (t .0) (t .1)
