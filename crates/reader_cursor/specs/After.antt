@@ -311,9 +311,30 @@ module _ (s : Bytes) (xs : List Raw) (c : Cursor) (g : After s xs c) where
               rw (ne-eqb e 19 (λ q. omega (arith, q, m .1))) (sym (ap endedBy (g .same ∙ walk-refused xs c (drop (c .at) s) left e k column o)))
           go {e} {k} (Not.cut-short o) = sym (ap endedBy (g .same ∙ walk-short xs c (drop (c .at) s) left k o))
 
-  -- the text is good: these are its records, in the order of the rules
+  -- ---- The end of a good text, and a good text walked again
+
   pub after-good : length s ≤ c .at → verdict sdfile limit s ≡ Verdict.accepted xs
   after-good h = verdict-walk s ∙ ap verdictBy (after-over h)
+
+  module _ (zs : List Raw) (is : verdict sdfile limit s ≡ Verdict.accepted zs) where
+    -- its records begin with those read
+    pub good-more : (ys : List Raw) × (zs ≡ xs ++ ys)
+    good-more = let m = after-more in (m .0, sym (go (fileWalk s) (sym (verdict-walk s) ∙ is)) ∙ m .1)
+      where
+        go : (w : Walk) → verdictBy w ≡ Verdict.accepted zs → recordsOf w ≡ zs
+        go (over ys d) e = cc
+        go (short ys d i) e = absurd (let z : _≡_ {A = ℕ} 0 1 = cc in omega arith)
+        go (stopped ys d n i column) e = absurd (let z : _≡_ {A = ℕ} 0 1 = cc in omega arith)
+
+    -- where bytes are left, the next is whole
+    pub good-whole : c .at < length s → (x : Raw) × (k : ℕ) × (outcomeOf sdfile (drop (c .at) s) ≡ whole x k)
+    good-whole some = go (outcomeOf sdfile (drop (c .at) s)) refl
+      where
+        go : (o : Outcome) → outcomeOf sdfile (drop (c .at) s) ≡ o → (x : Raw) × (k : ℕ) × (outcomeOf sdfile (drop (c .at) s) ≡ whole x k)
+        go (whole x k) e = (x, k, e)
+        go (refused e k column) h =
+            let q : Verdict.accepted zs ≡ Verdict.refused e (c .lines + k) column = sym is ∙ after-verdict some e k column h in
+            absurd (let z : _≡_ {A = ℕ} 0 1 = cc in omega arith)
 
 -- ---- By induction over the walk: what holds where it ends, and holds before a record if it holds after it, holds at every cursor
 
