@@ -15,8 +15,7 @@ use Rattle.judge_file.specs.Verdict.{Verdict}
 use Rattle.judge_file.specs.WalkText.{afterLines, fileText, verdict-text, text-end, text-whole, text-refused, text-short}
 use Rattle.reader_walk.specs.Promise.{Said, saidBy}
 use Rattle.reader_walk.specs.Checking.{saidOf}
-use Rattle.reader_feed.specs.declared.Piece.{Piece}
-use Rattle.reader_feed.specs.Fed.{pieceOf}
+use Rattle.reader_feed.specs.Fed.{Piece, pieceOf}
 use Rattle.reader_feed.specs.Pieces.{piece-room}
 use Rattle.reader_feed.specs.Stays.{whole-one, refused-one, short-one, whole-stays, refused-stays}
 
