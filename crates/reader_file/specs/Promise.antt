@@ -1,4 +1,4 @@
--- What one step of a visit promises: the answer and both tables by the judge, and the same in the words of the rules.
+-- What one step of a visit promises, in the words of the rules.
 use Prim.Native.Nat.{ℕ, _+_, _*_, _≤_, _<_}
 use native.Mathlib.Omega.{arith}
 use mathlib.Core.Path.{_≡_, refl, sym, ap, _∙_, subst}
@@ -48,18 +48,10 @@ Untouched said ta tb r ta′ tb′ = (numbersOf r ≡ said) × (ta′ ≡ ta) ×
 
 -- tables ta and tb were lent with cursor c, r is the answer, and they are then ta′ and tb′
 pub record NextPromise (c : Cursor) (s : Bytes) (ta tb : List ℤ) (r : Next) (ta′ tb′ : List ℤ) : Type 0 where
-  pub answer : r ≡ nextOf c (length ta) (length tb) s
-  pub atoms : ta′ ≡ atomsNext c (length tb) s ta
-  pub bonds : tb′ ≡ bondsNext c (length ta) s tb
   pub no-room : ¬ Roomy ta tb → Untouched (refused 2 0 0) ta tb r ta′ tb′
   pub at-end : Roomy ta tb → ¬ Within c s → Untouched end ta tb r ta′ tb′
   -- the record at the front of the tail, read as the record reader promises
   pub reads : Roomy ta tb → Within c s → (w : P.Said) × (numbersOf r ≡ fromHere c w) × Reads sdfile (drop (c .at) s) ta tb w ta′ tb′
-
--- no two answers, and no two memories
-pub one-next : {c : Cursor} {s : Bytes} {ta tb : List ℤ} {r q : Next} {ta′ tb′ ua ub : List ℤ} → NextPromise c s ta tb r ta′ tb′ → NextPromise c s ta tb q ua ub →
-    (r ≡ q) × (ta′ ≡ ua) × (tb′ ≡ ub)
-one-next p q = (p .answer ∙ sym (q .answer), p .atoms ∙ sym (q .atoms), p .bonds ∙ sym (q .bonds))
 
 -- ---- The definitions keep it
 
@@ -117,9 +109,6 @@ module _ (c : Cursor) (s : Bytes) (ta tb : List ℤ) where
   promised : (r : Next) (ta′ tb′ : List ℤ) → r ≡ nextOf c la lb s → ta′ ≡ atomsNext c lb s ta → tb′ ≡ bondsNext c la s tb → NextPromise c s ta tb r ta′ tb′
   promised r ta′ tb′ e ea eb =
       record {
-        answer = e;
-        atoms = ea;
-        bonds = eb;
         no-room = λ h. let z = short h in (ap numbersOf (e ∙ z .0), ea ∙ z .1, eb ∙ z .2);
         at-end = λ y h. let z = over y h in (ap numbersOf (e ∙ z .0), ea ∙ z .1, eb ∙ z .2);
         reads = λ y g.

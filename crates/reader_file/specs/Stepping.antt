@@ -159,3 +159,5 @@ module _ (c : Cursor) (s : Bytes) where
   pub bonds-enough : (la : ℕ) (t u : List ℤ) → 4080 ≤ la → 1530 ≤ length t → u ≡ bondsOn c la s t → u ≡ bondsNext c la s t
   unfolding bondsNext
   bonds-enough la t u h k e = rw (le-ltb la 4080 h, le-ltb (length t) 1530 k) e
+
+pub ruleset room-laws = (short-atoms, short-bonds, enough, atoms-short, atoms-beside, atoms-enough, bonds-beside, bonds-short, bonds-enough)

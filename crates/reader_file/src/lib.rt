@@ -1,7 +1,7 @@
 // A file visited record by record, each read into lent tables from the tail where it starts.
 ghost use mathlib.Core.Path.{_≡_};
 ghost use lib.ListN.{length};
-ghost use Rattle.reader_file.specs.Next.{Within, nextAt, atomsAt, bondsAt, nextOn, atomsOn, bondsOn};
+ghost use Rattle.reader_file.specs.Next.{Within, nextAt, atomsAt, bondsAt, nextOn, atomsOn, bondsOn, nextOf, atomsNext, bondsNext};
 ghost use Rattle.reader_file.specs.Promise.{NextPromise};
 use reader_cursor::Cursor;
 use reader_record::RecordRead;
@@ -89,6 +89,9 @@ fn read_on(cursor: Cursor, s: &[u8], atoms: &mut [i32], bonds: &mut [i32]) -> Ne
 
 // The next record of a file, with the cursor past it. Tables without room are number 2 at every place.
 pub fn next_record(cursor: Cursor, s: &[u8], atoms: &mut [i32], bonds: &mut [i32]) -> Next
+    ensures { λ r. ⌜ r ≡ nextOf cursor (length (now (atoms .entry))) (length (now (bonds .entry))) (now (s .entry)) ⌝ }
+    ensures { λ r. ⌜ now (atoms .exit) ≡ atomsNext cursor (length (now (bonds .entry))) (now (s .entry)) (now (atoms .entry)) ⌝ }
+    ensures { λ r. ⌜ now (bonds .exit) ≡ bondsNext cursor (length (now (atoms .entry))) (now (s .entry)) (now (bonds .entry)) ⌝ }
     ensures { λ r. ⌜ NextPromise cursor (now (s .entry)) (now (atoms .entry)) (now (bonds .entry)) r (now (atoms .exit)) (now (bonds .exit)) ⌝ }
 {
     if atoms.len() < ATOMS {
