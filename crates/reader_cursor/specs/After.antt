@@ -218,6 +218,18 @@ module _ (t : Bytes) where
       go (One.refused n j d) o q = as-told (Not.dead o) q
       go (One.short j) o q = as-told (Not.cut-short o) q
 
+-- its bytes and lines lie within the text, and so does the line of its refusal, or right after
+module _ (t : Bytes) where
+  pub outcome-size : (x : Raw) (k : ℕ) → outcomeOf sdfile t ≡ whole x k → (1 ≤ k) × (k ≤ afterLines t 0 k) × (afterLines t 0 k ≤ length t)
+  outcome-size x k h = let o = whole-one t x k h in whole-size t x k (o .0) (o .1)
+
+  pub outcome-line : (e k column : ℕ) → outcomeOf sdfile t ≡ refused e k column → k ≤ length t + 1
+  outcome-line e k column h = go (not-one t e k column h)
+    where
+      go : {e k column : ℕ} → Not t e k column → k ≤ length t + 1
+      go {e} {k} {column} (Not.dead o) = omega (arith, refused-size t e k column o .1)
+      go {e} {k} (Not.cut-short o) = short-size t k o .1
+
 module _ (s : Bytes) (xs : List Raw) (c : Cursor) (g : After s xs c) where
   -- nothing is left
   pub after-over : length s ≤ c .at → fileWalk s ≡ over xs c
@@ -238,10 +250,7 @@ module _ (s : Bytes) (xs : List Raw) (c : Cursor) (g : After s xs c) where
       bytes = afterLines (drop (c .at) s) 0 k
 
       pub after-size : (1 ≤ k) × (k ≤ bytes) × (c .at + bytes ≤ length s)
-      after-size =
-          let o = whole-one (drop (c .at) s) x k h in
-          let w = whole-size (drop (c .at) s) x k (o .0) (o .1) in
-          (w .0, w .1, omega (arith, w .2, length-drop (c .at) s))
+      after-size = let w = outcome-size (drop (c .at) s) x k h in (w .0, w .1, omega (arith, w .2, length-drop (c .at) s))
 
       pub after-less : length s - (c .at + bytes) < length s - c .at
       after-less = let w = after-size in omega (arith, w .0, w .1, w .2)
@@ -274,12 +283,7 @@ module _ (s : Bytes) (xs : List Raw) (c : Cursor) (g : After s xs c) where
 
     module _ (e k column : ℕ) (h : outcomeOf sdfile (drop (c .at) s) ≡ refused e k column) where
       pub after-line : length s * 1 < 2 ^ 63 → c .lines + k < 2 ^ 64
-      after-line f = go (not-one (drop (c .at) s) e k column h)
-        where
-          go : {e k column : ℕ} → Not (drop (c .at) s) e k column → c .lines + k < 2 ^ 64
-          go {e} {k} {column} (Not.dead o) =
-              omega (arith, refused-size (drop (c .at) s) e k column o .1, length-drop (c .at) s, g .lines, g .inside)
-          go {e} {k} (Not.cut-short o) = omega (arith, short-size (drop (c .at) s) k o .1, length-drop (c .at) s, g .lines, g .inside)
+      after-line f = omega (arith, outcome-line (drop (c .at) s) e k column h, length-drop (c .at) s, g .lines, g .inside)
 
       pub after-verdict : verdict sdfile limit s ≡ Verdict.refused e (c .lines + k) column
       after-verdict = verdict-walk s ∙ go (not-one (drop (c .at) s) e k column h)

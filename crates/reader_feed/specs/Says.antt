@@ -176,8 +176,8 @@ module _ (room : ℕ) (s : Bytes) where
             absurd (let z : _≡_ {A = ℕ} 0 1 = cc in omega arith)
         go (Piece.Short j) p =
             open-yet j p λ few w.
-                let q : Outcome.refused 19 j 1 ≡ Outcome.whole x k = sym (ap ofOne (short-one u j w)) ∙ h in
-                absurd (let z : _≡_ {A = ℕ} 0 1 = cc in omega arith)
+            let q : Outcome.refused 19 j 1 ≡ Outcome.whole x k = sym (ap ofOne (short-one u j w)) ∙ h in
+            absurd (let z : _≡_ {A = ℕ} 0 1 = cc in omega arith)
 
 -- the same count, or the same number, line and column, unless a record is too long
 pub as-checked : (room : ℕ) (t : Bytes) → AsChecked (counterSays room t) (saidOf sdfile t)

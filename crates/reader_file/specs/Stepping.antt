@@ -3,20 +3,61 @@ use Prim.Native.Nat.{ℕ, _+_, _-_, _*_, _≤_, _<_, _^_}
 use native.Mathlib.Omega.{arith}
 use mathlib.Core.Path.{_≡_, refl, sym, ap, _∙_}
 use mathlib.Core.List.{List}
-use mathlib.Core.Bool.{Bool, true, false}
+use mathlib.Core.Bool.{Bool, true, false, cond}
 use lib.Dec.{ltb, leb}
 use lib.ListN.{length, take, drop, length-drop}
 use lib.IntN.{ℤ}
 use borrow.Author.Tests.{lt-ltb, le-ltb, le-leb, lt-leb, ltb-true, ltb-false, leb-true, leb-false}
 use Rattle.text.specs.Text.{Bytes}
+use Rattle.judge_file.specs.Place.{sdfile}
+use Rattle.judge_file.specs.WalkText.{afterLines}
+use Rattle.reader_walk.specs.Outcome.{Outcome, whole, refused, outcomeOf}
+use Rattle.reader_walk.specs.Walked.{walkedBy, walkOf}
 use Rattle.reader_cursor.specs.declared.Cursor.{Cursor}
 use Rattle.reader_cursor.specs.Walk.{past, Countable}
-use Rattle.reader_cursor.specs.After.{tail-is}
+use Rattle.reader_cursor.specs.After.{tail-is, outcome-size, outcome-line}
 use Rattle.reader_record.specs.declared.RecordRead.{RecordRead}
-use Rattle.reader_record.specs.Read.{readOf, atomsAfter, bondsAfter}
-use Rattle.reader_record.specs.Bounds.{read-small, refused-small}
+use Rattle.reader_record.specs.Read.{answered, readAs, readOf, atomsAfter, bondsAfter}
 use Rattle.reader_file.specs.declared.Next.{Next}
 use Rattle.reader_file.specs.Next.{Within, within, nextBy, nextAt, atomsAt, bondsAt, nextOn, atomsOn, bondsOn, nextOf, atomsNext, bondsNext}
+
+-- ---- The numbers of a reading lie within its text
+
+apart : {X : Type 0} {n m chiral len k h a b e i c : ℕ} → RecordRead.Refused e i c ≡ RecordRead.Read n m chiral len k h a b → X
+apart h = absurd (let z : _≡_ {A = ℕ} 0 1 = cc in omega arith)
+
+module _ (la lb : ℕ) (t : Bytes) where
+  abbrev by : Bool → Bool → Outcome → RecordRead
+  by x y o = cond x (RecordRead.Refused 2 0 0) (cond y (RecordRead.Refused 2 0 0) (answered (walkedBy sdfile t o)))
+
+  read-small : (n m chiral len k h a b : ℕ) → readOf 1 la lb t ≡ RecordRead.Read n m chiral len k h a b → (1 ≤ k) × (k ≤ len) × (len ≤ length t)
+  unfolding readOf readAs walkOf answered
+  read-small n m chiral len k h a b e = go (ltb la 4080) (ltb lb 1530) (outcomeOf sdfile t) refl e
+    where
+      go : (x y : Bool) (o : Outcome) → outcomeOf sdfile t ≡ o → by x y o ≡ RecordRead.Read n m chiral len k h a b → (1 ≤ k) × (k ≤ len) × (len ≤ length t)
+      go true y o i q = apart q
+      go false true o i q = apart q
+      go false false (whole x j) i q =
+          let jk : j ≡ k = cc in
+          let size : afterLines t 0 j ≡ len = cc in
+          let w = outcome-size t x j i in
+          (omega (arith, w .0), omega (arith, w .1), omega (arith, w .2))
+      go false false (refused n j d) i q = apart q
+
+  refused-small : (e i c : ℕ) → readOf 1 la lb t ≡ RecordRead.Refused e i c → i ≤ length t + 1
+  unfolding readOf readAs walkOf answered
+  refused-small e i c h = go (ltb la 4080) (ltb lb 1530) (outcomeOf sdfile t) refl h
+    where
+      no-line : RecordRead.Refused 2 0 0 ≡ RecordRead.Refused e i c → i ≤ length t + 1
+      no-line q = let z : 0 ≡ i = cc in omega arith
+
+      go : (x y : Bool) (o : Outcome) → outcomeOf sdfile t ≡ o → by x y o ≡ RecordRead.Refused e i c → i ≤ length t + 1
+      go true y o j q = no-line q
+      go false true o j q = no-line q
+      go false false (whole x k) j q = apart (sym q)
+      go false false (refused n k d) j q =
+          let ki : k ≡ i = cc in
+          omega (arith, outcome-line t n k d j)
 
 -- ---- The record at the cursor
 

@@ -23,7 +23,7 @@ use Rattle.judge_file.specs.Promise.{accepted-sd, refusal-bad}
 use Rattle.judge_file.specs.Promise as J
 use Rattle.reader_walk.specs.Promise as W
 use Rattle.reader_walk.specs.Promise.{RefusedAt, Checked, saidBy, verdict-checked, checked-one}
-use Rattle.judge_parts.specs.Part.{PartVerdict, good, refused}
+use Rattle.judge_parts.specs.Part.{PartVerdict, good}
 use Rattle.reader_record.specs.Read.{rowsIn}
 use Rattle.reader_record.specs.Promise.{Roomy}
 use Rattle.writer_record.specs.Write.{demand, roomy}
@@ -149,9 +149,9 @@ module _ (s : Bytes) where
 module _ (s : Bytes) (ta tb : List ℤ) (k : ℕ) where
   -- what was found, with its reason
   data Found : PartVerdict (List Raw) → Type 0 where
-    tables : ¬ Roomy ta tb → Found (refused 2 0 0)
-    file : {e i c : ℕ} → Roomy ta tb → verdict sdfile limit s ≡ Verdict.refused e i c → Found (refused e i c)
-    room : {xs : List Raw} → Roomy ta tb → verdict sdfile limit s ≡ Verdict.accepted xs → k < length (catalogueText xs) → Found (refused 20 0 0)
+    tables : ¬ Roomy ta tb → Found (PartVerdict.refused 2 0 0)
+    file : {e i c : ℕ} → Roomy ta tb → verdict sdfile limit s ≡ Verdict.refused e i c → Found (PartVerdict.refused e i c)
+    room : {xs : List Raw} → Roomy ta tb → verdict sdfile limit s ≡ Verdict.accepted xs → k < length (catalogueText xs) → Found (PartVerdict.refused 20 0 0)
     fine : {xs : List Raw} → Roomy ta tb → verdict sdfile limit s ≡ Verdict.accepted xs → length (catalogueText xs) ≤ k → Found (good xs)
 
   found : Found (catalogueFor ta tb s k)
@@ -167,7 +167,7 @@ module _ (s : Bytes) (ta tb : List ℤ) (k : ℕ) where
       go true a (Verdict.accepted xs) e = fit xs (roomy-agrees ta tb .0 a) e (leb (length (catalogueText xs)) k) refl
       go true a (Verdict.refused n i c) e = Found.file (roomy-agrees ta tb .0 a) e
 
-  by-tables : ¬ Roomy ta tb → catalogueFor ta tb s k ≡ refused 2 0 0
+  by-tables : ¬ Roomy ta tb → catalogueFor ta tb s k ≡ PartVerdict.refused 2 0 0
   unfolding catalogueFor
   by-tables h = rw (roomy-false ta tb h)
 
@@ -176,7 +176,7 @@ module _ (s : Bytes) (ta tb : List ℤ) (k : ℕ) where
     unfolding catalogueFor fileFor
     by-file v e = rw (roomy-agrees ta tb .1 r, e)
 
-    by-room : (xs : List Raw) → GoodSDfile s xs → k < length (catalogueText xs) → catalogueFor ta tb s k ≡ refused 20 0 0
+    by-room : (xs : List Raw) → GoodSDfile s xs → k < length (catalogueText xs) → catalogueFor ta tb s k ≡ PartVerdict.refused 20 0 0
     by-room xs g h = by-file (Verdict.accepted xs) (accepted-sd limit s xs .1 g) ∙ rw (lt-leb (length (catalogueText xs)) k h)
 
     by-good : (xs : List Raw) → GoodSDfile s xs → length (catalogueText xs) ≤ k → catalogueFor ta tb s k ≡ good xs
@@ -205,7 +205,7 @@ module _ (s : Bytes) (ta tb : List ℤ) (k : ℕ) where
   refused-by n j d (Found.room {xs = xs} r e h) q = said-as q (Refusal.room r (accepted-sd limit s xs .0 e) h)
   refused-by n j d (Found.fine r e h) q = absurd (let z : _≡_ {A = ℕ} 0 1 = cc in omega arith)
 
-  by-refusal : {n j d : ℕ} → Refusal s ta tb k n j d → catalogueFor ta tb s k ≡ refused n j d
+  by-refusal : {n j d : ℕ} → Refusal s ta tb k n j d → catalogueFor ta tb s k ≡ PartVerdict.refused n j d
   by-refusal (Refusal.tables h) = by-tables h
   by-refusal (Refusal.file {e = e} {line = i} {column = c} r f) = by-file r (Verdict.refused e i c) (at-refused s e i c f)
   by-refusal (Refusal.room {xs = xs} r g h) = by-room r xs g h
@@ -220,7 +220,7 @@ refused-is (Catalogue.Refused n j d) e i c h = cc
 
 room-by : (r : Bytes) (n j d : ℕ) (v : PartVerdict (List Raw)) → answerBy v ≡ Catalogue.Refused n j d → roomBy r v ≡ r
 room-by r n j d (good xs) q = absurd (let z : _≡_ {A = ℕ} 0 1 = cc in omega arith)
-room-by r n j d (refused e i c) q = refl
+room-by r n j d (PartVerdict.refused e i c) q = refl
 
 module _ (s : Bytes) (ta₀ tb₀ : List ℤ) (r₀ : Bytes) where
   promise : (a : Catalogue) (ta tb : List ℤ) (r : Bytes) → a ≡ catalogueOf ta₀ tb₀ s (length r₀) → r ≡ roomAfter ta₀ tb₀ s r₀ → ta ≡ atomsAfter ta₀ tb₀ → tb ≡ bondsAfter ta₀ tb₀ →
