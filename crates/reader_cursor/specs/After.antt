@@ -59,140 +59,18 @@ module _ (t : Bytes) where
       let f = one-short limit (omega arith) (cut t .lines) k h .0 in
       (omega arith, omega (arith, few-lines t))
 
--- ---- Steps of the walk
-
-walk-skip : (xs : List Raw) (c : Cursor) (skip : ℕ) (t : Bytes) → walkFrom xs c skip t ≡ walkFrom xs c 0 (drop skip t)
-unfolding walkFrom
-walk-skip xs c zero t = refl
-walk-skip xs c (suc skip) [] = refl
-walk-skip xs c (suc skip) (b ∷ t) = walk-skip xs c skip t
-
-module _ (xs : List Raw) (c : Cursor) where
-  pub walk-over : walkFrom xs c 0 [] ≡ over xs c
-  unfolding walkFrom
-  walk-over = refl
-
-  module _ (t : Bytes) (some : 0 < length t) where
-    pub walk-whole : (x : Raw) (k : ℕ) (rest : List Line) → oneRecord limit (cut t .lines) ≡ One.whole x k rest →
-        walkFrom xs c 0 t ≡ walkFrom (xs ++ (x ∷ [])) (past c (afterLines t 0 k) k) 0 (drop (afterLines t 0 k) t)
-    unfolding walkFrom
-    walk-whole x k rest h = go t refl (whole-size t x k rest h)
-      where
-        go : (u : Bytes) → u ≡ t → (1 ≤ k) × (k ≤ afterLines t 0 k) × (afterLines t 0 k ≤ length t) →
-            walkFrom xs c 0 u ≡ walkFrom (xs ++ (x ∷ [])) (past c (afterLines u 0 k) k) 0 (drop (afterLines u 0 k) u)
-        go [] e r = absurd (omega (arith, ap length e))
-        go (b ∷ u) e r =
-            let n = afterLines (b ∷ u) 0 k in
-            let p : oneRecord limit (cut (b ∷ u) .lines) ≡ One.whole x k rest = ap (λ (v : Bytes). oneRecord limit (cut v .lines)) e ∙ h in
-            let m : afterLines (b ∷ u) 0 k ≡ suc (afterLines (b ∷ u) 0 k - 1) = omega (arith, r .0, r .1, ap (λ (v : Bytes). afterLines v 0 k) e) in
-            let one : walkFrom xs c 0 (b ∷ u) ≡ walkFrom (xs ++ (x ∷ [])) (past c n k) (n - 1) u = rw (p, walkFrom) in
-            one ∙ walk-skip (xs ++ (x ∷ [])) (past c n k) (n - 1) u ∙ ap (λ (j : ℕ). walkFrom (xs ++ (x ∷ [])) (past c n k) 0 (drop j (b ∷ u))) (sym m)
-
-    pub walk-refused : (e k column : ℕ) → oneRecord limit (cut t .lines) ≡ One.refused e k column → walkFrom xs c 0 t ≡ stopped xs c e (c .lines + k) column
-    unfolding walkFrom
-    walk-refused e k column h = go t refl
-      where
-        go : (u : Bytes) → u ≡ t → walkFrom xs c 0 u ≡ stopped xs c e (c .lines + k) column
-        go [] q = absurd (omega (arith, ap length q))
-        go (b ∷ u) q =
-            let p : oneRecord limit (cut (b ∷ u) .lines) ≡ One.refused e k column = ap (λ (v : Bytes). oneRecord limit (cut v .lines)) q ∙ h in
-            rw (p, walkFrom)
-
-    pub walk-short : (k : ℕ) → oneRecord limit (cut t .lines) ≡ One.short k → walkFrom xs c 0 t ≡ short xs c (c .lines + k)
-    unfolding walkFrom
-    walk-short k h = go t refl
-      where
-        go : (u : Bytes) → u ≡ t → walkFrom xs c 0 u ≡ short xs c (c .lines + k)
-        go [] q = absurd (omega (arith, ap length q))
-        go (b ∷ u) q =
-            let p : oneRecord limit (cut (b ∷ u) .lines) ≡ One.short k = ap (λ (v : Bytes). oneRecord limit (cut v .lines)) q ∙ h in
-            rw (p, walkFrom)
-
--- ---- It is the judge's
-
-judged-from : (t : Bytes) (xs : List Raw) (c : Cursor) (skip : ℕ) → fileText limit xs (c .lines + 1) (drop skip t) ≡ verdictBy (walkFrom xs c skip t)
-unfolding walkFrom
-judged-from [] xs c zero = text-end limit xs (c .lines + 1)
-judged-from [] xs c (suc skip) = text-end limit xs (c .lines + 1)
-judged-from (b ∷ t) xs c (suc skip) = judged-from t xs c skip
-judged-from (b ∷ t) xs c zero = go (λ ys d skip. judged-from t ys d skip) (oneRecord limit (cut (b ∷ t) .lines)) refl
-  where
-    go : ((ys : List Raw) (d : Cursor) (skip : ℕ) → fileText limit ys (d .lines + 1) (drop skip t) ≡ verdictBy (walkFrom ys d skip t)) → (o : One) →
-        oneRecord limit (cut (b ∷ t) .lines) ≡ o → fileText limit xs (c .lines + 1) (b ∷ t) ≡ verdictBy (walkFrom xs c 0 (b ∷ t))
-    go r (One.whole x k rest) h =
-        let n = afterLines (b ∷ t) 0 k in
-        let w = whole-size (b ∷ t) x k rest h in
-        let m : afterLines (b ∷ t) 0 k ≡ suc (afterLines (b ∷ t) 0 k - 1) = omega (arith, w .0, w .1) in
-        let i : c .lines + 1 + k ≡ c .lines + k + 1 = omega arith in
-        text-whole limit xs (c .lines + 1) (b ∷ t) x k rest h
-        ∙ ap₂ (λ (j l : ℕ). fileText limit (xs ++ (x ∷ [])) j (drop l (b ∷ t))) i m
-        ∙ r (xs ++ (x ∷ [])) (past c n k) (n - 1)
-        ∙ ap verdictBy
-        (walk-skip (xs ++ (x ∷ [])) (past c n k) (n - 1) t
-        ∙ ap (λ (j : ℕ). walkFrom (xs ++ (x ∷ [])) (past c n k) 0 (drop j (b ∷ t))) (sym m)
-        ∙ sym (walk-whole xs c (b ∷ t) (omega arith) x k rest h))
-    go r (One.refused e k column) h =
-        let i : c .lines + 1 + k - 1 ≡ c .lines + k = omega arith in
-        text-refused limit xs (c .lines + 1) (b ∷ t) e k column h
-        ∙ ap (λ (j : ℕ). Verdict.refused e j column) i
-        ∙ sym (ap verdictBy (walk-refused xs c (b ∷ t) (omega arith) e k column h))
-    go r (One.short k) h =
-        let i : c .lines + 1 + k - 1 ≡ c .lines + k = omega arith in
-        text-short limit xs (c .lines + 1) (b ∷ t) k h (omega arith)
-        ∙ ap (λ (j : ℕ). Verdict.refused 19 j 1) i
-        ∙ sym (ap verdictBy (walk-short xs c (b ∷ t) (omega arith) k h))
-
-pub verdict-walk : (s : Bytes) → verdict sdfile limit s ≡ verdictBy (fileWalk s)
-unfolding fileWalk
-verdict-walk s = verdict-text limit s ∙ judged-from s [] fresh 0
-
--- records that are read stay the first
-pub walk-more : (t : Bytes) (xs : List Raw) (c : Cursor) (skip : ℕ) → (ys : List Raw) × (recordsOf (walkFrom xs c skip t) ≡ xs ++ ys)
-unfolding walkFrom
-walk-more [] xs c zero = ([], sym (append-nil xs))
-walk-more [] xs c (suc skip) = ([], sym (append-nil xs))
-walk-more (b ∷ t) xs c (suc skip) = walk-more t xs c skip
-walk-more (b ∷ t) xs c zero = go (λ ys d skip. walk-more t ys d skip) (oneRecord limit (cut (b ∷ t) .lines)) refl
-  where
-    same : {v w : Walk} {zs : List Raw} → v ≡ w → recordsOf w ≡ zs → recordsOf v ≡ zs
-    same e h = ap recordsOf e ∙ h
-
-    go : ((ys : List Raw) (d : Cursor) (skip : ℕ) → (zs : List Raw) × (recordsOf (walkFrom ys d skip t) ≡ ys ++ zs)) → (o : One) →
-        oneRecord limit (cut (b ∷ t) .lines) ≡ o → (zs : List Raw) × (recordsOf (walkFrom xs c 0 (b ∷ t)) ≡ xs ++ zs)
-    go r (One.whole x k rest) h =
-        let n = afterLines (b ∷ t) 0 k in
-        let m = r (xs ++ (x ∷ [])) (past c n k) (n - 1) in
-        let e : walkFrom xs c 0 (b ∷ t) ≡ walkFrom (xs ++ (x ∷ [])) (past c n k) (n - 1) t = rw (h, walkFrom) in
-        (x ∷ (m .0), same e (m .1) ∙ append-assoc xs (x ∷ []) (m .0))
-    go r (One.refused e k column) h = ([], same (walk-refused xs c (b ∷ t) (omega arith) e k column h) (sym (append-nil xs)))
-    go r (One.short k) h = ([], same (walk-short xs c (b ∷ t) (omega arith) k h) (sym (append-nil xs)))
-
--- ---- The law
-
--- cursor c stands after the records xs of the text: what the walk from the start comes to, the walk from here comes to
-pub record After (s : Bytes) (xs : List Raw) (c : Cursor) : Type 0 where
-  pub inside : c .at ≤ length s
-  pub lines : c .lines ≤ c .at
-  pub records : c .records ≤ c .lines
-  pub count : c .records ≡ length xs
-  pub same : fileWalk s ≡ walkFrom xs c 0 (drop (c .at) s)
-
-pub after-start : (s : Bytes) → After s [] fresh
-unfolding fileWalk
-after-start s = record { inside = omega arith; lines = omega arith; records = omega arith; count = refl; same = refl }
-
 -- the record at the front, as its outcome tells of it
-abbrev Whole : Bytes → Raw → ℕ → Type 0
+abbrev pub Whole : Bytes → Raw → ℕ → Type 0
 Whole t x k = (rest : List Line) × (oneRecord limit (cut t .lines) ≡ One.whole x k rest)
 
-data Not (t : Bytes) : ℕ → ℕ → ℕ → Type 0 where
+pub data Not (t : Bytes) : ℕ → ℕ → ℕ → Type 0 where
   dead : {e k column : ℕ} → oneRecord limit (cut t .lines) ≡ One.refused e k column → Not t e k column
   cut-short : {k : ℕ} → oneRecord limit (cut t .lines) ≡ One.short k → Not t 19 k 1
 
 module _ (t : Bytes) where
-  whole-one : (x : Raw) (k : ℕ) → outcomeOf sdfile t ≡ whole x k → Whole t x k
+  pub outcome-one : (x : Raw) (k : ℕ) → outcomeOf sdfile t ≡ whole x k → Whole t x k
   unfolding outcomeOf
-  whole-one x k h = go (oneRecord limit (cut t .lines)) refl h
+  outcome-one x k h = go (oneRecord limit (cut t .lines)) refl h
     where
       go : (o : One) → oneRecord limit (cut t .lines) ≡ o → ofOne o ≡ whole x k → Whole t x k
       go (One.whole y j rest) e q =
@@ -202,9 +80,9 @@ module _ (t : Bytes) where
       go (One.refused n j c) e q = absurd (let z : _≡_ {A = ℕ} 0 1 = cc in omega arith)
       go (One.short j) e q = absurd (let z : _≡_ {A = ℕ} 0 1 = cc in omega arith)
 
-  not-one : (e k column : ℕ) → outcomeOf sdfile t ≡ refused e k column → Not t e k column
+  pub outcome-not : (e k column : ℕ) → outcomeOf sdfile t ≡ refused e k column → Not t e k column
   unfolding outcomeOf
-  not-one e k column h = go (oneRecord limit (cut t .lines)) refl h
+  outcome-not e k column h = go (oneRecord limit (cut t .lines)) refl h
     where
       as-told : {n j d : ℕ} → Not t n j d → refused n j d ≡ refused e k column → Not t e k column
       as-told {n} {j} {d} f q =
@@ -221,27 +99,74 @@ module _ (t : Bytes) where
 -- its bytes and lines lie within the text, and so does the line of its refusal, or right after
 module _ (t : Bytes) where
   pub outcome-size : (x : Raw) (k : ℕ) → outcomeOf sdfile t ≡ whole x k → (1 ≤ k) × (k ≤ afterLines t 0 k) × (afterLines t 0 k ≤ length t)
-  outcome-size x k h = let o = whole-one t x k h in whole-size t x k (o .0) (o .1)
+  outcome-size x k h = let o = outcome-one t x k h in whole-size t x k (o .0) (o .1)
 
   pub outcome-line : (e k column : ℕ) → outcomeOf sdfile t ≡ refused e k column → k ≤ length t + 1
-  outcome-line e k column h = go (not-one t e k column h)
+  outcome-line e k column h = go (outcome-not t e k column h)
     where
       go : {e k column : ℕ} → Not t e k column → k ≤ length t + 1
       go {e} {k} {column} (Not.dead o) = omega (arith, refused-size t e k column o .1)
       go {e} {k} (Not.cut-short o) = short-size t k o .1
 
+-- ---- Steps of the walk
+
+walk-skip : (xs : List Raw) (c : Cursor) (skip : ℕ) (t : Bytes) → walkFrom xs c skip t ≡ walkFrom xs c 0 (drop skip t)
+unfolding walkFrom
+walk-skip xs c zero t = refl
+walk-skip xs c (suc skip) [] = refl
+walk-skip xs c (suc skip) (b ∷ t) = walk-skip xs c skip t
+
+-- by the record at the front of what is left
+abbrev stepBy : List Raw → Cursor → Bytes → One → Walk
+stepBy xs c t (One.whole x k rest) = walkFrom (xs ++ (x ∷ [])) (past c (afterLines t 0 k) k) 0 (drop (afterLines t 0 k) t)
+stepBy xs c t (One.refused e k column) = stopped xs c e (c .lines + k) column
+stepBy xs c t (One.short k) = short xs c (c .lines + k)
+
+walk-step : (xs : List Raw) (c : Cursor) (t : Bytes) → 0 < length t → walkFrom xs c 0 t ≡ stepBy xs c t (oneRecord limit (cut t .lines))
+unfolding walkFrom
+walk-step xs c [] some = absurd (omega arith)
+walk-step xs c (b ∷ t) some = go (oneRecord limit (cut (b ∷ t) .lines)) refl
+  where
+    go : (o : One) → oneRecord limit (cut (b ∷ t) .lines) ≡ o → walkFrom xs c 0 (b ∷ t) ≡ stepBy xs c (b ∷ t) (oneRecord limit (cut (b ∷ t) .lines))
+    go (One.whole x k rest) h =
+        let n = afterLines (b ∷ t) 0 k in
+        let w = whole-size (b ∷ t) x k rest h in
+        let m : afterLines (b ∷ t) 0 k ≡ suc (afterLines (b ∷ t) 0 k - 1) = omega (arith, w .0, w .1) in
+        let one : walkFrom xs c 0 (b ∷ t) ≡ walkFrom (xs ++ (x ∷ [])) (past c n k) (n - 1) t = rw (h, walkFrom) in
+        one ∙ walk-skip (xs ++ (x ∷ [])) (past c n k) (n - 1) t
+        ∙ ap (λ (j : ℕ). walkFrom (xs ++ (x ∷ [])) (past c n k) 0 (drop j (b ∷ t))) (sym m)
+        ∙ sym (ap (stepBy xs c (b ∷ t)) h)
+    go (One.refused e k column) h = let one : walkFrom xs c 0 (b ∷ t) ≡ stopped xs c e (c .lines + k) column = rw (h, walkFrom) in one ∙ sym (ap (stepBy xs c (b ∷ t)) h)
+    go (One.short k) h = let one : walkFrom xs c 0 (b ∷ t) ≡ short xs c (c .lines + k) = rw (h, walkFrom) in one ∙ sym (ap (stepBy xs c (b ∷ t)) h)
+
+-- ---- The law
+
+-- cursor c stands after the records xs of the text: what the walk from the start comes to, the walk from here comes to
+pub record After (s : Bytes) (xs : List Raw) (c : Cursor) : Type 0 where
+  pub inside : c .at ≤ length s
+  pub lines : c .lines ≤ c .at
+  pub records : c .records ≤ c .lines
+  pub count : c .records ≡ length xs
+  pub same : fileWalk s ≡ walkFrom xs c 0 (drop (c .at) s)
+
+pub after-start : (s : Bytes) → After s [] fresh
+unfolding fileWalk
+after-start s = record { inside = omega arith; lines = omega arith; records = omega arith; count = refl; same = refl }
+
+-- how the walk ends at a cursor before a record that is refused
+abbrev pub stopBy : List Raw → Cursor → {t : Bytes} {e k column : ℕ} → Not t e k column → Walk
+stopBy xs c {t} {e} {k} {column} (Not.dead o) = stopped xs c e (c .lines + k) column
+stopBy xs c {t} {e} {k} {column} (Not.cut-short o) = short xs c (c .lines + k)
+
 module _ (s : Bytes) (xs : List Raw) (c : Cursor) (g : After s xs c) where
   -- nothing is left
   pub after-over : length s ≤ c .at → fileWalk s ≡ over xs c
-  after-over h = g .same ∙ ap (walkFrom xs c 0) (drop-of-length-le s h) ∙ walk-over xs c
-
-  -- all records of the text begin with these
-  pub after-more : (ys : List Raw) × (recordsOf (fileWalk s) ≡ xs ++ ys)
-  after-more = let m = walk-more (drop (c .at) s) xs c 0 in (m .0, ap recordsOf (g .same) ∙ m .1)
+  unfolding walkFrom
+  after-over h = g .same ∙ ap (walkFrom xs c 0) (drop-of-length-le s h)
 
   module _ (some : c .at < length s) where
-    left : 0 < length (drop (c .at) s)
-    left = omega (arith, length-drop (c .at) s)
+    step : fileWalk s ≡ stepBy xs c (drop (c .at) s) (oneRecord limit (cut (drop (c .at) s) .lines))
+    step = g .same ∙ walk-step xs c (drop (c .at) s) (omega (arith, length-drop (c .at) s))
 
     -- ---- A whole record: the cursor moves past it
 
@@ -267,7 +192,6 @@ module _ (s : Bytes) (xs : List Raw) (c : Cursor) (g : After s xs c) where
 
       pub after-next : After s (xs ++ (x ∷ [])) (past c bytes k)
       after-next =
-          let o = whole-one (drop (c .at) s) x k h in
           let w = after-size in
           record {
             inside = w .2;
@@ -275,70 +199,30 @@ module _ (s : Bytes) (xs : List Raw) (c : Cursor) (g : After s xs c) where
             records = omega (arith, w .0, g .records);
             count = omega (arith, g .count, length-append xs (x ∷ []));
             same =
-                g .same ∙ walk-whole xs c (drop (c .at) s) left x k (o .0) (o .1)
+                step ∙ ap (stepBy xs c (drop (c .at) s)) (outcome-one (drop (c .at) s) x k h .1)
                 ∙ ap (walkFrom (xs ++ (x ∷ [])) (past c bytes k) 0) (drop-drop bytes (c .at) s);
           }
 
     -- ---- A refusal: its line counts from the text's start
 
+    pub after-stop : {e k column : ℕ} (n : Not (drop (c .at) s) e k column) → fileWalk s ≡ stopBy xs c n
+    after-stop (Not.dead o) = step ∙ ap (stepBy xs c (drop (c .at) s)) o
+    after-stop (Not.cut-short o) = step ∙ ap (stepBy xs c (drop (c .at) s)) o
+
     module _ (e k column : ℕ) (h : outcomeOf sdfile (drop (c .at) s) ≡ refused e k column) where
       pub after-line : length s * 1 < 2 ^ 63 → c .lines + k < 2 ^ 64
       after-line f = omega (arith, outcome-line (drop (c .at) s) e k column h, length-drop (c .at) s, g .lines, g .inside)
 
-      pub after-verdict : verdict sdfile limit s ≡ Verdict.refused e (c .lines + k) column
-      after-verdict = verdict-walk s ∙ go (not-one (drop (c .at) s) e k column h)
-        where
-          go : {e k column : ℕ} → Not (drop (c .at) s) e k column → verdictBy (fileWalk s) ≡ Verdict.refused e (c .lines + k) column
-          go {e} {k} {column} (Not.dead o) = ap verdictBy (g .same ∙ walk-refused xs c (drop (c .at) s) left e k column o)
-          go {e} {k} (Not.cut-short o) = ap verdictBy (g .same ∙ walk-short xs c (drop (c .at) s) left k o)
-
-      -- the walk ends here
-      pub after-stops : (recordsOf (fileWalk s) ≡ xs) × (cursorOf (fileWalk s) ≡ c)
-      after-stops = go (not-one (drop (c .at) s) e k column h)
-        where
-          by : (w : Walk) → fileWalk s ≡ w → recordsOf w ≡ xs → cursorOf w ≡ c → (recordsOf (fileWalk s) ≡ xs) × (cursorOf (fileWalk s) ≡ c)
-          by w q a b = (ap recordsOf q ∙ a, ap cursorOf q ∙ b)
-
-          go : {e k column : ℕ} → Not (drop (c .at) s) e k column → (recordsOf (fileWalk s) ≡ xs) × (cursorOf (fileWalk s) ≡ c)
-          go {e} {k} {column} (Not.dead o) =
-              by (stopped xs c e (c .lines + k) column) (g .same ∙ walk-refused xs c (drop (c .at) s) left e k column o) refl refl
-          go {e} {k} (Not.cut-short o) = by (short xs c (c .lines + k)) (g .same ∙ walk-short xs c (drop (c .at) s) left k o) refl refl
-
       -- as the code says it: 19 is given nowhere else
       pub after-ended : stopAt c e k column ≡ endedBy (fileWalk s)
       unfolding stopAt
-      after-ended = go (not-one (drop (c .at) s) e k column h)
+      after-ended = let n = outcome-not (drop (c .at) s) e k column h in go n ∙ sym (ap endedBy (after-stop n))
         where
-          go : {e k column : ℕ} → Not (drop (c .at) s) e k column → stopAt c e k column ≡ endedBy (fileWalk s)
+          go : {e k column : ℕ} (n : Not (drop (c .at) s) e k column) → stopAt c e k column ≡ endedBy (stopBy xs c n)
           go {e} {k} {column} (Not.dead o) =
               let m = one-refused limit (omega arith) (cut (drop (c .at) s) .lines) e k column o .0 in
-              rw (ne-eqb e 19 (λ q. omega (arith, q, m .1))) (sym (ap endedBy (g .same ∙ walk-refused xs c (drop (c .at) s) left e k column o)))
-          go {e} {k} (Not.cut-short o) = sym (ap endedBy (g .same ∙ walk-short xs c (drop (c .at) s) left k o))
-
-  -- ---- The end of a good text, and a good text walked again
-
-  pub after-good : length s ≤ c .at → verdict sdfile limit s ≡ Verdict.accepted xs
-  after-good h = verdict-walk s ∙ ap verdictBy (after-over h)
-
-  module _ (zs : List Raw) (is : verdict sdfile limit s ≡ Verdict.accepted zs) where
-    -- its records begin with those read
-    pub good-more : (ys : List Raw) × (zs ≡ xs ++ ys)
-    good-more = let m = after-more in (m .0, sym (go (fileWalk s) (sym (verdict-walk s) ∙ is)) ∙ m .1)
-      where
-        go : (w : Walk) → verdictBy w ≡ Verdict.accepted zs → recordsOf w ≡ zs
-        go (over ys d) e = cc
-        go (short ys d i) e = absurd (let z : _≡_ {A = ℕ} 0 1 = cc in omega arith)
-        go (stopped ys d n i column) e = absurd (let z : _≡_ {A = ℕ} 0 1 = cc in omega arith)
-
-    -- where bytes are left, the next is whole
-    pub good-whole : c .at < length s → (x : Raw) × (k : ℕ) × (outcomeOf sdfile (drop (c .at) s) ≡ whole x k)
-    good-whole some = go (outcomeOf sdfile (drop (c .at) s)) refl
-      where
-        go : (o : Outcome) → outcomeOf sdfile (drop (c .at) s) ≡ o → (x : Raw) × (k : ℕ) × (outcomeOf sdfile (drop (c .at) s) ≡ whole x k)
-        go (whole x k) e = (x, k, e)
-        go (refused e k column) h =
-            let q : Verdict.accepted zs ≡ Verdict.refused e (c .lines + k) column = sym is ∙ after-verdict some e k column h in
-            absurd (let z : _≡_ {A = ℕ} 0 1 = cc in omega arith)
+              rw (ne-eqb e 19 (λ q. omega (arith, q, m .1)))
+          go (Not.cut-short o) = refl
 
 -- ---- By induction over the walk: what holds where it ends, and holds before a record if it holds after it, holds at every cursor
 
@@ -371,16 +255,107 @@ module _ (s : Bytes) (P : List Raw → Cursor → Type 0)
   pub after-all : (xs : List Raw) (c : Cursor) → After s xs c → P xs c
   after-all xs c g = by-fuel (length s) xs c g (omega arith)
 
--- the cursor with which the walk ends stands after the records it has read
-pub walk-after : (s : Bytes) → After s (recordsOf (fileWalk s)) (cursorOf (fileWalk s))
-walk-after s = after-all s (λ (xs : List Raw) (c : Cursor). After s (recordsOf (fileWalk s)) (cursorOf (fileWalk s))) ends stops (λ xs c g some x k e v. v) [] fresh (after-start s)
-  where
-    by : (xs : List Raw) (c : Cursor) → After s xs c → recordsOf (fileWalk s) ≡ xs → cursorOf (fileWalk s) ≡ c → After s (recordsOf (fileWalk s)) (cursorOf (fileWalk s))
-    by xs c g a b = subst (λ (ys : List Raw). After s ys (cursorOf (fileWalk s))) (sym a) (subst (After s xs) (sym b) g)
+-- ---- Three uses of it
 
-    ends : (xs : List Raw) (c : Cursor) → After s xs c → length s ≤ c .at → After s (recordsOf (fileWalk s)) (cursorOf (fileWalk s))
-    ends xs c g h = let e = after-over s xs c g h in by xs c g (ap recordsOf e) (ap cursorOf e)
+module _ (s : Bytes) where
+  abbrev Ended : List Raw → Cursor → Type 0
+  Ended xs c = After s (recordsOf (fileWalk s)) (cursorOf (fileWalk s))
 
-    stops : (xs : List Raw) (c : Cursor) → After s xs c → c .at < length s → (e k column : ℕ) → outcomeOf sdfile (drop (c .at) s) ≡ refused e k column →
-        After s (recordsOf (fileWalk s)) (cursorOf (fileWalk s))
-    stops xs c g some e k column h = let t = after-stops s xs c g some e k column h in by xs c g (t .0) (t .1)
+  -- the cursor with which the walk ends stands after the records it has read
+  pub walk-after : After s (recordsOf (fileWalk s)) (cursorOf (fileWalk s))
+  walk-after = after-all s Ended (λ xs c g h. by xs c g (over xs c) (after-over s xs c g h) refl refl) stops (λ xs c g some x k e v. v) [] fresh (after-start s)
+    where
+      by : (xs : List Raw) (c : Cursor) → After s xs c → (w : Walk) → fileWalk s ≡ w → recordsOf w ≡ xs → cursorOf w ≡ c → Ended xs c
+      by xs c g w q a b =
+          subst (λ (v : Walk). After s (recordsOf v) (cursorOf v)) (sym q) (subst (λ (ys : List Raw). After s ys (cursorOf w)) (sym a) (subst (After s xs) (sym b) g))
+
+      stops : (xs : List Raw) (c : Cursor) → After s xs c → c .at < length s → (e k column : ℕ) → outcomeOf sdfile (drop (c .at) s) ≡ refused e k column → Ended xs c
+      stops xs c g some e k column h = go (outcome-not (drop (c .at) s) e k column h)
+        where
+          go : {e k column : ℕ} → Not (drop (c .at) s) e k column → Ended xs c
+          go {e} {k} {column} (Not.dead o) = by xs c g (stopped xs c e (c .lines + k) column) (after-stop s xs c g some (Not.dead o)) refl refl
+          go {e} {k} (Not.cut-short o) = by xs c g (short xs c (c .lines + k)) (after-stop s xs c g some (Not.cut-short o)) refl refl
+
+  abbrev More : List Raw → Cursor → Type 0
+  More xs c = (ys : List Raw) × (recordsOf (fileWalk s) ≡ xs ++ ys)
+
+  -- records that are read stay the first
+  pub after-more : (xs : List Raw) (c : Cursor) → After s xs c → More xs c
+  after-more =
+      after-all s More (λ xs c g h. ([], ap recordsOf (after-over s xs c g h) ∙ sym (append-nil xs))) stops
+      (λ xs c g some x k e v. (x ∷ (v .0), v .1 ∙ append-assoc xs (x ∷ []) (v .0)))
+    where
+      stops : (xs : List Raw) (c : Cursor) → After s xs c → c .at < length s → (e k column : ℕ) → outcomeOf sdfile (drop (c .at) s) ≡ refused e k column → More xs c
+      stops xs c g some e k column h = go (outcome-not (drop (c .at) s) e k column h)
+        where
+          go : {e k column : ℕ} → Not (drop (c .at) s) e k column → More xs c
+          go (Not.dead o) = ([], ap recordsOf (after-stop s xs c g some (Not.dead o)) ∙ sym (append-nil xs))
+          go (Not.cut-short o) = ([], ap recordsOf (after-stop s xs c g some (Not.cut-short o)) ∙ sym (append-nil xs))
+
+  abbrev Judged : List Raw → Cursor → Type 0
+  Judged xs c = fileText limit xs (c .lines + 1) (drop (c .at) s) ≡ verdictBy (fileWalk s)
+
+  -- the walk is the judge's
+  pub verdict-walk : verdict sdfile limit s ≡ verdictBy (fileWalk s)
+  verdict-walk = verdict-text limit s ∙ after-all s Judged ends stops goes [] fresh (after-start s)
+    where
+      ends : (xs : List Raw) (c : Cursor) → After s xs c → length s ≤ c .at → Judged xs c
+      ends xs c g h = ap (fileText limit xs (c .lines + 1)) (drop-of-length-le s h) ∙ text-end limit xs (c .lines + 1) ∙ sym (ap verdictBy (after-over s xs c g h))
+
+      stops : (xs : List Raw) (c : Cursor) → After s xs c → c .at < length s → (e k column : ℕ) → outcomeOf sdfile (drop (c .at) s) ≡ refused e k column → Judged xs c
+      stops xs c g some e k column h = go (outcome-not (drop (c .at) s) e k column h)
+        where
+          line : (k : ℕ) → c .lines + 1 + k - 1 ≡ c .lines + k
+          line k = omega arith
+
+          go : {e k column : ℕ} → Not (drop (c .at) s) e k column → Judged xs c
+          go {e} {k} {column} (Not.dead o) =
+              text-refused limit xs (c .lines + 1) (drop (c .at) s) e k column o
+              ∙ ap (λ (j : ℕ). Verdict.refused e j column) (line k)
+              ∙ sym (ap verdictBy (after-stop s xs c g some (Not.dead o)))
+          go {e} {k} (Not.cut-short o) =
+              text-short limit xs (c .lines + 1) (drop (c .at) s) k o (omega (arith, length-drop (c .at) s))
+              ∙ ap (λ (j : ℕ). Verdict.refused 19 j 1) (line k)
+              ∙ sym (ap verdictBy (after-stop s xs c g some (Not.cut-short o)))
+
+      goes : (xs : List Raw) (c : Cursor) → After s xs c → c .at < length s → (x : Raw) (k : ℕ) → outcomeOf sdfile (drop (c .at) s) ≡ whole x k →
+          Judged (xs ++ (x ∷ [])) (past c (afterLines (drop (c .at) s) 0 k) k) → Judged xs c
+      goes xs c g some x k h v =
+          let o = outcome-one (drop (c .at) s) x k h in
+          let i : c .lines + 1 + k ≡ c .lines + k + 1 = omega arith in
+          text-whole limit xs (c .lines + 1) (drop (c .at) s) x k (o .0) (o .1)
+          ∙ ap₂ (fileText limit (xs ++ (x ∷ []))) i (drop-drop (afterLines (drop (c .at) s) 0 k) (c .at) s)
+          ∙ v
+
+-- ---- The verdict, from a cursor
+
+module _ (s : Bytes) (xs : List Raw) (c : Cursor) (g : After s xs c) where
+  pub after-verdict : c .at < length s → (e k column : ℕ) → outcomeOf sdfile (drop (c .at) s) ≡ refused e k column → verdict sdfile limit s ≡ Verdict.refused e (c .lines + k) column
+  after-verdict some e k column h = let n = outcome-not (drop (c .at) s) e k column h in verdict-walk s ∙ ap verdictBy (after-stop s xs c g some n) ∙ go n
+    where
+      go : {e k column : ℕ} (n : Not (drop (c .at) s) e k column) → verdictBy (stopBy xs c n) ≡ Verdict.refused e (c .lines + k) column
+      go (Not.dead o) = refl
+      go (Not.cut-short o) = refl
+
+  pub after-good : length s ≤ c .at → verdict sdfile limit s ≡ Verdict.accepted xs
+  after-good h = verdict-walk s ∙ ap verdictBy (after-over s xs c g h)
+
+  module _ (zs : List Raw) (is : verdict sdfile limit s ≡ Verdict.accepted zs) where
+    -- its records begin with those read
+    pub good-more : (ys : List Raw) × (zs ≡ xs ++ ys)
+    good-more = let m = after-more s xs c g in (m .0, sym (go (fileWalk s) (sym (verdict-walk s) ∙ is)) ∙ m .1)
+      where
+        go : (w : Walk) → verdictBy w ≡ Verdict.accepted zs → recordsOf w ≡ zs
+        go (over ys d) e = cc
+        go (short ys d i) e = absurd (let z : _≡_ {A = ℕ} 0 1 = cc in omega arith)
+        go (stopped ys d n i column) e = absurd (let z : _≡_ {A = ℕ} 0 1 = cc in omega arith)
+
+    -- where bytes are left, the next is whole
+    pub good-whole : c .at < length s → (x : Raw) × (k : ℕ) × (outcomeOf sdfile (drop (c .at) s) ≡ whole x k)
+    good-whole some = go (outcomeOf sdfile (drop (c .at) s)) refl
+      where
+        go : (o : Outcome) → outcomeOf sdfile (drop (c .at) s) ≡ o → (x : Raw) × (k : ℕ) × (outcomeOf sdfile (drop (c .at) s) ≡ whole x k)
+        go (whole x k) e = (x, k, e)
+        go (refused e k column) h =
+            let q : Verdict.accepted zs ≡ Verdict.refused e (c .lines + k) column = sym is ∙ after-verdict some e k column h in
+            absurd (let z : _≡_ {A = ℕ} 0 1 = cc in omega arith)

@@ -14,10 +14,10 @@ use Rattle.rules.specs.Record.{Raw, limit}
 use Rattle.judge_file.specs.Place.{sdfile}
 use Rattle.judge_file.specs.One.{One, oneRecord}
 use Rattle.judge_file.specs.WalkText.{afterLines}
-use Rattle.reader_walk.specs.Outcome.{whole, refused, ofOne, outcomeOf}
+use Rattle.reader_walk.specs.Outcome.{whole, refused, outcomeOf}
 use Rattle.reader_cursor.specs.declared.Cursor.{Cursor}
-use Rattle.reader_cursor.specs.Walk.{Walk, fresh, past, over, short, stopped, fileWalk}
-use Rattle.reader_cursor.specs.After.{After, after-start, after-over, after-size, after-all, refused-size, short-size, walk-refused, walk-short}
+use Rattle.reader_cursor.specs.Walk.{Walk, fresh, past, fileWalk}
+use Rattle.reader_cursor.specs.After.{Not, outcome-one, outcome-not, After, after-start, after-over, after-size, stopBy, after-stop, after-all, refused-size, short-size}
 use Rattle.reader_feed.specs.declared.Counter.{Counter}
 use Rattle.reader_feed.specs.declared.Fed.{Fed}
 use Rattle.reader_feed.specs.Fed.{Piece, pieceOf, plusOf, counted, waitOf, shortOf, endOf, fedBy, fedOf}
@@ -168,20 +168,14 @@ module _ (room : ℕ) (c : Counter) (part rest : Bytes) (ended : Bool) (at-end :
   ends xs d g h = subst (λ (w : Walk). GoesAt d (fedBy ended room (length part) c w)) (sym (after-over part xs d g h)) (goes-end xs d g h)
 
   stops : (xs : List Raw) (d : Cursor) → After part xs d → d .at < length part → (e k column : ℕ) → outcomeOf sdfile (drop (d .at) part) ≡ refused e k column → GoesAt d answer
-  unfolding outcomeOf
-  stops xs d g some e k column h = go (oneRecord limit (cut (drop (d .at) part) .lines)) refl h
+  stops xs d g some e k column h = go (outcome-not (drop (d .at) part) e k column h)
     where
-      by : (w : Walk) → fileWalk part ≡ w → GoesAt d (fedBy ended room (length part) c w) → GoesAt d answer
-      by w q v = subst (λ (x : Walk). GoesAt d (fedBy ended room (length part) c x)) (sym q) v
+      by : {e k column : ℕ} (n : Not (drop (d .at) part) e k column) → GoesAt d (fedBy ended room (length part) c (stopBy xs d n)) → GoesAt d answer
+      by n v = subst (λ (w : Walk). GoesAt d (fedBy ended room (length part) c w)) (sym (after-stop part xs d g some n)) v
 
-      left-over : 0 < length (drop (d .at) part)
-      left-over = omega (arith, length-drop (d .at) part)
-
-      go : (o : One) → oneRecord limit (cut (drop (d .at) part) .lines) ≡ o → ofOne o ≡ refused e k column → GoesAt d answer
-      go (One.whole x j more) o q = absurd (let z : _≡_ {A = ℕ} 0 1 = cc in omega arith)
-      go (One.refused n j b) o q =
-          by (stopped xs d n (d .lines + j) b) (g .same ∙ walk-refused xs d (drop (d .at) part) left-over n j b o) (goes-refused xs d g some n j b o)
-      go (One.short j) o q = by (short xs d (d .lines + j)) (g .same ∙ walk-short xs d (drop (d .at) part) left-over j o) (goes-short xs d g some j o)
+      go : {e k column : ℕ} → Not (drop (d .at) part) e k column → GoesAt d answer
+      go {e} {k} {column} (Not.dead o) = by (Not.dead o) (goes-refused xs d g some e k column o)
+      go {e} {k} (Not.cut-short o) = by (Not.cut-short o) (goes-short xs d g some k o)
 
   -- a whole record, and what is left after it
   module _ (xs : List Raw) (d : Cursor) (g : After part xs d) (some : d .at < length part) (x : Raw) (k : ℕ) (h : outcomeOf sdfile (drop (d .at) part) ≡ whole x k) where
@@ -200,17 +194,10 @@ module _ (room : ℕ) (c : Counter) (part rest : Bytes) (ended : Bool) (at-end :
         ∙ sym (drop-append-le n (drop (d .at) part) rest (omega (arith, w .2, length-drop (d .at) part)))
 
     piece : pieceOf (take room v) ≡ Piece.Whole n k
-    unfolding outcomeOf
-    piece = by (oneRecord limit (cut (drop (d .at) part) .lines)) refl h
-      where
-        by : (o : One) → oneRecord limit (cut (drop (d .at) part) .lines) ≡ o → ofOne o ≡ whole x k → pieceOf (take room v) ≡ Piece.Whole n k
-        by (One.whole y j more) o q =
-            let jk : j ≡ k = cc in
-            let own : pieceOf (drop (d .at) part) ≡ Piece.Whole n k =
-            one-piece (drop (d .at) part) (One.whole y j more) o ∙ ap (λ (i : ℕ). Piece.Whole (afterLines (drop (d .at) part) 0 i) i) jk in
-            ap pieceOf (front xs d g) ∙ whole-stays (drop (d .at) part) (take (room - length (drop (d .at) part)) rest) n k own
-        by (One.refused e j b) o q = absurd (let z : _≡_ {A = ℕ} 0 1 = cc in omega arith)
-        by (One.short j) o q = absurd (let z : _≡_ {A = ℕ} 0 1 = cc in omega arith)
+    piece =
+        let o = outcome-one (drop (d .at) part) x k h in
+        ap pieceOf (front xs d g)
+        ∙ whole-stays (drop (d .at) part) (take (room - length (drop (d .at) part)) rest) n k (one-piece (drop (d .at) part) (One.whole x k (o .0)) (o .1))
 
     next : saysFrom room (c .records + d .records) (c .lines + d .lines) 0 v
         ≡ saysFrom room (c .records + (d .records + 1)) (c .lines + (d .lines + k)) 0 (drop (d .at + n) part ++ rest)
