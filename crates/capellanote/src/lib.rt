@@ -11,6 +11,7 @@ ghost use Rattle.reader_item.specs.Find.{foundOf};
 ghost use Rattle.reader_item.specs.Find.{numbersOf as itemOf};
 ghost use Rattle.reader_item.specs.Promise.{Fetched};
 ghost use Rattle.reader_file.specs.Next.{nextOf, atomsNext, bondsNext};
+ghost use Rattle.reader_file.specs.Promise.{NextPromise};
 ghost use Rattle.reader_feed.specs.Fed.{fedOf};
 ghost use Rattle.writer_record.specs.Write.{writeOf, roomAfter};
 ghost use Rattle.writer_record.specs.Promise.{Promise as WritePromise};
@@ -21,15 +22,15 @@ ghost use Rattle.writer_catalogue.specs.Promise.{Promise as CataloguePromise};
 ghost use Rattle.capellanote.specs.Check.{checkNumbers, checkTold};
 ghost use Rattle.capellanote.specs.Read.{readNumbers, readTold};
 ghost use Rattle.capellanote.specs.Find.{foundNumbers, foundTold};
-ghost use Rattle.capellanote.specs.Next.{nextNumbers, nextTold, NextPromise};
+ghost use Rattle.capellanote.specs.Next.{nextNumbers, nextTold};
 ghost use Rattle.capellanote.specs.Feed.{truth, fedNumbers, FeedPromise};
 ghost use Rattle.capellanote.specs.Write.{writtenNumbers, writtenTold};
 ghost use Rattle.capellanote.specs.Copy.{copiedNumbers, copiedTold};
 ghost use Rattle.capellanote.specs.Catalogue.{catalogueNumbers, catalogueTold};
 use reader_check::Answer;
+use reader_cursor::Cursor;
 use reader_feed::Counter;
 use reader_feed::Fed;
-use reader_file::Cursor;
 use reader_file::Next;
 use reader_item::Found;
 use reader_record::RecordRead;
@@ -250,7 +251,7 @@ pub extern "C" fn capellanote_next(
     ensures { λ _. ⌜ NextPromise (record { at = at; lines = lines; records = records }) (now (s .entry)) (now (atoms .entry)) (now (bonds .entry)) (nextTold (now (answer .exit))) (now (atoms .exit)) (now (bonds .exit)) ⌝ }
 {
     let cursor = Cursor { at, lines, records };
-    *answer = of_next(cursor.next(s, atoms, bonds), cursor);
+    *answer = of_next(reader_file::next_record(cursor, s, atoms, bonds), cursor);
 }
 
 // The values of a record's first item of a name.

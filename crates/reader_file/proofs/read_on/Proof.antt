@@ -1,8 +1,8 @@
--- `reader_file::Cursor::read_on` meets its contract.
-use Rattle.reader_file.specs.Stepping.{place-laws}
+-- `reader_file::read_on` meets its contract.
 use borrow.Author.Needs.{needs}
-use Rattle.reader_file.proofs.Cursor.read_on.Statement.{statement}
-use Rattle.reader_file.proofs.Cursor.read_on.Tie as tie
+use Rattle.reader_file.specs.Stepping.{place-laws}
+use Rattle.reader_file.proofs.read_on.Statement.{statement}
+use Rattle.reader_file.proofs.read_on.Tie as tie
 
 returns : tie.Need-returns
 returns c = search (needs, place-laws)

@@ -1,8 +1,8 @@
--- `reader_file::Cursor::read_at` meets its contract.
-use Rattle.reader_file.specs.Stepping.{step-laws}
+-- `reader_file::read_at` meets its contract.
 use borrow.Author.Needs.{needs}
-use Rattle.reader_file.proofs.Cursor.read_at.Statement.{statement}
-use Rattle.reader_file.proofs.Cursor.read_at.Tie as tie
+use Rattle.reader_file.specs.Stepping.{step-laws}
+use Rattle.reader_file.proofs.read_at.Statement.{statement}
+use Rattle.reader_file.proofs.read_at.Tie as tie
 
 sub-read-record : tie.Need-sub-read-record
 sub-read-record c = search needs
@@ -19,20 +19,14 @@ read-record-requires c κs = search needs
 enum-known-n : tie.Need-enum-known-n
 enum-known-n c = search needs
 
-add-t27 : tie.Need-add-t27
-add-t27 c = search (needs, step-laws)
-
-add-t28 : tie.Need-add-t28
-add-t28 c = search (needs, step-laws)
-
-add-t29 : tie.Need-add-t29
-add-t29 c = search needs
+past-requires : tie.Need-past-requires
+past-requires c κs = search (needs, step-laws)
 
 enum-known-no : tie.Need-enum-known-no
 enum-known-no c = search needs
 
-add-t31 : tie.Need-add-t31
-add-t31 c = search (needs, step-laws)
+line-of-requires : tie.Need-line-of-requires
+line-of-requires c κs = search (needs, step-laws)
 
 same-length : tie.Need-same-length
 same-length c = search needs
@@ -61,11 +55,9 @@ read-at-spec =
     part-read-record-end
     read-record-requires
     enum-known-n
-    add-t27
-    add-t28
-    add-t29
+    past-requires
     enum-known-no
-    add-t31
+    line-of-requires
     same-length
     same-length-2
     returns
