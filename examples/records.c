@@ -38,14 +38,14 @@ static int line_length(const capellanote_byte *line)
     return n;
 }
 
-static void print_record(unsigned long number, const capellanote_byte *record, const capellanote_size *read, const char *name)
+static void print_record(const capellanote_byte *record, const capellanote_size *next, const char *name)
 {
     capellanote_size found[3];
     int charge = 0;
-    for (capellanote_size k = 0; k < read[1]; k++)
+    for (capellanote_size k = 0; k < next[1]; k++)
         charge += atoms[k * CAPELLANOTE_ATOM + 5];
-    printf("record %lu: %.*s, %lu atoms, %lu bonds, charge %d", number, line_length(record), (const char *)record, read[1], read[2], charge);
-    capellanote_find(record, read[4], (const capellanote_byte *)name, strlen(name), found);
+    printf("record %lu: %.*s, %lu atoms, %lu bonds, charge %d", next[11], line_length(record), (const char *)record, next[1], next[2], charge);
+    capellanote_find(record, next[4], (const capellanote_byte *)name, strlen(name), found);
     if (found[0] == 0)
         printf(", %s %.*s", name, (int)(found[2] - found[1]), (const char *)record + found[1]);
     printf("\n");
@@ -53,7 +53,7 @@ static void print_record(unsigned long number, const capellanote_byte *record, c
 
 int main(int count, char **words)
 {
-    capellanote_size answer[9];
+    capellanote_size answer[3], next[13] = { 0 };
     long length = count == 3 ? fill(words[1]) : -1;
     if (length < 0) {
         printf("usage: records FILE NAME, with a file of less than %d bytes that can be read\n", MOST);
@@ -65,9 +65,11 @@ int main(int count, char **words)
         return 1;
     }
     printf("accepted %lu\n", answer[1]);
-    for (long at = 0, number = 1; at < length; at += answer[4], number++) {
-        capellanote_read(CAPELLANOTE_SDFILE, text + at, length - at, atoms, CAPELLANOTE_ATOMS, bonds, CAPELLANOTE_BONDS, answer);
-        print_record(number, text + at, answer, words[2]);
+    for (;;) {
+        const capellanote_byte *record = text + next[9];
+        capellanote_next(text, length, next[9], next[10], next[11], atoms, CAPELLANOTE_ATOMS, bonds, CAPELLANOTE_BONDS, next);
+        if (next[12] == 0)
+            return 0;
+        print_record(record, next, words[2]);
     }
-    return 0;
 }

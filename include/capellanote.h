@@ -57,6 +57,9 @@ typedef char capellanote_widths[sizeof(capellanote_int) == 4 && sizeof(capellano
 
 enum { CAPELLANOTE_MOLFILE = 0, CAPELLANOTE_SDFILE = 1 };
 
+/* answer[1] of capellanote_feed where nothing is refused. */
+enum { CAPELLANOTE_MORE = 0, CAPELLANOTE_ACCEPTED = 1, CAPELLANOTE_TOO_LONG = 2 };
+
 /* Places in an atom's and in a bond's row, and what 255 rows take. */
 enum { CAPELLANOTE_ATOM = 16, CAPELLANOTE_BOND = 6, CAPELLANOTE_ATOMS = 255 * 16, CAPELLANOTE_BONDS = 255 * 6 };
 
@@ -78,12 +81,38 @@ void capellanote_read(capellanote_byte kind,
                       capellanote_int *bonds, capellanote_size bonds_length,
                       capellanote_size answer[9]);
 
+/* A file's records, one after the other. The cursor is three numbers, the bytes, lines and records of the file that come before it:
+   all 0 at the file's start, and then those of the answer before.
+   A record: answer[0] to answer[8] as of capellanote_read, with places counted from the record's first byte; answer[9] to answer[11] are
+   the cursor past it, and answer[12] is 1. The tables are as capellanote_read leaves them.
+   The end of the file, also for a cursor that no walk over this file gives (past its bytes, more lines than bytes, more records than lines):
+   answer[9] to answer[11] are the cursor handed in, all other numbers are 0, and the tables are as they were.
+   Refused: the line counts from the file's start, answer[9] to answer[11] are the cursor handed in, answer[3] to answer[8] and answer[12]
+   are 0; after 2 the tables are as they were, after any other number their first 255 rows are zeros. */
+void capellanote_next(const capellanote_byte *text, capellanote_size text_length,
+                      capellanote_size at, capellanote_size lines, capellanote_size records,
+                      capellanote_int *atoms, capellanote_size atoms_length,
+                      capellanote_int *bonds, capellanote_size bonds_length,
+                      capellanote_size answer[13]);
+
 /* The values of the first item of that name in an SDfile's record.
    Found: answer = { 0, start, end } in the text, from the first value line's start to the last one's end, with the line ends between;
    both 0 where the item has no value lines. */
 void capellanote_find(const capellanote_byte *text, capellanote_size text_length,
                       const capellanote_byte *name, capellanote_size name_length,
                       capellanote_size answer[3]);
+
+/* The records of an SDfile that comes in parts, counted. A part begins where a record begins and is never longer than the room, a number of bytes;
+   ended is 0 while input follows the part, and any other number where none does. On a part as long as the room it has to be right,
+   on a shorter one 0 will do until the end is known. Records and lines are those done with: 0 and 0 at first, and then those of the answer before.
+   More: answer = { 0, CAPELLANOTE_MORE, records, lines, bytes used }: the next part begins after the bytes used.
+   The input has ended, and is good: answer = { 0, CAPELLANOTE_ACCEPTED, records, 0, 0 }.
+   A record does not end within the room, and input follows: answer = { 0, CAPELLANOTE_TOO_LONG, number of the record, 0, 0 }.
+   Refused: the line counts from the input's start; answer[3] and answer[4] are 0. Counts stop at 2^64 - 1. Nothing else is written. */
+void capellanote_feed(capellanote_size records, capellanote_size lines,
+                      const capellanote_byte *part, capellanote_size part_length,
+                      capellanote_byte ended, capellanote_size room,
+                      capellanote_size answer[5]);
 
 /* The canonical text of a record. Header lines (exactly three) and data items come as they stand in a file.
    Judged in this order: 2, 21, header lines, items, 20; a line counts within the part refused.
@@ -96,6 +125,18 @@ void capellanote_write_record(const capellanote_int *atoms, capellanote_size ato
                               const capellanote_byte *items, capellanote_size items_length,
                               capellanote_byte *room, capellanote_size room_length,
                               capellanote_size answer[3]);
+
+/* A record as capellanote_read takes it, in its canonical form; a molfile's is that of a record without items.
+   Judged in this order: 1, 2, the record, 20.
+   Accepted: answer = { 0, bytes of the record, lines of the record, length of the text }: the text stands at the front of the room,
+   and the rest of it is as it was. Refused: answer[3] is 0, and nothing is written to the room.
+   The tables are as capellanote_read leaves them; after 20 that is with the rows of the record. */
+void capellanote_copy(capellanote_byte kind,
+                      const capellanote_byte *text, capellanote_size text_length,
+                      capellanote_int *atoms, capellanote_size atoms_length,
+                      capellanote_int *bonds, capellanote_size bonds_length,
+                      capellanote_byte *room, capellanote_size room_length,
+                      capellanote_size answer[4]);
 
 /* The canonical text of a whole SDfile; the tables are for the work in between.
    Judged in this order: 2, the file, 20 on the whole text.

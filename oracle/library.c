@@ -1,60 +1,89 @@
-/* library CASES: answers a file of cases (docs/VECTORS.md) by the static library, in the lines that the vectors program prints. */
+/* library CASES: answers a file of cases (docs/VECTORS.md) by the static library, one line for each case. */
 #include "../include/capellanote.h"
 
 /* Of the C library, declared here since the toolchain's compiler has no headers of it. */
 int open(const char *path, int flags, ...);
 long read(int descriptor, void *bytes, unsigned long length);
 int printf(const char *format, ...);
-long strtol(const char *text, char **end, int base);
+unsigned long strlen(const char *text);
 int strncmp(const char *a, const char *b, unsigned long length);
 void exit(int status);
 
 typedef unsigned long size;
-enum { MOST = 4 << 20, ROWS = 260 };
+typedef unsigned char byte;
+enum { MOST = 4 << 20, ROWS = 260, ROOM = 65536 };
 static char file[MOST + 1];
-static char *at = file, *end = file;
+static char *at = file, *start = file, *end = file;
 static int atoms[ROWS * CAPELLANOTE_ATOM], bonds[ROWS * CAPELLANOTE_BOND];
-static unsigned char room[65536];
+static byte room[ROOM];
 
 static void bad(void)
 {
-    printf("not a well-formed case: the one that ends after byte %ld\n", (long)(at - file));
+    printf("not a well-formed case: the one that starts at byte %ld\n", (long)(start - file));
     exit(1);
 }
 
-static long number(void)
+/* ---- Numbers and blocks of a case */
+
+static void pass(char c)
 {
-    char *after;
-    long value = strtol(at, &after, 10);
-    if (after == at || (*after != ' ' && *after != '\n') || after >= end)
+    if (at == end || *at != c)
         bad();
-    at = after + 1;
+    at++;
+}
+
+/* Digits without a leading zero, at most the number given. */
+static size number(size most)
+{
+    size value = 0;
+    char *first = at;
+    for (; at < end && '0' <= *at && *at <= '9'; at++) {
+        size digit = *at - '0';
+        if (digit > most || value > (most - digit) / 10 || (at > first && *first == '0'))
+            bad();
+        value = 10 * value + digit;
+    }
+    if (at == first)
+        bad();
     return value;
 }
 
-static long below(long most)
+static int entry(void)
 {
-    long value = number();
-    if (value < 0 || value >= most)
-        bad();
-    return value;
+    if (at < end && *at == '-') {
+        at++;
+        return (int)-(long)number(2147483648);
+    }
+    return (int)number(2147483647);
 }
 
-static unsigned char *block(size length)
+/* Lines of so many numbers each. */
+static void entries(int *table, size rows, size width)
 {
-    unsigned char *bytes = (unsigned char *)at;
-    if (length >= (size)(end - at) || at[length] != '\n')
+    for (size k = 0; k < rows * width; k++) {
+        table[k] = entry();
+        pass(k % width == width - 1 ? '\n' : ' ');
+    }
+}
+
+static byte *block(size length)
+{
+    byte *bytes = (byte *)at;
+    if (length > (size)(end - at))
         bad();
-    at += length + 1;
+    at += length;
+    pass('\n');
     return bytes;
 }
 
-/* ---- Memory before a case, and digests */
+/* ---- Memory before a case, and digests of it after one */
 
-static void fresh(int *table, size length)
+static void fresh_tables(size a, size b)
 {
-    for (size k = 0; k < length; k++)
-        table[k] = 1000003 + (int)k;
+    for (size k = 0; k < a; k++)
+        atoms[k] = 1000003 + (int)k;
+    for (size k = 0; k < b; k++)
+        bonds[k] = 1000003 + (int)k;
 }
 
 static void fresh_room(size length)
@@ -97,82 +126,141 @@ static int refused(const size *answer)
     return answer[0] != 0;
 }
 
-/* ---- Operations */
+/* ---- Operations, by the numbers of their head line */
 
-static void check_case(void)
+/* KIND SIZE */
+static void check_case(const size *n)
 {
-    size answer[3], kind = below(256), length = below(MOST);
-    capellanote_check(kind, block(length), length, answer);
+    size answer[3];
+    capellanote_check(n[0], block(n[1]), n[1], answer);
     if (!refused(answer))
         printf("accepted %lu", answer[1]);
 }
 
-static void read_case(void)
+/* KIND ATOM_ROOM BOND_ROOM SIZE */
+static void read_case(const size *n)
 {
-    size answer[9], kind = below(256), a = 16 * below(ROWS + 1), b = 6 * below(ROWS + 1), length = below(MOST);
-    fresh(atoms, a);
-    fresh(bonds, b);
-    capellanote_read(kind, block(length), length, atoms, a, bonds, b, answer);
+    size answer[9], a = 16 * n[1], b = 6 * n[2];
+    fresh_tables(a, b);
+    capellanote_read(n[0], block(n[3]), n[3], atoms, a, bonds, b, answer);
     if (!refused(answer))
         printf("accepted %lu %lu %lu %lu 0 %lu %lu %lu", answer[1], answer[2], answer[3], answer[4], answer[6], answer[7], answer[8]);
     print_tables(a, b);
 }
 
-static void fetch_case(void)
+/* AT LINES RECORDS ATOM_ROOM BOND_ROOM SIZE */
+static void next_case(const size *n)
 {
-    size answer[3], name_length = below(MOST), length = below(65536);
-    unsigned char *name = block(name_length);
-    capellanote_find(block(length), length, name, name_length, answer);
+    size answer[13], a = 16 * n[3], b = 6 * n[4];
+    fresh_tables(a, b);
+    capellanote_next(block(n[5]), n[5], n[0], n[1], n[2], atoms, a, bonds, b, answer);
+    if (!refused(answer)) {
+        printf(answer[12] ? "record" : "end");
+        for (size k = 1; answer[12] && k <= 8; k++)
+            printf(" %lu", answer[k]);
+        if (answer[12])
+            printf(" cursor %lu %lu %lu", answer[9], answer[10], answer[11]);
+    }
+    print_tables(a, b);
+}
+
+/* NAME_SIZE SIZE */
+static void fetch_case(const size *n)
+{
+    size answer[3];
+    byte *name = block(n[0]);
+    capellanote_find(block(n[1]), n[1], name, n[0], answer);
     if (refused(answer))
         printf(" stretch 0 0");
     else
         printf("found %lu %lu", answer[1], answer[2]);
 }
 
-static void write_case(void)
+/* RECORDS LINES ENDED ROOM SIZE */
+static void feed_case(const size *n)
 {
-    size answer[3], n = number(), m = number(), chiral = number(), a = 16 * below(ROWS + 1), b = 6 * below(ROWS + 1);
-    size rows = 16 * below(a / 16 + 1), more = 6 * below(b / 6 + 1), h = below(MOST), i = below(MOST), r = below(sizeof room);
-    fresh(atoms, a);
-    fresh(bonds, b);
-    fresh_room(r);
-    for (size k = 0; k < rows; k++)
-        atoms[k] = number();
-    for (size k = 0; k < more; k++)
-        bonds[k] = number();
-    unsigned char *headers = block(h), *items = block(i);
-    capellanote_write_record(atoms, a, bonds, b, n, m, chiral, headers, h, items, i, room, r, answer);
-    if (!refused(answer))
-        printf("accepted %lu", answer[1]);
-    print_room(r);
+    size answer[5];
+    capellanote_feed(n[0], n[1], block(n[4]), n[4], n[2], n[3], answer);
+    if (refused(answer))
+        return;
+    if (answer[1] == CAPELLANOTE_MORE)
+        printf("more %lu %lu used %lu", answer[2], answer[3], answer[4]);
+    else
+        printf(answer[1] == CAPELLANOTE_ACCEPTED ? "accepted %lu" : "too long %lu", answer[2]);
 }
 
-static void catalogue_case(void)
+/* N M CHIRAL ATOM_ROOM BOND_ROOM ATOMS BONDS HEADER_SIZE ITEMS_SIZE ROOM */
+static void write_case(const size *n)
 {
-    size answer[3], a = 16 * below(ROWS + 1), b = 6 * below(ROWS + 1), r = below(sizeof room), length = below(MOST);
-    fresh(atoms, a);
-    fresh(bonds, b);
-    fresh_room(r);
-    capellanote_write_catalogue(block(length), length, atoms, a, bonds, b, room, r, answer);
+    size answer[3], a = 16 * n[3], b = 6 * n[4];
+    if (n[5] > n[3] || n[6] > n[4])
+        bad();
+    fresh_tables(a, b);
+    fresh_room(n[9]);
+    entries(atoms, n[5], 16);
+    entries(bonds, n[6], 6);
+    byte *headers = block(n[7]), *items = block(n[8]);
+    capellanote_write_record(atoms, a, bonds, b, n[0], n[1], n[2], headers, n[7], items, n[8], room, n[9], answer);
     if (!refused(answer))
         printf("accepted %lu", answer[1]);
-    print_room(r);
+    print_room(n[9]);
+}
+
+/* KIND ATOM_ROOM BOND_ROOM ROOM SIZE */
+static void copy_case(const size *n)
+{
+    size answer[4], a = 16 * n[1], b = 6 * n[2];
+    fresh_tables(a, b);
+    fresh_room(n[3]);
+    capellanote_copy(n[0], block(n[4]), n[4], atoms, a, bonds, b, room, n[3], answer);
+    if (!refused(answer))
+        printf("accepted %lu %lu %lu", answer[1], answer[2], answer[3]);
+    print_room(n[3]);
     print_tables(a, b);
 }
 
+/* ATOM_ROOM BOND_ROOM ROOM SIZE */
+static void catalogue_case(const size *n)
+{
+    size answer[3], a = 16 * n[0], b = 6 * n[1];
+    fresh_tables(a, b);
+    fresh_room(n[2]);
+    capellanote_write_catalogue(block(n[3]), n[3], atoms, a, bonds, b, room, n[2], answer);
+    if (!refused(answer))
+        printf("accepted %lu", answer[1]);
+    print_room(n[2]);
+    print_tables(a, b);
+}
+
+/* The word of a head line, how many numbers follow it, and the greatest that each may be. */
+#define ANY 18446744073709551615ul
+#define I32 2147483647
+static const struct { const char *word; void (*answer)(const size *); size count, most[10]; } operations[] = {
+    { "check ", check_case, 2, { 255, MOST } },
+    { "read ", read_case, 4, { 255, ROWS, ROWS, MOST } },
+    { "next ", next_case, 6, { ANY, ANY, ANY, ROWS, ROWS, MOST } },
+    { "fetch ", fetch_case, 2, { MOST, MOST } },
+    { "feed ", feed_case, 5, { ANY, ANY, 1, I32, MOST } },
+    { "write ", write_case, 10, { I32, I32, I32, ROWS, ROWS, ROWS, ROWS, MOST, MOST, ROOM - 1 } },
+    { "copy ", copy_case, 5, { 255, ROWS, ROWS, ROOM - 1, MOST } },
+    { "catalogue ", catalogue_case, 4, { ROWS, ROWS, ROOM - 1, MOST } },
+};
+
 static void answer_case(void)
 {
-    static const struct { const char *word; size length; void (*answer)(void); } operations[] = {
-        { "check ", 6, check_case }, { "read ", 5, read_case }, { "fetch ", 6, fetch_case }, { "write ", 6, write_case },
-        { "catalogue ", 10, catalogue_case } };
-    for (size k = 0; k < sizeof operations / sizeof *operations; k++)
-        if (strncmp(at, operations[k].word, operations[k].length) == 0) {
-            at += operations[k].length;
-            operations[k].answer();
-            printf("\n");
-            return;
-        }
-    bad();
+    size numbers[10], k = 0, count = sizeof operations / sizeof *operations;
+    start = at;
+    while (k < count && strncmp(at, operations[k].word, strlen(operations[k].word)) != 0)
+        k++;
+    if (k == count)
+        bad();
+    at += strlen(operations[k].word);
+    for (size i = 0; i < operations[k].count; i++) {
+        numbers[i] = number(operations[k].most[i]);
+        pass(i + 1 < operations[k].count ? ' ' : '\n');
+    }
+    operations[k].answer(numbers);
+    printf("\n");
 }
 
 int main(int count, char **words)

@@ -1,1 +1,9 @@
-pub mod Numbers
+pub mod Answer
+pub mod Check
+pub mod Read
+pub mod Find
+pub mod Write
+pub mod Copy
+pub mod Catalogue
+pub mod Next
+pub mod Feed

@@ -1,18 +1,41 @@
 // The library for C: answers are arrays of numbers, the first 0 or that of the refusal (include/capellanote.h).
+// What an array holds is said by a definition over the judge's answer, and what it tells by the promise in the words of the rules.
 ghost use mathlib.Core.Path.{_≡_};
 ghost use lib.ListN.{length};
 ghost use Rattle.reader_check.specs.Promised.{numbersOf};
 ghost use Rattle.reader_walk.specs.Checking.{checkOf};
+ghost use Rattle.reader_walk.specs.Promise.{CheckedAs};
 ghost use Rattle.reader_record.specs.Read.{readOf, atomsAfter, bondsAfter};
+ghost use Rattle.reader_record.specs.Promise.{ReadPromise};
 ghost use Rattle.reader_item.specs.Find.{foundOf};
 ghost use Rattle.reader_item.specs.Find.{numbersOf as itemOf};
+ghost use Rattle.reader_item.specs.Promise.{Fetched};
+ghost use Rattle.reader_file.specs.Next.{nextOf, atomsNext, bondsNext};
+ghost use Rattle.reader_file.specs.Promise.{NextPromise};
+ghost use Rattle.reader_feed.specs.Fed.{fedOf};
 ghost use Rattle.writer_record.specs.Write.{writeOf, roomAfter};
-ghost use Rattle.writer_catalogue.specs.Catalogue.{catalogueOf, roomAfter as catalogueRoom, atomsAfter as workAtoms, bondsAfter as workBonds};
-ghost use Rattle.capellanote.specs.Numbers.{checkNumbers, readNumbers, foundNumbers, writtenNumbers, catalogueNumbers};
+ghost use Rattle.writer_record.specs.Promise.{Promise as WritePromise};
+ghost use Rattle.writer_copy.specs.Copy.{copyOf};
+ghost use Rattle.writer_copy.specs.Promise.{Promise as CopyPromise};
+ghost use Rattle.writer_catalogue.specs.Catalogue.{catalogueOf};
+ghost use Rattle.writer_catalogue.specs.Promise.{Promise as CataloguePromise};
+ghost use Rattle.capellanote.specs.Check.{checkNumbers, checkTold};
+ghost use Rattle.capellanote.specs.Read.{readNumbers, readTold};
+ghost use Rattle.capellanote.specs.Find.{foundNumbers, foundTold};
+ghost use Rattle.capellanote.specs.Next.{nextNumbers, nextTold};
+ghost use Rattle.capellanote.specs.Feed.{truth, fedNumbers, FeedPromise};
+ghost use Rattle.capellanote.specs.Write.{writtenNumbers, writtenTold};
+ghost use Rattle.capellanote.specs.Copy.{copiedNumbers, copiedTold};
+ghost use Rattle.capellanote.specs.Catalogue.{catalogueNumbers, catalogueTold};
 use reader_check::Answer;
+use reader_cursor::Cursor;
+use reader_feed::Counter;
+use reader_feed::Fed;
+use reader_file::Next;
 use reader_item::Found;
 use reader_record::RecordRead;
 use writer_catalogue::Catalogue;
+use writer_copy::Copied;
 use writer_record::Written;
 
 fn of_check(a: Answer) -> [u64; 3]
@@ -81,10 +104,115 @@ fn of_catalogue(c: Catalogue) -> [u64; 3]
     }
 }
 
+fn of_copied(c: Copied) -> [u64; 4]
+    ensures { λ r. ⌜ r ≡ copiedNumbers c ⌝ }
+{
+    match c {
+        Copied::Done {
+            taken,
+            lines,
+            length,
+        } => [0, taken as u64, lines as u64, length as u64],
+        Copied::Refused { no, line, column } => [no as u64, line as u64, column as u64, 0],
+    }
+}
+
+// The cursor that was handed in stays where there is no record.
+fn of_next(x: Next, c: Cursor) -> [u64; 13]
+    ensures { λ r. ⌜ r ≡ nextNumbers c x ⌝ }
+{
+    match x {
+        Next::Record {
+            n,
+            m,
+            chiral,
+            length,
+            lines,
+            header_end,
+            items_start,
+            items_end,
+            cursor,
+        } => [
+            0,
+            n as u64,
+            m as u64,
+            chiral as u64,
+            length as u64,
+            lines as u64,
+            header_end as u64,
+            items_start as u64,
+            items_end as u64,
+            cursor.at as u64,
+            cursor.lines as u64,
+            cursor.records as u64,
+            1,
+        ],
+        Next::End => [
+            0,
+            0,
+            0,
+            0,
+            0,
+            0,
+            0,
+            0,
+            0,
+            c.at as u64,
+            c.lines as u64,
+            c.records as u64,
+            0,
+        ],
+        Next::Refused { no, line, column } => [
+            no as u64,
+            line as u64,
+            column as u64,
+            0,
+            0,
+            0,
+            0,
+            0,
+            0,
+            c.at as u64,
+            c.lines as u64,
+            c.records as u64,
+            0,
+        ],
+    }
+}
+
+// A byte of C as a truth value.
+fn truth_of(b: u8) -> bool
+    ensures { λ r. ⌜ r ≡ truth b ⌝ }
+{
+    if b == 0 {
+        return false;
+    }
+    true
+}
+
+// The second number tells more from accepted from too long.
+fn of_fed(f: Fed) -> [u64; 5]
+    ensures { λ r. ⌜ r ≡ fedNumbers f ⌝ }
+{
+    match f {
+        Fed::More { counter, used } => [
+            0,
+            0,
+            counter.records as u64,
+            counter.lines as u64,
+            used as u64,
+        ],
+        Fed::Accepted { records } => [0, 1, records as u64, 0, 0],
+        Fed::Refused { no, line, column } => [no as u64, line as u64, column as u64, 0, 0],
+        Fed::TooLong { record } => [0, 2, record as u64, 0, 0],
+    }
+}
+
 // A whole file: kind 0 is a molfile, kind 1 an SDfile.
 #[no_mangle]
 pub extern "C" fn capellanote_check(kind: u8, s: &[u8], answer: &mut [u64; 3])
     ensures { λ _. ⌜ now (answer .exit) ≡ checkNumbers (checkOf kind (now (s .entry))) ⌝ }
+    ensures { λ _. ⌜ CheckedAs kind (now (s .entry)) (checkTold (now (answer .exit))) ⌝ }
 {
     *answer = of_check(reader_check::check(kind, s));
 }
@@ -101,16 +229,55 @@ pub extern "C" fn capellanote_read(
     ensures { λ _. ⌜ now (answer .exit) ≡ readNumbers (readOf kind (length (now (atoms .entry))) (length (now (bonds .entry))) (now (s .entry))) ⌝ }
     ensures { λ _. ⌜ now (atoms .exit) ≡ atomsAfter kind (length (now (bonds .entry))) (now (s .entry)) (now (atoms .entry)) ⌝ }
     ensures { λ _. ⌜ now (bonds .exit) ≡ bondsAfter kind (length (now (atoms .entry))) (now (s .entry)) (now (bonds .entry)) ⌝ }
+    ensures { λ _. ⌜ ReadPromise kind (now (s .entry)) (now (atoms .entry)) (now (bonds .entry)) (readTold (now (answer .exit))) (now (atoms .exit)) (now (bonds .exit)) ⌝ }
 {
     *answer = of_reading(reader_record::read_record(kind, s, atoms, bonds));
+}
+
+// The record of a file that a cursor stands before, into the tables.
+#[no_mangle]
+pub extern "C" fn capellanote_next(
+    s: &[u8],
+    at: usize,
+    lines: usize,
+    records: usize,
+    atoms: &mut [i32],
+    bonds: &mut [i32],
+    answer: &mut [u64; 13],
+)
+    ensures { λ _. ⌜ now (answer .exit) ≡ nextNumbers (record { at = at; lines = lines; records = records }) (nextOf (record { at = at; lines = lines; records = records }) (length (now (atoms .entry))) (length (now (bonds .entry))) (now (s .entry))) ⌝ }
+    ensures { λ _. ⌜ now (atoms .exit) ≡ atomsNext (record { at = at; lines = lines; records = records }) (length (now (bonds .entry))) (now (s .entry)) (now (atoms .entry)) ⌝ }
+    ensures { λ _. ⌜ now (bonds .exit) ≡ bondsNext (record { at = at; lines = lines; records = records }) (length (now (atoms .entry))) (now (s .entry)) (now (bonds .entry)) ⌝ }
+    ensures { λ _. ⌜ NextPromise (record { at = at; lines = lines; records = records }) (now (s .entry)) (now (atoms .entry)) (now (bonds .entry)) (nextTold (now (answer .exit))) (now (atoms .exit)) (now (bonds .exit)) ⌝ }
+{
+    let cursor = Cursor { at, lines, records };
+    *answer = of_next(reader_file::next_record(cursor, s, atoms, bonds), cursor);
 }
 
 // The values of a record's first item of a name.
 #[no_mangle]
 pub extern "C" fn capellanote_find(s: &[u8], name: &[u8], answer: &mut [u64; 3])
     ensures { λ _. ⌜ now (answer .exit) ≡ foundNumbers (foundOf (now (s .entry)) (now (name .entry))) ⌝ }
+    ensures { λ _. ⌜ Fetched (now (s .entry)) (now (name .entry)) (foundTold (now (answer .exit))) ⌝ }
 {
     *answer = of_found(reader_item::find_item(s, name));
+}
+
+// The records of an SDfile that comes in parts, counted; any byte but 0 says that nothing follows the part.
+#[no_mangle]
+pub extern "C" fn capellanote_feed(
+    records: usize,
+    lines: usize,
+    part: &[u8],
+    ended: u8,
+    room: usize,
+    answer: &mut [u64; 5],
+)
+    ensures { λ _. ⌜ now (answer .exit) ≡ fedNumbers (fedOf (record { records = records; lines = lines }) (now (part .entry)) (truth ended) room) ⌝ }
+    ensures { λ _. ⌜ FeedPromise (record { records = records; lines = lines }) (now (part .entry)) (truth ended) room (now (answer .exit)) ⌝ }
+{
+    let counter = Counter { records, lines };
+    *answer = of_fed(counter.take(part, truth_of(ended), room));
 }
 
 // The canonical text of a record, at the front of the room.
@@ -127,7 +294,7 @@ pub extern "C" fn capellanote_write_record(
     answer: &mut [u64; 3],
 )
     ensures { λ _. ⌜ now (answer .exit) ≡ writtenNumbers (writeOf (record { atoms = now (atoms .entry); bonds = now (bonds .entry); n = n; m = m; chiral = chiral; headers = now (headers .entry); items = now (items .entry) }) (length (now (room .entry)))) ⌝ }
-    ensures { λ _. ⌜ now (room .exit) ≡ roomAfter (record { atoms = now (atoms .entry); bonds = now (bonds .entry); n = n; m = m; chiral = chiral; headers = now (headers .entry); items = now (items .entry) }) (now (room .entry)) ⌝ }
+    ensures { λ _. ⌜ WritePromise (record { atoms = now (atoms .entry); bonds = now (bonds .entry); n = n; m = m; chiral = chiral; headers = now (headers .entry); items = now (items .entry) }) (now (room .entry)) (writtenTold (now (answer .exit))) (now (room .exit)) ⌝ }
 {
     *answer = of_written(writer_record::write_record(
         atoms,
@@ -141,6 +308,22 @@ pub extern "C" fn capellanote_write_record(
     ));
 }
 
+// The record at the front of a text, in its canonical form at the front of the room.
+#[no_mangle]
+pub extern "C" fn capellanote_copy(
+    kind: u8,
+    s: &[u8],
+    atoms: &mut [i32],
+    bonds: &mut [i32],
+    room: &mut [u8],
+    answer: &mut [u64; 4],
+)
+    ensures { λ _. ⌜ now (answer .exit) ≡ copiedNumbers (copyOf kind (length (now (atoms .entry))) (length (now (bonds .entry))) (now (s .entry)) (length (now (room .entry)))) ⌝ }
+    ensures { λ _. ⌜ CopyPromise kind (now (s .entry)) (now (atoms .entry)) (now (bonds .entry)) (now (room .entry)) (copiedTold (now (answer .exit))) (now (atoms .exit)) (now (bonds .exit)) (now (room .exit)) ⌝ }
+{
+    *answer = of_copied(writer_copy::copy_record(kind, s, atoms, bonds, room));
+}
+
 // The canonical text of a whole SDfile, at the front of the room.
 #[no_mangle]
 pub extern "C" fn capellanote_write_catalogue(
@@ -151,9 +334,7 @@ pub extern "C" fn capellanote_write_catalogue(
     answer: &mut [u64; 3],
 )
     ensures { λ _. ⌜ now (answer .exit) ≡ catalogueNumbers (catalogueOf (now (atoms .entry)) (now (bonds .entry)) (now (s .entry)) (length (now (room .entry)))) ⌝ }
-    ensures { λ _. ⌜ now (room .exit) ≡ catalogueRoom (now (atoms .entry)) (now (bonds .entry)) (now (s .entry)) (now (room .entry)) ⌝ }
-    ensures { λ _. ⌜ now (atoms .exit) ≡ workAtoms (now (atoms .entry)) (now (bonds .entry)) ⌝ }
-    ensures { λ _. ⌜ now (bonds .exit) ≡ workBonds (now (atoms .entry)) (now (bonds .entry)) ⌝ }
+    ensures { λ _. ⌜ CataloguePromise (now (s .entry)) (now (atoms .entry)) (now (bonds .entry)) (now (room .entry)) (catalogueTold (now (answer .exit))) (now (atoms .exit)) (now (bonds .exit)) (now (room .exit)) ⌝ }
 {
     *answer = of_catalogue(writer_catalogue::write_catalogue(s, atoms, bonds, room));
 }

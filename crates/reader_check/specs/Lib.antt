@@ -1,2 +1,2 @@
 pub mod Promised
-pub mod Going
+pub mod Answers

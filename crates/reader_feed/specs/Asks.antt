@@ -2,19 +2,18 @@
 use Prim.Native.Nat.{ℕ, zero, suc, _+_, _≤_, _<_}
 use native.Mathlib.Omega.{arith}
 use mathlib.Core.Path.{_≡_, refl, sym, _∙_}
-use mathlib.Core.List.{[], _∷_}
 use mathlib.Core.Bool.{Bool, true, false}
 use lib.Dec.{ltb}
-use lib.ListN.{length, drop, length-drop}
+use lib.ListN.{length}
 use borrow.Author.Tests.{ltb-true, ltb-false}
 use Rattle.text.specs.Text.{Bytes}
+use Rattle.reader_cursor.specs.declared.Cursor.{Cursor}
+use Rattle.reader_cursor.specs.Walk.{Walk, over, short, stopped, cursorOf, fileWalk}
+use Rattle.reader_cursor.specs.After.{walk-after}
 use Rattle.reader_feed.specs.declared.Counter.{Counter}
 use Rattle.reader_feed.specs.declared.Fed.{Fed}
-use Rattle.reader_feed.specs.declared.Piece.{Piece}
-use Rattle.reader_feed.specs.Fed.{pieceOf, plusOf, counted, waitOf, shortOf, endOf, fedFrom, fedOf}
-use Rattle.reader_feed.specs.Pieces.{piece-room}
+use Rattle.reader_feed.specs.Fed.{plusOf, counted, waitOf, shortOf, endOf, fedBy, fedOf}
 use Rattle.reader_feed.specs.Feeding.{wait-used, wait-room, wait-none, short-ended, short-waits, end-ended, end-waits}
-use Rattle.reader_feed.specs.Feeding.{fed-end, fed-whole, fed-refused, fed-short}
 use Rattle.reader_feed.specs.Says.{Told, accepted, refused, too-long}
 use Rattle.reader_feed.specs.Calls.{fedAs}
 
@@ -52,47 +51,23 @@ module _ (room len : ℕ) (c′ : Counter) (used′ : ℕ) where
   end-asks true c used fits h = not-more (accepted (c .records)) c′ used′ (end-ended true c used len room refl ∙ h)
   end-asks false c used fits h = wait-asks false c used refl fits (end-waits false c used len room (waitOf c used len room) refl refl ∙ h)
 
-  short-asks : (ended : Bool) (c : Counter) (used k : ℕ) → used ≤ len → shortOf ended room len c used k ≡ Fed.More c′ used′ → Asks ended room len used used′
-  short-asks true c used k fits h =
-      not-more (refused 19 (plusOf (c .lines) k) 1) c′ used′ (short-ended true c used len room k (plusOf (c .lines) k) refl refl ∙ h)
-  short-asks false c used k fits h = wait-asks false c used refl fits (short-waits false c used len room k (waitOf c used len room) refl refl ∙ h)
-
-  module _ (ended : Bool) where
-    abbrev AsksAt : Bytes → Type 0
-    AsksAt u = (c : Counter) (used : ℕ) → used + length u ≡ len → fedFrom ended room len c used 0 u ≡ Fed.More c′ used′ → Asks ended room len used used′
-
-    asks-end : AsksAt []
-    asks-end c used size h = end-asks ended c used (omega (arith, size)) (sym (fed-end ended room len c used) ∙ h)
-
-    asks-next : (m : ℕ) (u : Bytes) → 0 < length u → length u ≤ suc m → ((v : Bytes) → length v ≤ m → AsksAt v) → AsksAt u
-    asks-next m u some few r c used size h = go (pieceOf u) refl
-      where
-        go : (q : Piece) → pieceOf u ≡ q → Asks ended room len used used′
-        go (Piece.Whole n k) p =
-            let w = piece-room u n k p in
-            let a =
-            r (drop n u) (omega (arith, few, w .0, w .1, length-drop n u)) (counted c k) (used + n) (omega (arith, size, w .2, length-drop n u))
-            (sym (fed-whole ended room len c used u some n k p) ∙ h) in
-            record { open-yet = a .open-yet; later = omega (arith, a .later); within = a .within; idle = a .idle }
-        go (Piece.Refused e k column) p =
-            not-more (refused e (plusOf (c .lines) k) column) c′ used′ (sym (fed-refused ended room len c used u some e k column p) ∙ h)
-        go (Piece.Short k) p = short-asks ended c used k (omega (arith, size)) (sym (fed-short ended room len c used u some k p) ∙ h)
-
-    asks-from : (m : ℕ) (u : Bytes) → length u ≤ m → AsksAt u
-    asks-from zero u h = none u h
-      where
-        none : (u : Bytes) → length u ≤ 0 → AsksAt u
-        none [] h = asks-end
-        none (b ∷ u) h = absurd (omega (arith, h))
-    asks-from (suc m) u h = by (λ v f. asks-from m v f) u h
-      where
-        by : ((v : Bytes) → length v ≤ m → AsksAt v) → (u : Bytes) → length u ≤ suc m → AsksAt u
-        by r [] h = asks-end
-        by r (b ∷ u) h = asks-next m (b ∷ u) (omega arith) h r
+  short-asks : (ended : Bool) (c : Counter) (d : Cursor) (i : ℕ) → d .at ≤ len → shortOf ended room len c d i ≡ Fed.More c′ used′ → Asks ended room len (d .at) used′
+  short-asks true c d i fits h =
+      not-more (refused 19 (plusOf (c .lines) i) 1) c′ used′ (short-ended true c d len room i (plusOf (c .lines) i) refl refl ∙ h)
+  short-asks false c d i fits h =
+      wait-asks false (counted c d) (d .at) refl fits (short-waits false c d len room i (counted c d) (waitOf (counted c d) (d .at) len room) refl refl refl ∙ h)
 
 pub call-asks : (room : ℕ) (c : Counter) (part : Bytes) (ended : Bool) (c′ : Counter) (used : ℕ) → fedOf c part ended room ≡ Fed.More c′ used → Asks ended room (length part) 0 used
 unfolding fedOf
-call-asks room c part ended c′ used h = asks-from room (length part) c′ used ended (length part) part (omega arith) c 0 (omega arith) h
+call-asks room c part ended c′ used h = go (fileWalk part) (walk-after part .inside) h
+  where
+    from-start : {from : ℕ} → Asks ended room (length part) from used → Asks ended room (length part) 0 used
+    from-start a = record { open-yet = a .open-yet; later = omega arith; within = a .within; idle = a .idle }
+
+    go : (w : Walk) → cursorOf w .at ≤ length part → fedBy ended room (length part) c w ≡ Fed.More c′ used → Asks ended room (length part) 0 used
+    go (over xs d) f q = from-start (end-asks room (length part) c′ used ended (counted c d) (d .at) f q)
+    go (short xs d i) f q = from-start (short-asks room (length part) c′ used ended c d i f q)
+    go (stopped xs d e i column) f q = not-more (refused e (plusOf (c .lines) i) column) c′ used q
 
 -- a call on a full buffer, or with the end of the input, does not ask for more and use nothing
 pub call-moves : (room : ℕ) (c : Counter) (part : Bytes) (ended : Bool) (c′ : Counter) (used : ℕ) → room ≤ length part → fedOf c part ended room ≡ Fed.More c′ used → 0 < used

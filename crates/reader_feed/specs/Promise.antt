@@ -43,13 +43,13 @@ same-told a b h = sym (back a) ∙ ap toldOf h ∙ back b
 feeds-say : {room : ℕ} {c : Counter} {t : Bytes} {told : Told} → Feeds room c t told → Small c t → told ≡ says room c t
 feeds-say {room = room} {c = c} {t = t} {told = told} (Feeds.last part ended h e) small = go (call-goes room c t part ended h small)
   where
-    go : Goes room c 0 t (fedOf c part ended room) → told ≡ says room c t
+    go : Goes room (c .records) (c .lines) 0 t (fedOf c part ended room) → told ≡ says room c t
     go (Goes.tells x q is) = same-told told x (sym e ∙ q) ∙ is
     go (Goes.waits c′ d q s is) = not-more told c′ (0 + d) (sym e ∙ q)
 feeds-say {room = room} {c = c} {t = t} {told = told} (Feeds.more part ended c₁ used h e f) small =
     go (λ s. feeds-say f s) (call-goes room c t part ended h small)
   where
-    go : (Small c₁ (drop used t) → told ≡ says room c₁ (drop used t)) → Goes room c 0 t (fedOf c part ended room) → told ≡ says room c t
+    go : (Small c₁ (drop used t) → told ≡ says room c₁ (drop used t)) → Goes room (c .records) (c .lines) 0 t (fedOf c part ended room) → told ≡ says room c t
     go r (Goes.tells x q is) = not-more x c₁ used (sym q ∙ e)
     go r (Goes.waits c′ d q s is) =
         let both : Fed.More c₁ used ≡ Fed.More c′ (0 + d) = sym e ∙ q in

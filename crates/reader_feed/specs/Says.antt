@@ -5,18 +5,20 @@ use mathlib.Core.Path.{_≡_, refl, sym, ap, _∙_, subst}
 use mathlib.Core.List.{List, [], _∷_, _++_}
 use mathlib.Core.Bool.{Bool, true, false, cond}
 use lib.Dec.{ltb}
-use lib.ListN.{length, take, drop, length-drop, length-append, take-append-drop}
-use lib.Seq.{take-all}
+use lib.ListN.{length, take, drop, length-drop, drop-of-length-le, take-append-drop}
+use lib.Seq.{take-all, drop-drop}
 use borrow.Author.Tests.{lt-ltb, le-ltb, ltb-true, ltb-false}
 use Rattle.text.specs.Text.{Bytes}
-use Rattle.rules.specs.Record.{Raw, limit}
+use Rattle.rules.specs.Record.{Raw}
 use Rattle.judge_file.specs.Place.{sdfile}
-use Rattle.judge_file.specs.Verdict.{Verdict}
-use Rattle.judge_file.specs.WalkText.{afterLines, fileText, verdict-text, text-end, text-whole, text-refused, text-short}
+use Rattle.judge_file.specs.WalkText.{afterLines}
+use Rattle.reader_walk.specs.Outcome.{Outcome, ofOne, outcomeOf}
 use Rattle.reader_walk.specs.Promise.{Said, saidBy}
 use Rattle.reader_walk.specs.Checking.{saidOf}
-use Rattle.reader_feed.specs.declared.Piece.{Piece}
-use Rattle.reader_feed.specs.Fed.{pieceOf}
+use Rattle.reader_cursor.specs.declared.Cursor.{Cursor}
+use Rattle.reader_cursor.specs.Walk.{fresh, past}
+use Rattle.reader_cursor.specs.After.{After, after-start, after-good, after-verdict, after-all}
+use Rattle.reader_feed.specs.Fed.{Piece, pieceOf}
 use Rattle.reader_feed.specs.Pieces.{piece-room}
 use Rattle.reader_feed.specs.Stays.{whole-one, refused-one, short-one, whole-stays, refused-stays}
 
@@ -103,81 +105,81 @@ module _ (room : ℕ) (t : Bytes) where
   refused-there : (e k column : ℕ) → pieceOf (take room t) ≡ Piece.Refused e k column → pieceOf t ≡ Piece.Refused e k column
   refused-there e k column h = ap pieceOf (sym (take-append-drop room t)) ∙ refused-stays (take room t) (drop room t) e k column h
 
-module _ (room : ℕ) (t : Bytes) (some : 0 < length t) (xs : List Raw) (i : ℕ) where
-  abbrev Shown : Told → Verdict → Type 0
-  Shown r v = AsChecked r (saidBy v)
+-- from every cursor of the walk over the input, what is written is what the check says of it
+module _ (room : ℕ) (s : Bytes) where
+  abbrev Checks : List Raw → Cursor → Type 0
+  Checks xs d = AsChecked (saysFrom room (d .records) (d .lines) 0 (drop (d .at) s)) (saidOf sdfile s)
 
-  check-whole : (n k : ℕ) → pieceOf (take room t) ≡ Piece.Whole n k →
-      ((ys : List Raw) (j : ℕ) → Shown (saysFrom room (length ys) j 0 (drop n t)) (fileText limit ys (j + 1) (drop n t))) →
-      Shown (saysFrom room (length xs) i 0 t) (fileText limit xs (i + 1) t)
-  check-whole n k p r =
-      let w = whole-one t n k (whole-there room t n k p) in
-      let ys = xs ++ (w .0 ∷ []) in
-      let count : length xs + 1 ≡ length ys = sym (length-append xs (w .0 ∷ [])) in
-      let line : i + 1 + k ≡ i + k + 1 = omega arith in
-      let says : saysFrom room (length xs) i 0 t ≡ saysFrom room (length ys) (i + k) 0 (drop n t) =
-      says-whole room (length xs) i t some n k p ∙ ap (λ (c : ℕ). saysFrom room c (i + k) 0 (drop n t)) count in
-      let file : fileText limit xs (i + 1) t ≡ fileText limit ys (i + k + 1) (drop n t) =
-      text-whole limit xs (i + 1) t (w .0) k (w .1) (w .2)
-      ∙ ap (λ (j : ℕ). fileText limit ys j (drop (afterLines t 0 k) t)) line
-      ∙ ap (λ (j : ℕ). fileText limit ys (i + k + 1) (drop j t)) (sym (w .3))
-      in
-      subst (λ (v : Verdict). Shown (saysFrom room (length xs) i 0 t) v) (sym file)
-      (subst (λ (q : Told). Shown q (fileText limit ys (i + k + 1) (drop n t))) (sym says) (r ys (i + k)))
+  as-told : {a b : Told} → a ≡ b → AsChecked b (saidOf sdfile s) → AsChecked a (saidOf sdfile s)
+  as-told e h = subst (λ (x : Told). AsChecked x (saidOf sdfile s)) (sym e) h
 
-  check-refused : (e k column : ℕ) → pieceOf (take room t) ≡ Piece.Refused e k column → Shown (saysFrom room (length xs) i 0 t) (fileText limit xs (i + 1) t)
-  check-refused e k column p =
-      let line : i + 1 + k - 1 ≡ i + k = omega arith in
-      subst (λ (q : Told). Shown q (fileText limit xs (i + 1) t)) (sym (says-refused room (length xs) i t some e k column p))
-      (ap saidBy (text-refused limit xs (i + 1) t e k column (refused-one t e k column (refused-there room t e k column p)))
-      ∙ ap (λ (j : ℕ). Said.refused e j column) line)
+  ends : (xs : List Raw) (d : Cursor) → After s xs d → length s ≤ d .at → Checks xs d
+  ends xs d g h =
+      as-told (ap (saysFrom room (d .records) (d .lines) 0) (drop-of-length-le s h) ∙ says-end room (d .records) (d .lines))
+      (ap saidBy (after-good s xs d g h) ∙ ap Said.accepted (sym (g .count)))
 
-  check-short : (k : ℕ) → pieceOf (take room t) ≡ Piece.Short k → Shown (saysFrom room (length xs) i 0 t) (fileText limit xs (i + 1) t)
-  check-short k p = go (ltb room (length t)) refl
-    where
-      go : (many : Bool) → ltb room (length t) ≡ many → Shown (saysFrom room (length xs) i 0 t) (fileText limit xs (i + 1) t)
-      go true e =
-          subst (λ (q : Told). Shown q (fileText limit xs (i + 1) t)) (sym (says-long room (length xs) i t some k (ltb-true room (length t) e) p)) tt
-      go false e =
-          let few = ltb-false room (length t) e in
-          let line : i + 1 + k - 1 ≡ i + k = omega arith in
-          subst (λ (q : Told). Shown q (fileText limit xs (i + 1) t)) (sym (says-short room (length xs) i t some k few p))
-          (ap saidBy (text-short limit xs (i + 1) t k (short-one t k (ap pieceOf (sym (take-all room t few)) ∙ p)) some)
-          ∙ ap (λ (j : ℕ). Said.refused 19 j 1) line)
+  module _ (xs : List Raw) (d : Cursor) (g : After s xs d) (more : d .at < length s) where
+    abbrev u : Bytes
+    u = drop (d .at) s
 
-abbrev Checks : ℕ → Bytes → Type 0
-Checks room t = (xs : List Raw) (i : ℕ) → AsChecked (saysFrom room (length xs) i 0 t) (saidBy (fileText limit xs (i + 1) t))
+    left : 0 < length u
+    left = omega (arith, length-drop (d .at) s)
 
-check-end : (room : ℕ) → Checks room []
-check-end room xs i =
-    subst (λ (q : Told). AsChecked q (saidBy (fileText limit xs (i + 1) []))) (sym (says-end room (length xs) i)) (ap saidBy (text-end limit xs (i + 1)))
+    -- no end of the record within the room: too long, or as in all of the bytes
+    open-yet : (k : ℕ) → pieceOf (take room u) ≡ Piece.Short k → (length u ≤ room → pieceOf u ≡ Piece.Short k → Checks xs d) → Checks xs d
+    open-yet k p r = go (ltb room (length u)) refl
+      where
+        go : (many : Bool) → ltb room (length u) ≡ many → Checks xs d
+        go true e = as-told (says-long room (d .records) (d .lines) u left k (ltb-true room (length u) e) p) tt
+        go false e = let few = ltb-false room (length u) e in r few (ap pieceOf (sym (take-all room u few)) ∙ p)
 
--- with the rest of the input after a record done
-check-next : (room m : ℕ) (t : Bytes) → 0 < length t → length t ≤ suc m → ((u : Bytes) → length u ≤ m → Checks room u) → Checks room t
-check-next room m t some h r xs i = go (pieceOf (take room t)) refl
-  where
-    go : (q : Piece) → pieceOf (take room t) ≡ q → AsChecked (saysFrom room (length xs) i 0 t) (saidBy (fileText limit xs (i + 1) t))
-    go (Piece.Whole n k) p =
-        let size = piece-room (take room t) n k p in
-        let less : length (drop n t) ≤ m = omega (arith, h, size .0, size .1, length-drop n t) in
-        check-whole room t some xs i n k p (r (drop n t) less)
-    go (Piece.Refused e k column) p = check-refused room t some xs i e k column p
-    go (Piece.Short k) p = check-short room t some xs i k p
+    stops : (e k column : ℕ) → outcomeOf sdfile (drop (d .at) s) ≡ Outcome.refused e k column → Checks xs d
+    unfolding outcomeOf
+    stops e k column h = go (pieceOf (take room u)) refl
+      where
+        said : saidOf sdfile s ≡ Said.refused e (d .lines + k) column
+        said = ap saidBy (after-verdict s xs d g more e k column h)
 
-checks : (room m : ℕ) (t : Bytes) → length t ≤ m → Checks room t
-checks room zero t h = none t h
-  where
-    none : (t : Bytes) → length t ≤ 0 → Checks room t
-    none [] h = check-end room
-    none (b ∷ t) h = absurd (omega (arith, h))
-checks room (suc m) t h = by (λ u f. checks room m u f) t h
-  where
-    by : ((u : Bytes) → length u ≤ m → Checks room u) → (t : Bytes) → length t ≤ suc m → Checks room t
-    by r [] h = check-end room
-    by r (b ∷ t) h = check-next room m (b ∷ t) (omega arith) h r
+        same : {n j c : ℕ} → Outcome.refused e k column ≡ Outcome.refused n j c → saidOf sdfile s ≡ Said.refused n (d .lines + j) c
+        same {n} {j} {c} q =
+            let r : Said.refused e (d .lines + k) column ≡ Said.refused n (d .lines + j) c = cc in
+            said ∙ r
+
+        go : (q : Piece) → pieceOf (take room u) ≡ q → Checks xs d
+        go (Piece.Whole n j) p =
+            let o = whole-one u n j (whole-there room u n j p) in
+            let q : Outcome.whole (o .0) j ≡ Outcome.refused e k column = sym (ap ofOne (o .2)) ∙ h in
+            absurd (let z : _≡_ {A = ℕ} 0 1 = cc in omega arith)
+        go (Piece.Refused n j c) p =
+            as-told (says-refused room (d .records) (d .lines) u left n j c p) (same (sym h ∙ ap ofOne (refused-one u n j c (refused-there room u n j c p))))
+        go (Piece.Short j) p =
+            open-yet j p λ few w. as-told (says-short room (d .records) (d .lines) u left j few p) (same (sym h ∙ ap ofOne (short-one u j w)))
+
+    goes : (x : Raw) (k : ℕ) → outcomeOf sdfile (drop (d .at) s) ≡ Outcome.whole x k → Checks (xs ++ (x ∷ [])) (past d (afterLines (drop (d .at) s) 0 k) k) → Checks xs d
+    unfolding outcomeOf
+    goes x k h v = go (pieceOf (take room u)) refl
+      where
+        go : (q : Piece) → pieceOf (take room u) ≡ q → Checks xs d
+        go (Piece.Whole n j) p =
+            let o = whole-one u n j (whole-there room u n j p) in
+            let q : Outcome.whole (o .0) j ≡ Outcome.whole x k = sym (ap ofOne (o .2)) ∙ h in
+            let jk : j ≡ k = cc in
+            let next : saysFrom room (d .records) (d .lines) 0 u ≡ saysFrom room (d .records + 1) (d .lines + k) 0 (drop (d .at + afterLines u 0 k) s) =
+            says-whole room (d .records) (d .lines) u left n j p
+            ∙ ap (λ (i : ℕ). saysFrom room (d .records + 1) (d .lines + i) 0 (drop n u)) jk
+            ∙ ap (λ (i : ℕ). saysFrom room (d .records + 1) (d .lines + k) 0 (drop i u)) (o .3 ∙ ap (afterLines u 0) jk)
+            ∙ ap (saysFrom room (d .records + 1) (d .lines + k) 0) (drop-drop (afterLines u 0 k) (d .at) s)
+            in
+            as-told next v
+        go (Piece.Refused n j c) p =
+            let q : Outcome.refused n j c ≡ Outcome.whole x k = sym (ap ofOne (refused-one u n j c (refused-there room u n j c p))) ∙ h in
+            absurd (let z : _≡_ {A = ℕ} 0 1 = cc in omega arith)
+        go (Piece.Short j) p =
+            open-yet j p λ few w.
+            let q : Outcome.refused 19 j 1 ≡ Outcome.whole x k = sym (ap ofOne (short-one u j w)) ∙ h in
+            absurd (let z : _≡_ {A = ℕ} 0 1 = cc in omega arith)
 
 -- the same count, or the same number, line and column, unless a record is too long
 pub as-checked : (room : ℕ) (t : Bytes) → AsChecked (counterSays room t) (saidOf sdfile t)
 unfolding counterSays
-as-checked room t =
-    subst (λ (v : Verdict). AsChecked (saysFrom room 0 0 0 t) (saidBy v)) (sym (verdict-text limit t)) (checks room (length t) t (omega arith) [] 0)
+as-checked room t = after-all t (Checks room t) (ends room t) (stops room t) (goes room t) [] fresh (after-start t)

@@ -19,8 +19,7 @@ use Rattle.judge_file.specs.One.{One, oneFrom, oneRecord}
 use Rattle.judge_file.specs.OneAgree.{one-whole}
 use Rattle.judge_file.specs.WalkText.{afterLines, after-none, after-next}
 use Rattle.reader_walk.specs.Outcome.{one-next, one-done, one-bad}
-use Rattle.reader_feed.specs.declared.Piece.{Piece}
-use Rattle.reader_feed.specs.Fed.{pieceBy, pieceOf}
+use Rattle.reader_feed.specs.Fed.{Piece, pieceBy, pieceOf}
 
 -- ---- The lines of a longer text begin with those of the shorter one
 

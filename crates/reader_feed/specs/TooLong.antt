@@ -17,8 +17,7 @@ use Rattle.judge_file.specs.One.{One, oneRecord}
 use Rattle.judge_file.specs.OneAgree.{one-whole, one-refused, one-short}
 use Rattle.judge_file.specs.Front.{record-front}
 use Rattle.judge_file.specs.WalkText.{afterLines, after-within, after-cut}
-use Rattle.reader_feed.specs.declared.Piece.{Piece}
-use Rattle.reader_feed.specs.Fed.{pieceOf}
+use Rattle.reader_feed.specs.Fed.{Piece, pieceOf}
 use Rattle.reader_feed.specs.Pieces.{piece-room}
 use Rattle.reader_feed.specs.Stays.{whole-one, refused-one, short-one, one-piece, whole-stays}
 use Rattle.reader_feed.specs.Says.{accepted, refused, too-long, saysFrom, counterSays, says-end, says-whole, says-refused, says-short, says-long, whole-there}

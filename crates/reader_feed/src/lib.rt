@@ -1,11 +1,8 @@
 // The records of an SDfile that comes in parts, counted with one buffer of fixed size.
 ghost use mathlib.Core.Path.{_≡_};
-ghost use Prim.Native.Nat.{_*_, _≤_};
-ghost use lib.ListN.{length};
-ghost use Rattle.line_property.specs.Listed.{places};
-ghost use Rattle.reader_feed.specs.Fed.{plusOf, begun, counted, refusedPiece, pieceOf, waitOf, shortOf, endOf, fedOf};
-use line_property::LISTED;
-use reader_walk::Walked;
+ghost use Rattle.reader_feed.specs.Fed.{plusOf, begun, counted, waitOf, shortOf, endOf, fedOf};
+use reader_cursor::Cursor;
+use reader_cursor::Ended;
 
 // So many records and lines are done with.
 pub struct Counter {
@@ -25,14 +22,6 @@ pub enum Fed {
     TooLong { record: usize },
 }
 
-// The record at the front of some bytes.
-enum Piece {
-    Whole { length: usize, lines: usize },
-    Refused { no: u8, line: usize, column: usize },
-    // The bytes end before it does.
-    Short { line: usize },
-}
-
 // Counts stop here and never wrap.
 const MOST: usize = 18446744073709551615;
 
@@ -45,33 +34,6 @@ fn plus(a: usize, b: usize) -> usize
     a + b
 }
 
-fn refused_piece(no: u8, line: usize, column: usize) -> Piece
-    ensures { λ r. ⌜ r ≡ refusedPiece no line column ⌝ }
-{
-    if no == 19 {
-        return Piece::Short { line };
-    }
-    Piece::Refused { no, line, column }
-}
-
-fn front_record(s: &[u8], atoms: &mut [i32], bonds: &mut [i32], listed: &mut [u32; LISTED]) -> Piece
-    requires { ⌜ (4080 ≤ length (now atoms)) × (1530 ≤ length (now bonds)) × (length (now listed) ≡ 3 * places) ⌝ }
-    ensures { λ r. ⌜ r ≡ pieceOf (now (s .entry)) ⌝ }
-    ensures { λ r. ⌜ length (now (listed .exit)) ≡ 3 * places ⌝ }
-{
-    match reader_walk::walk_record(true, s, atoms, bonds, listed) {
-        Walked::Whole {
-            counts: _,
-            length,
-            lines,
-            header_end: _,
-            items_start: _,
-            items_end: _,
-        } => Piece::Whole { length, lines },
-        Walked::Refused { no, line, column } => refused_piece(no, line, column),
-    }
-}
-
 impl Counter {
     pub fn new() -> Counter
         ensures { λ r. ⌜ r ≡ begun ⌝ }
@@ -82,13 +44,13 @@ impl Counter {
         }
     }
 
-    // One record more, of so many lines.
-    fn counted(self, lines: usize) -> Counter
-        ensures { λ r. ⌜ r ≡ counted self lines ⌝ }
+    // After the records that a cursor has passed.
+    fn counted(self, cursor: Cursor) -> Counter
+        ensures { λ r. ⌜ r ≡ counted self cursor ⌝ }
     {
         Counter {
-            records: plus(self.records, 1),
-            lines: plus(self.lines, lines),
+            records: plus(self.records, cursor.records),
+            lines: plus(self.lines, cursor.lines),
         }
     }
 
@@ -113,9 +75,9 @@ impl Counter {
         }
     }
 
-    // A record of the part is cut short, before this line of it.
-    fn short(self, line: usize, used: usize, len: usize, ended: bool, room: usize) -> Fed
-        ensures { λ r. ⌜ r ≡ shortOf ended room len self used line ⌝ }
+    // The part ends within the record at the cursor, before this line of it.
+    fn short(self, cursor: Cursor, line: usize, len: usize, ended: bool, room: usize) -> Fed
+        ensures { λ r. ⌜ r ≡ shortOf ended room len self cursor line ⌝ }
     {
         if ended {
             return Fed::Refused {
@@ -124,7 +86,7 @@ impl Counter {
                 column: 1,
             };
         }
-        self.wait(used, len, room)
+        self.counted(cursor).wait(cursor.at, len, room)
     }
 
     // The part is used up.
@@ -139,49 +101,20 @@ impl Counter {
         self.wait(used, len, room)
     }
 
-    // The records of a part, one after the other, with lent tables.
-    fn walk_part(
-        self,
-        part: &[u8],
-        ended: bool,
-        room: usize,
-        atoms: &mut [i32],
-        bonds: &mut [i32],
-        listed: &mut [u32; LISTED],
-    ) -> Fed
-        requires { ⌜ (4080 ≤ length (now atoms)) × (1530 ≤ length (now bonds)) × (length (now listed) ≡ 3 * places) ⌝ }
-        ensures { λ r. ⌜ r ≡ fedOf self (now (part .entry)) ended room ⌝ }
-    {
-        let mut counter = self;
-        let mut at: usize = 0;
-        while at < part.len() {
-            match front_record(&part[at..], atoms, bonds, listed) {
-                Piece::Whole { length, lines } => {
-                    counter = counter.counted(lines);
-                    at += length;
-                }
-                Piece::Refused { no, line, column } => {
-                    return Fed::Refused {
-                        no,
-                        line: plus(counter.lines, line),
-                        column,
-                    };
-                }
-                Piece::Short { line } => {
-                    return counter.short(line, at, part.len(), ended, room);
-                }
-            }
-        }
-        counter.end(at, part.len(), ended, room)
-    }
-
     // The next part of the input, from where a record begins. `ended`: nothing follows it. `room`: no part is ever longer.
     pub fn take(self, part: &[u8], ended: bool, room: usize) -> Fed
         ensures { λ r. ⌜ r ≡ fedOf self (now (part .entry)) ended room ⌝ }
     {
-        let mut atoms = [0i32; 4080];
-        let mut bonds = [0i32; 1530];
-        let mut listed = [0u32; LISTED];
-        self.walk_part(part, ended, room, &mut atoms, &mut bonds, &mut listed)
+        match reader_cursor::walk_file(part) {
+            Ended::Over { cursor } => {
+                self.counted(cursor).end(cursor.at, part.len(), ended, room)
+            }
+            Ended::Short { cursor, line } => self.short(cursor, line, part.len(), ended, room),
+            Ended::Refused { no, line, column } => Fed::Refused {
+                no,
+                line: plus(self.lines, line),
+                column,
+            },
+        }
     }
 }

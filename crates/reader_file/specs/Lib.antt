@@ -1,4 +1,8 @@
+-- What the contracts cite
 pub mod Next
-pub mod Stepping
+pub mod Promise
+-- Visits of a whole file
 pub mod Visits
 pub mod Visiting
+-- Laws for the proofs
+pub mod Stepping

@@ -6,18 +6,11 @@ use lib.Dec.{ltb, leb}
 use lib.ListN.{length, drop}
 use lib.IntN.{ℤ}
 use Rattle.text.specs.Text.{Bytes}
+use Rattle.reader_cursor.specs.declared.Cursor.{Cursor}
+use Rattle.reader_cursor.specs.Walk.{past}
 use Rattle.reader_record.specs.declared.RecordRead.{RecordRead}
 use Rattle.reader_record.specs.Read.{byRoom, readOf, atomsAfter, bondsAfter}
-use Rattle.reader_file.specs.declared.Cursor.{Cursor}
 use Rattle.reader_file.specs.declared.Next.{Next}
-
--- before the first record of a file
-abbrev pub fresh : Cursor
-fresh = record { at = 0; lines = 0; records = 0 }
-
--- past a record of so many bytes and lines
-abbrev pub past : Cursor → ℕ → ℕ → Cursor
-past c bytes lines = record { at = c .at + bytes; lines = c .lines + lines; records = c .records + 1 }
 
 -- ---- Where a record may start
 

@@ -1,27 +1,65 @@
 -- Steps of a cursor: its numbers fit, and each end of the code gives the definition's answer and tables.
 use Prim.Native.Nat.{ℕ, _+_, _-_, _*_, _≤_, _<_, _^_}
 use native.Mathlib.Omega.{arith}
-use mathlib.Core.Path.{_≡_, sym, ap, _∙_}
+use mathlib.Core.Path.{_≡_, refl, sym, ap, _∙_}
 use mathlib.Core.List.{List}
-use mathlib.Core.Bool.{true, false}
+use mathlib.Core.Bool.{Bool, true, false, cond}
+use lib.Dec.{ltb, leb}
 use lib.ListN.{length, take, drop, length-drop}
-use lib.Seq.{take-all}
 use lib.IntN.{ℤ}
-use mir.Syntax.{w64}
-use mir.Val.{Fits}
-use borrow.Author.Tests.{lt-ltb, le-ltb, le-leb, lt-leb}
+use borrow.Author.Tests.{lt-ltb, le-ltb, le-leb, lt-leb, ltb-true, ltb-false, leb-true, leb-false}
 use Rattle.text.specs.Text.{Bytes}
+use Rattle.judge_file.specs.Place.{sdfile}
+use Rattle.judge_file.specs.WalkText.{afterLines}
+use Rattle.reader_walk.specs.Outcome.{Outcome, whole, refused, outcomeOf}
+use Rattle.reader_walk.specs.Walked.{walkedBy, walkOf}
+use Rattle.reader_cursor.specs.declared.Cursor.{Cursor}
+use Rattle.reader_cursor.specs.Walk.{past, Countable}
+use Rattle.reader_cursor.specs.After.{tail-is, outcome-size, outcome-line}
 use Rattle.reader_record.specs.declared.RecordRead.{RecordRead}
-use Rattle.reader_record.specs.Read.{readOf, atomsAfter, bondsAfter}
-use Rattle.reader_record.specs.Bounds.{read-small, refused-small}
-use Rattle.reader_file.specs.declared.Cursor.{Cursor}
+use Rattle.reader_record.specs.Read.{answered, readAs, readOf, atomsAfter, bondsAfter}
 use Rattle.reader_file.specs.declared.Next.{Next}
-use Rattle.reader_file.specs.Next.{past, Within, within, nextBy, nextAt, atomsAt, bondsAt, nextOn, atomsOn, bondsOn, nextOf, atomsNext, bondsNext}
+use Rattle.reader_file.specs.Next.{Within, within, nextBy, nextAt, atomsAt, bondsAt, nextOn, atomsOn, bondsOn, nextOf, atomsNext, bondsNext}
+
+-- ---- The numbers of a reading lie within its text
+
+apart : {X : Type 0} {n m chiral len k h a b e i c : ℕ} → RecordRead.Refused e i c ≡ RecordRead.Read n m chiral len k h a b → X
+apart h = absurd (let z : _≡_ {A = ℕ} 0 1 = cc in omega arith)
+
+module _ (la lb : ℕ) (t : Bytes) where
+  abbrev by : Bool → Bool → Outcome → RecordRead
+  by x y o = cond x (RecordRead.Refused 2 0 0) (cond y (RecordRead.Refused 2 0 0) (answered (walkedBy sdfile t o)))
+
+  read-small : (n m chiral len k h a b : ℕ) → readOf 1 la lb t ≡ RecordRead.Read n m chiral len k h a b → (1 ≤ k) × (k ≤ len) × (len ≤ length t)
+  unfolding readOf readAs walkOf answered
+  read-small n m chiral len k h a b e = go (ltb la 4080) (ltb lb 1530) (outcomeOf sdfile t) refl e
+    where
+      go : (x y : Bool) (o : Outcome) → outcomeOf sdfile t ≡ o → by x y o ≡ RecordRead.Read n m chiral len k h a b → (1 ≤ k) × (k ≤ len) × (len ≤ length t)
+      go true y o i q = apart q
+      go false true o i q = apart q
+      go false false (whole x j) i q =
+          let jk : j ≡ k = cc in
+          let size : afterLines t 0 j ≡ len = cc in
+          let w = outcome-size t x j i in
+          (omega (arith, w .0), omega (arith, w .1), omega (arith, w .2))
+      go false false (refused n j d) i q = apart q
+
+  refused-small : (e i c : ℕ) → readOf 1 la lb t ≡ RecordRead.Refused e i c → i ≤ length t + 1
+  unfolding readOf readAs walkOf answered
+  refused-small e i c h = go (ltb la 4080) (ltb lb 1530) (outcomeOf sdfile t) refl h
+    where
+      no-line : RecordRead.Refused 2 0 0 ≡ RecordRead.Refused e i c → i ≤ length t + 1
+      no-line q = let z : 0 ≡ i = cc in omega arith
+
+      go : (x y : Bool) (o : Outcome) → outcomeOf sdfile t ≡ o → by x y o ≡ RecordRead.Refused e i c → i ≤ length t + 1
+      go true y o j q = no-line q
+      go false true o j q = no-line q
+      go false false (whole x k) j q = apart (sym q)
+      go false false (refused n k d) j q =
+          let ki : k ≡ i = cc in
+          omega (arith, outcome-line t n k d j)
 
 -- ---- The record at the cursor
-
-pub tail-is : (s : Bytes) (i : ℕ) → take (length s - i) (drop i s) ≡ drop i s
-tail-is s i = take-all (length s - i) (drop i s) (omega (arith, length-drop i s))
 
 module _ (c : Cursor) (s : Bytes) (g : Within c s) (la lb : ℕ) (r : RecordRead) (er : r ≡ readOf 1 la lb (take (length s - c .at) (drop (c .at) s))) where
   is : r ≡ readOf 1 la lb (drop (c .at) s)
@@ -31,28 +69,28 @@ module _ (c : Cursor) (s : Bytes) (g : Within c s) (la lb : ℕ) (r : RecordRead
     room : (1 ≤ k) × (k ≤ len) × (len ≤ length (drop (c .at) s))
     room = read-small la lb (drop (c .at) s) n m chiral len k h a b (sym is ∙ q)
 
-    pub fits-at : length s * 1 < 2 ^ 63 → Fits w64 (c .at + len)
-    fits-at f = let w = room in record { fits = omega (arith, w .2, g .left, length-drop (c .at) s) }
+    pub fits-past : length s * 1 < 2 ^ 63 → Countable c len k
+    fits-past f =
+        let w = room in
+        record {
+          at = omega (arith, w .2, g .left, length-drop (c .at) s);
+          lines = omega (arith, w .1, w .2, g .left, g .lines, length-drop (c .at) s);
+          records = omega (arith, g .left, g .lines, g .records);
+        }
 
-    pub fits-lines : length s * 1 < 2 ^ 63 → Fits w64 (c .lines + k)
-    fits-lines f = let w = room in record { fits = omega (arith, w .1, w .2, g .left, g .lines, length-drop (c .at) s) }
-
-    pub step-record : Next.Record n m chiral len k h a b (past c len k) ≡ nextAt c la lb s
+    pub step-record : (d : Cursor) → d ≡ past c len k → Next.Record n m chiral len k h a b d ≡ nextAt c la lb s
     unfolding nextAt
-    step-record = ap (nextBy c) (sym q ∙ is)
-
-  pub fits-records : length s * 1 < 2 ^ 63 → Fits w64 (c .records + 1)
-  fits-records f = record { fits = omega (arith, g .left, g .lines, g .records) }
+    step-record d e = ap (Next.Record n m chiral len k h a b) e ∙ ap (nextBy c) (sym q ∙ is)
 
   module _ (e i column : ℕ) (q : r ≡ RecordRead.Refused e i column) where
-    pub fits-line : length s * 1 < 2 ^ 63 → Fits w64 (c .lines + i)
+    pub fits-line : length s * 1 < 2 ^ 63 → c .lines + i < 2 ^ 64
     fits-line f =
         let w = refused-small la lb (drop (c .at) s) e i column (sym is ∙ q) in
-        record { fits = omega (arith, w, g .left, g .lines, length-drop (c .at) s) }
+        omega (arith, w, g .left, g .lines, length-drop (c .at) s)
 
-    pub step-refused : Next.Refused e (c .lines + i) column ≡ nextAt c la lb s
+    pub step-refused : (l : ℕ) → l ≡ c .lines + i → Next.Refused e l column ≡ nextAt c la lb s
     unfolding nextAt
-    step-refused = ap (nextBy c) (sym q ∙ is)
+    step-refused l h = ap (λ (j : ℕ). Next.Refused e j column) h ∙ ap (nextBy c) (sym q ∙ is)
 
 pub step-atoms : (c : Cursor) (s : Bytes) (lb : ℕ) (t u : List ℤ) → u ≡ atomsAfter 1 lb (take (length s - c .at) (drop (c .at) s)) t → u ≡ atomsAt c lb s t
 unfolding atomsAt
@@ -62,7 +100,7 @@ pub step-bonds : (c : Cursor) (s : Bytes) (la : ℕ) (t u : List ℤ) → u ≡ 
 unfolding bondsAt
 step-bonds c s la t u e = e ∙ ap (λ (v : Bytes). bondsAfter 1 la v t) (tail-is s (c .at))
 
-pub ruleset step-laws = (fits-at, fits-lines, fits-records, fits-line, step-record, step-refused, step-atoms, step-bonds)
+pub ruleset step-laws = (fits-past, fits-line, step-record, step-refused, step-atoms, step-bonds)
 
 -- ---- Any cursor
 
@@ -109,6 +147,18 @@ module _ (c : Cursor) (s : Bytes) where
   pub bonds-there : (la : ℕ) (t u : List ℤ) → Within c s → u ≡ bondsAt c la s t → u ≡ bondsOn c la s t
   unfolding bondsOn
   bonds-there la t u g e = rw (here g) e
+
+-- no walk over the file stands there
+pub outside : (c : Cursor) (s : Bytes) → ¬ Within c s → within c s ≡ false
+outside c s h = go (ltb (c .at) (length s)) refl (leb (c .lines) (c .at)) refl (leb (c .records) (c .lines)) refl
+  where
+    go : (x : Bool) → ltb (c .at) (length s) ≡ x → (y : Bool) → leb (c .lines) (c .at) ≡ y → (z : Bool) → leb (c .records) (c .lines) ≡ z → within c s ≡ false
+    go false ex y ey z ez = not-left c s (ltb-false (c .at) (length s) ex)
+    go true ex false ey z ez = many-lines c s (ltb-true (c .at) (length s) ex) (leb-false (c .lines) (c .at) ey)
+    go true ex true ey false ez =
+        many-records c s (ltb-true (c .at) (length s) ex) (leb-true (c .lines) (c .at) ey) (leb-false (c .records) (c .lines) ez)
+    go true ex true ey true ez =
+        absurd (h (all-within c s (ltb-true (c .at) (length s) ex) (leb-true (c .lines) (c .at) ey) (leb-true (c .records) (c .lines) ez)))
 
 pub ruleset place-laws = (not-left, many-lines, many-records, end-next, end-atoms, end-bonds, all-within, read-there, atoms-there, bonds-there)
 

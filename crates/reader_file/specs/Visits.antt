@@ -9,23 +9,20 @@ use Rattle.rules.specs.Record.{Raw, GoodSDfile}
 use Rattle.rules.specs.Meaning.{meaning}
 use Rattle.reader_tables.specs.Row.{flat}
 use Rattle.judge_file.specs.Place.{sdfile}
-use Rattle.reader_walk.specs.Promise.{accepted, refused}
+use Rattle.reader_walk.specs.Promise as W
 use Rattle.reader_walk.specs.Checking.{saidOf}
+use Rattle.reader_cursor.specs.declared.Cursor.{Cursor}
+use Rattle.reader_cursor.specs.Walk.{fresh, past}
 use Rattle.reader_record.specs.Read.{rowsIn}
 use Rattle.reader_record.specs.Promise.{Reply, Told}
-use Rattle.reader_file.specs.declared.Cursor.{Cursor}
-use Rattle.reader_file.specs.declared.Next.{Next}
-use Rattle.reader_file.specs.Next.{fresh, past, nextOf, atomsNext, bondsNext}
-
--- a record's numbers, and the cursor past it
-abbrev pub recordNext : Reply → Cursor → Next
-recordNext w d = Next.Record (w .n) (w .m) (w .chiral) (w .bytes) (w .lines) (w .header-end) (w .items-start) (w .items-end) d
+use Rattle.reader_file.specs.Next.{nextOf, atomsNext, bondsNext}
+use Rattle.reader_file.specs.Promise.{Said, found, end, refused, numbersOf}
 
 -- the answers that give no cursor
-abbrev pub Last : Next → Type 0
-Last (Next.Record n m chiral bytes lines h a b d) = ⊥
-Last Next.End = Unit {0}
-Last (Next.Refused e i column) = Unit {0}
+abbrev pub Last : Said → Type 0
+Last (found w d) = ⊥
+Last end = Unit {0}
+Last (refused e i column) = Unit {0}
 
 -- tables of these lengths are lent
 module _ (la lb : ℕ) (s : Bytes) where
@@ -34,24 +31,24 @@ module _ (la lb : ℕ) (s : Bytes) where
     pub reply : Reply
     pub told : Told sdfile (drop (c .at) s) x reply
     pub moved : d ≡ past c (reply .bytes) (reply .lines)
-    pub answer : nextOf c la lb s ≡ recordNext reply d
+    pub answer : numbersOf (nextOf c la lb s) ≡ found reply d
     pub atoms : (t : List ℤ) → length t ≡ la → atomsNext c lb s t ≡ rowsIn 4080 t (flat (meaning x .atoms))
     pub bonds : (t : List ℤ) → length t ≡ lb → bondsNext c la s t ≡ rowsIn 1530 t (flat (meaning x .bonds))
 
   -- the records visited from a cursor on, the cursor after them, and the answer that gives no further cursor
-  pub data Visits : Cursor → List Raw → Cursor → Next → Type 0 where
-    stop : {c : Cursor} {r : Next} → nextOf c la lb s ≡ r → Last r → Visits c [] c r
-    more : {c d e : Cursor} {x : Raw} {xs : List Raw} {r : Next} → Visit c x d → Visits d xs e r → Visits c (x ∷ xs) e r
+  pub data Visits : Cursor → List Raw → Cursor → Said → Type 0 where
+    stop : {c : Cursor} {r : Said} → numbersOf (nextOf c la lb s) ≡ r → Last r → Visits c [] c r
+    more : {c d e : Cursor} {x : Raw} {xs : List Raw} {r : Said} → Visit c x d → Visits d xs e r → Visits c (x ∷ xs) e r
 
   -- at the end: these are the file's records, as many as the check counts, and their bytes are all its bytes; a refusal is the check's
-  abbrev pub Ends : List Raw → Cursor → Next → Type 0
-  Ends xs d (Next.Record n m chiral bytes lines h a b e) = ⊥
-  Ends xs d Next.End = GoodSDfile s xs × (saidOf sdfile s ≡ accepted (d .records)) × (d .records ≡ length xs) × (d .at ≡ length s)
-  Ends xs d (Next.Refused e i column) = saidOf sdfile s ≡ refused e i column
+  abbrev pub Ends : List Raw → Cursor → Said → Type 0
+  Ends xs d (found w e) = ⊥
+  Ends xs d end = GoodSDfile s xs × (saidOf sdfile s ≡ W.Said.accepted (d .records)) × (d .records ≡ length xs) × (d .at ≡ length s)
+  Ends xs d (refused e i column) = saidOf sdfile s ≡ W.Said.refused e i column
 
   pub record Visited : Type 0 where
     pub records : List Raw
     pub last : Cursor
-    pub answer : Next
+    pub answer : Said
     pub visits : Visits fresh records last answer
     pub ends : Ends records last answer

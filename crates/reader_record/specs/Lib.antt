@@ -5,5 +5,4 @@ pub mod Promise
 pub mod Told
 pub mod Promised
 pub mod Follows
-pub mod Bounds
 pub mod Samples

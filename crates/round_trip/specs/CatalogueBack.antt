@@ -11,9 +11,9 @@ use Rattle.reader_walk.specs.Promise.{accepted}
 use Rattle.reader_walk.specs.Checking.{saidOf}
 use Rattle.writer_catalogue.specs.Catalogue.{catalogueText}
 use Rattle.writer_catalogue.specs.Promise.{text-stands}
-use Rattle.reader_file.specs.declared.Cursor.{Cursor}
-use Rattle.reader_file.specs.declared.Next.{Next}
-use Rattle.reader_file.specs.Next.{fresh}
+use Rattle.reader_cursor.specs.declared.Cursor.{Cursor}
+use Rattle.reader_cursor.specs.Walk.{fresh}
+use Rattle.reader_file.specs.Promise.{end}
 use Rattle.reader_file.specs.Visits.{Visits}
 use Rattle.reader_file.specs.Visiting.{visits-good}
 
@@ -22,7 +22,7 @@ pub record VisitedAs (la lb : ℕ) (s : Bytes) (xs : List Reading) : Type 0 wher
   pub records : List Raw
   pub same : map meaning records ≡ xs
   pub last : Cursor
-  pub visits : Visits la lb s fresh records last Next.End
+  pub visits : Visits la lb s fresh records last end
   pub whole : last .at ≡ length s
   pub count : saidOf sdfile s ≡ accepted (length xs)
 

@@ -18,9 +18,9 @@ use Rattle.reader_record.specs.Told.{replyOf, told-reply, begins-told}
 use Rattle.reader_record.specs.Follows.{Alike, after-record}
 use Rattle.writer_record.specs.Write.{Given, canonText}
 use Rattle.writer_record.specs.Promise.{Accepted, text-stands}
-use Rattle.reader_file.specs.declared.Cursor.{Cursor}
-use Rattle.reader_file.specs.declared.Next.{Next}
-use Rattle.reader_file.specs.Next.{fresh}
+use Rattle.reader_cursor.specs.declared.Cursor.{Cursor}
+use Rattle.reader_cursor.specs.Walk.{fresh}
+use Rattle.reader_file.specs.Promise.{end}
 use Rattle.reader_file.specs.Visits.{Visits}
 use Rattle.reader_file.specs.Visiting.{visits-good}
 
@@ -67,7 +67,7 @@ first-of (ls, lines, SDfile.more {u = more} r f) = (ls, [], more, lines, r)
 
 -- whose bytes are all of its bytes
 module _ (s : Bytes) (raw : Raw) (la lb : ℕ) where
-  once : {d : Cursor} → Visits la lb s fresh (raw ∷ []) d Next.End → d .at ≡ length s → replyOf sdfile s raw .bytes ≡ length s
+  once : {d : Cursor} → Visits la lb s fresh (raw ∷ []) d end → d .at ≡ length s → replyOf sdfile s raw .bytes ≡ length s
   once (Visits.more v (Visits.stop h l)) e =
       let same = told-reply sdfile s raw (v .reply) (v .told) in
       let moved = ap (λ (c : Cursor). c .at) (v .moved) in

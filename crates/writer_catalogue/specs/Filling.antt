@@ -5,35 +5,32 @@ use mathlib.Core.Path.{_≡_, refl, sym, ap, ap₂, _∙_, subst}
 use mathlib.Core.List.{List, [], _∷_, _++_}
 use mathlib.Core.Bool.{Bool, true, false}
 use lib.Dec.{leb}
-use lib.ListN.{length, take, drop, length-append, length-drop, drop-of-length-le}
-use lib.Seq.{sets-eq, take-all, drop-drop}
+use lib.ListN.{length, take, drop, length-append}
+use lib.Seq.{sets-eq}
 use lib.IntN.{ℤ}
 use borrow.Author.Tests.{leb-true, le-leb}
-use mir.Syntax.{w64}
-use mir.Val.{Fits}
-use Rattle.text.specs.Text.{Bytes, Line, Lines}
-use Rattle.text.specs.Cut.{Cut, split, cut, cut-is, lines-cut}
-use Rattle.rules.specs.Record.{Raw, SDfile, limit}
+use Rattle.text.specs.Text.{Bytes}
+use Rattle.rules.specs.Record.{Raw, limit}
 use Rattle.rules.specs.Meaning.{meaning}
 use Rattle.judge_file.specs.Place.{sdfile}
 use Rattle.judge_file.specs.Verdict.{Verdict, verdict}
-use Rattle.judge_file.specs.One.{One, oneRecord}
-use Rattle.judge_file.specs.OneAgree.{one-whole, one-rest}
-use Rattle.judge_file.specs.WalkText.{afterLines, after-cut, text-room}
-use Rattle.judge_file.specs.Promise.{accepted-sd}
-use Rattle.reader_walk.specs.Outcome.{whole, refused}
+use Rattle.judge_file.specs.WalkText.{afterLines}
+use Rattle.reader_walk.specs.Outcome.{whole, outcomeOf}
 use Rattle.reader_walk.specs.Walked.{Beside}
 use Rattle.reader_tables.specs.Filled.{cleared}
 use Rattle.reader_tables.specs.Cleared.{refused-filled}
-use Rattle.writer_lines.specs.Laid.{Laid, Owes, owes-start, owes-next, owes-end}
+use Rattle.reader_cursor.specs.declared.Cursor.{Cursor}
+use Rattle.reader_cursor.specs.Walk.{fresh, past, Countable}
+use Rattle.reader_cursor.specs.After.{After, after-start, after-good, after-next, after-less, after-fits, good-more, good-whole, tail-is}
+use Rattle.writer_lines.specs.Laid.{Laid, laid-none, laid-join}
 use Rattle.judge_parts.specs.Part.{PartVerdict, good}
 use Rattle.reader_record.specs.Read.{zeroed, rowsIn}
 use Rattle.writer_record.specs.Write.{canonText, demand}
 use Rattle.writer_catalogue.specs.declared.Catalogue.{Catalogue}
 use Rattle.writer_catalogue.specs.declared.Wrote.{Wrote}
 use Rattle.writer_catalogue.specs.Catalogue.{catalogueText, ofFile, fitting, fileFor, answerBy, roomBy}
-use Rattle.writer_catalogue.specs.Sizes.{text-none, text-more}
-use Rattle.writer_catalogue.specs.Measuring.{record-shorter, some-lines, beside-same, beside-join}
+use Rattle.writer_catalogue.specs.Sizes.{text-none, text-join, text-last}
+use Rattle.writer_catalogue.specs.Measuring.{beside-same, beside-join}
 use Rattle.writer_catalogue.specs.Writing.{Next, WroteNext}
 
 -- ---- The file
@@ -54,61 +51,33 @@ file-good : (s : Bytes) (k : ℕ) (xs : List Raw) → verdict sdfile limit s ≡
 unfolding fileFor
 file-good s k xs e h = rw (e, le-leb (length (catalogueText xs)) k h)
 
--- records are still owed from position `at` on; their text goes from place `to` on
-pub record Filling (s : Bytes) (ta₀ tb₀ : List ℤ) (r₀ : Bytes) (ta tb : List ℤ) (r : Bytes) (at to : ℕ) : Type 0 where
+-- between two records: the cursor stands after those read, and their text is laid from the front of the room up to place `to`
+pub record Filling (s : Bytes) (ta₀ tb₀ : List ℤ) (r₀ : Bytes) (ta tb : List ℤ) (r : Bytes) (c : Cursor) (to : ℕ) : Type 0 where
+  pub zs : List Raw
+  pub is : verdict sdfile limit s ≡ Verdict.accepted zs
+  pub enough : length (catalogueText zs) ≤ length r₀
   pub xs : List Raw
-  pub is : verdict sdfile limit s ≡ Verdict.accepted xs
-  pub ys : List Raw
-  pub left : SDfile limit (cut (drop at s) .lines) ys
-  pub over : cut (drop at s) .rest ≡ []
-  pub inside : at ≤ length s
-  pub owes : Owes r₀ r 0 to (catalogueText xs) (catalogueText ys)
+  pub after : After s xs c
+  pub laid : Laid r₀ r 0 (catalogueText xs) to
   pub bytes : length s * 1 < 2 ^ 63
   pub atoms : Beside 4080 ta₀ ta
   pub bonds : Beside 1530 tb₀ tb
 
-pub filling-start : (s : Bytes) (ta tb : List ℤ) (r : Bytes) → FileFits s ta tb r → length s * 1 < 2 ^ 63 → Filling s ta tb r ta tb r 0 0
-filling-start s ta tb r f b =
-    let g = accepted-sd limit s (f .xs) .0 (f .is) in
-    let c = lines-cut (g .1) in
+pub filling-start : (s : Bytes) (ta tb : List ℤ) (r : Bytes) (c : Cursor) → FileFits s ta tb r → length s * 1 < 2 ^ 63 → c ≡ fresh → Filling s ta tb r ta tb r c 0
+filling-start s ta tb r c f b e =
     record {
-      xs = f .xs;
+      zs = f .xs;
       is = f .is;
-      ys = f .xs;
-      left = subst (λ (z : Cut). SDfile limit (z .lines) (f .xs)) (sym c) (g .2);
-      over = ap (λ (z : Cut). z .rest) c;
-      inside = omega arith;
-      owes = owes-start r 0 (catalogueText (f .xs)) (omega (arith, f .enough));
+      enough = f .enough;
+      xs = [];
+      after = rw e (after-start s);
+      laid = subst (λ (t : Bytes). Laid r r 0 t 0) (sym text-none) (laid-none r 0 (omega arith));
       bytes = b;
       atoms = beside-same 4080 ta (f .atoms);
       bonds = beside-same 1530 tb (f .bonds);
     }
 
--- lines that are a file: none, or a record and then a file
-record Ahead (ls : List Line) (ys : List Raw) : Type 0 where
-  y : Raw
-  zs : List Raw
-  k : ℕ
-  rest : List Line
-  ys-are : ys ≡ y ∷ zs
-  is : oneRecord limit ls ≡ One.whole y k rest
-  left : SDfile limit rest zs
-
-ahead : {ls : List Line} {ys : List Raw} → SDfile limit ls ys → 0 < length ls → Ahead ls ys
-ahead SDfile.none h = absurd (omega arith)
-ahead (SDfile.more {t = t} {u = u} {x = x} {xs = xs} p ps) h =
-    let s = record-shorter p in
-    record { y = x; zs = xs; k = length t - length u; rest = u; ys-are = refl; is = one-whole limit t x (length t - length u) u .1 (p, omega arith); left = ps }
-
-behind : {ls : List Line} {ys : List Raw} → SDfile limit ls ys → length ls ≡ 0 → ys ≡ []
-behind SDfile.none h = refl
-behind (SDfile.more p ps) h = absurd (omega (arith, record-shorter p))
-
-no-lines : {t : Bytes} {ls : List Line} {rest : Bytes} → Lines t ls rest → rest ≡ [] → 0 < length t → 0 < length ls
-no-lines (Lines.unfinished f) e h = absurd (omega (arith, ap length e))
-no-lines (Lines.line d f g p) e h = omega arith
-
-module _ (s : Bytes) (ta₀ tb₀ : List ℤ) (r₀ : Bytes) (ta tb : List ℤ) (r : Bytes) (at to : ℕ) (g : Filling s ta₀ tb₀ r₀ ta tb r at to) where
+module _ (s : Bytes) (ta₀ tb₀ : List ℤ) (r₀ : Bytes) (ta tb : List ℤ) (r : Bytes) (c : Cursor) (to : ℕ) (g : Filling s ta₀ tb₀ r₀ ta tb r c to) where
   pub filling-atoms : Beside 4080 ta₀ ta
   filling-atoms = g .atoms
 
@@ -116,84 +85,98 @@ module _ (s : Bytes) (ta₀ tb₀ : List ℤ) (r₀ : Bytes) (ta tb : List ℤ) 
   filling-bonds = g .bonds
 
   pub filling-size : length r ≡ length r₀
-  filling-size = g .owes .size
+  filling-size = g .laid .size
 
-  pub filling-end : length s ≤ at → Laid r₀ r 0 (textIn (fileFor s (length r₀))) to
-  unfolding cut split
+  pub filling-end : length s ≤ c .at → Laid r₀ r 0 (textIn (fileFor s (length r₀))) to
   filling-end h =
-      let d : drop at s ≡ [] = drop-of-length-le s h in
-      let none : g .ys ≡ [] = behind (g .left) (ap (λ (t : Bytes). length (cut t .lines)) d) in
-      let o : Owes r₀ r 0 to (catalogueText (g .xs)) [] = subst (Owes r₀ r 0 to (catalogueText (g .xs))) (ap catalogueText none ∙ text-none) (g .owes) in
-      let whole : length (catalogueText (g .xs)) ≤ length r₀ = omega (arith, g .owes .fits) in
-      subst (λ (v : PartVerdict (List Raw)). Laid r₀ r 0 (textIn v) to) (sym (file-good s (length r₀) (g .xs) (g .is) whole)) (owes-end o)
+      let few : length (catalogueText (g .xs)) ≤ length r₀ = omega (arith, g .laid .next, g .laid .fits) in
+      let all = file-good s (length r₀) (g .xs) (after-good s (g .xs) c (g .after) h) few in
+      subst (λ (v : PartVerdict (List Raw)). Laid r₀ r 0 (textIn v) to) (sym all) (g .laid)
 
-  module _ (some : at < length s) where
-    lent : take (length s - at) (drop at s) ≡ drop at s
-    lent = take-all (length s - at) (drop at s) (omega (arith, length-drop at s))
+  module _ (some : c .at < length s) where
+    -- the next record of the file
+    record Ahead : Type 0 where
+      y : Raw
+      k : ℕ
+      is : outcomeOf sdfile (drop (c .at) s) ≡ whole y k
+      enough : to + length (canonText (meaning y)) ≤ length r₀
 
-    here : Ahead (cut (drop at s) .lines) (g .ys)
-    here = ahead (g .left) (no-lines (cut-is (drop at s)) (g .over) (omega (arith, length-drop at s)))
+    ahead : Ahead
+    ahead =
+        let w = good-whole s (g .xs) c (g .after) (g .zs) (g .is) some in
+        let next = after-next s (g .xs) c (g .after) some (w .0) (w .1) (w .2) in
+        let m = good-more s (g .xs ++ (w .0 ∷ [])) _ next (g .zs) (g .is) in
+        let all : length (catalogueText (g .zs)) ≡ length (catalogueText (g .xs ++ (w .0 ∷ []))) + length (catalogueText (m .0)) =
+        ap (λ (zs : List Raw). length (catalogueText zs)) (m .1)
+        ∙ ap length (text-join (g .xs ++ (w .0 ∷ [])) (m .0))
+        ∙ length-append (catalogueText (g .xs ++ (w .0 ∷ []))) (catalogueText (m .0))
+        in
+        let last = ap length (text-last (g .xs) (w .0)) ∙ length-append (catalogueText (g .xs)) (canonText (meaning (w .0))) in
+        record { y = w .0; k = w .1; is = w .2; enough = omega (arith, all, last, g .laid .next, g .enough) }
 
-    abbrev txt : Bytes
-    txt = canonText (meaning (here .y))
+    lent : outcomeOf sdfile (take (length s - c .at) (drop (c .at) s)) ≡ whole (ahead .y) (ahead .k)
+    lent = ap (outcomeOf sdfile) (tail-is s (c .at)) ∙ ahead .is
 
-    owed : Owes r₀ r 0 to (catalogueText (g .xs)) (txt ++ catalogueText (here .zs))
-    owed = subst (Owes r₀ r 0 to (catalogueText (g .xs))) (ap catalogueText (here .ys-are) ∙ text-more (here .y) (here .zs)) (g .owes)
-
-    is : oneRecord limit (cut (take (length s - at) (drop at s)) .lines) ≡ One.whole (here .y) (here .k) (here .rest)
-    is = ap (λ (t : Bytes). oneRecord limit (cut t .lines)) lent ∙ here .is
-
-    pub filling-ready : Next (take (length s - at) (drop at s)) ta tb r to
+    pub filling-ready : Next (take (length s - c .at) (drop (c .at) s)) ta tb r to
     filling-ready =
+        let a = ahead in
         record {
           atoms = omega (arith, g .atoms .room, g .atoms .size);
           bonds = omega (arith, g .bonds .room, g .bonds .size);
-          x = here .y;
-          k = here .k;
-          rest = here .rest;
-          is = is;
-          enough = omega (arith, owed .next, owed .fits, owed .size, length-append txt (catalogueText (here .zs)));
+          x = a .y;
+          k = a .k;
+          is = lent;
+          enough = omega (arith, a .enough, g .laid .size);
         }
 
-    module _ (w : Wrote) (r′ : Bytes) (p : WroteNext (take (length s - at) (drop at s)) r r′ to w) where
-      taken : w .taken ≡ afterLines (drop at s) 0 (here .k)
-      taken = p .taken (here .y) (here .k) (here .rest) is ∙ ap (λ (t : Bytes). afterLines t 0 (here .k)) lent
+    module _ (w : Wrote) (r′ : Bytes) (p : WroteNext (take (length s - c .at) (drop (c .at) s)) r r′ to w) where
+      length-is : w .length ≡ afterLines (drop (c .at) s) 0 (ahead .k)
+      length-is = p .bytes (ahead .y) (ahead .k) lent ∙ ap (λ (t : Bytes). afterLines t 0 (ahead .k)) (tail-is s (c .at))
 
-      onward : (1 ≤ w .taken) × (at + w .taken ≤ length s)
-      onward =
-          let o = text-room limit [] 1 (drop at s) (here .y) (here .k) (here .rest) (here .is) in
-          let l = some-lines (drop at s) (here .y) (here .k) (here .rest) (here .is) in
-          (omega (arith, o .0, taken), omega (arith, o .1, taken, length-drop at s))
+      lines-is : w .lines ≡ ahead .k
+      lines-is = p .lines (ahead .y) (ahead .k) lent
 
-      pub filling-less : length s - (at + w .taken) < length s - at
-      filling-less = let o = onward in omega (arith, o .0, o .1)
+      pub filling-fits : Countable c (w .length) (w .lines)
+      filling-fits =
+          let a = ahead in
+          subst (λ (l : ℕ). Countable c l (w .lines)) (sym length-is)
+          (subst (Countable c (afterLines (drop (c .at) s) 0 (a .k))) (sym lines-is) (after-fits s (g .xs) c (g .after) some (a .y) (a .k) (a .is) (g .bytes)))
 
-      pub filling-at : Fits w64 (at + w .taken)
-      filling-at = let o = onward in record { fits = omega (arith, o .1, g .bytes) }
+      module _ (d : Cursor) (ed : d ≡ past c (w .length) (w .lines)) where
+        moved : d ≡ past c (afterLines (drop (c .at) s) 0 (ahead .k)) (ahead .k)
+        moved = ed ∙ ap₂ (past c) length-is lines-is
 
-      after : cut (drop (at + w .taken) s) ≡ record { lines = here .rest; rest = [] }
-      after =
-          let few : here .k ≤ length (cut (drop at s) .lines) = omega (arith, one-whole limit (cut (drop at s) .lines) (here .y) (here .k) (here .rest) .0 (here .is) .1) in
-          ap cut (sym (drop-drop (w .taken) at s) ∙ ap (λ (n : ℕ). drop n (drop at s)) taken)
-          ∙ after-cut (drop at s) 0 (here .k) few
-          ∙ ap₂ (λ (ls : List Line) (b : Bytes). record { lines = ls; rest = b }) (sym (one-rest limit (cut (drop at s) .lines) (here .y) (here .k) (here .rest) (here .is))) (g .over)
+        pub filling-less : length s - (d .at) < length s - (c .at)
+        filling-less =
+            let a = ahead in
+            subst (λ (e : Cursor). length s - (e .at) < length s - (c .at)) (sym moved) (after-less s (g .xs) c (g .after) some (a .y) (a .k) (a .is))
 
-      pub filling-next : (ta′ tb′ : List ℤ) → Beside 4080 ta ta′ → Beside 1530 tb tb′ → Filling s ta₀ tb₀ r₀ ta′ tb′ r′ (at + w .taken) (w .to)
-      filling-next ta′ tb′ ba bb =
-          record {
-            xs = g .xs;
-            is = g .is;
-            ys = here .zs;
-            left = subst (λ (z : Cut). SDfile limit (z .lines) (here .zs)) (sym after) (here .left);
-            over = ap (λ (z : Cut). z .rest) after;
-            inside = onward .1;
-            owes = owes-next owed (p .laid (here .y) (here .k) (here .rest) is);
-            bytes = g .bytes;
-            atoms = beside-join (g .atoms) ba;
-            bonds = beside-join (g .bonds) bb;
-          }
+        pub filling-next : (ta′ tb′ : List ℤ) → Beside 4080 ta ta′ → Beside 1530 tb tb′ → Filling s ta₀ tb₀ r₀ ta′ tb′ r′ d (w .to)
+        filling-next ta′ tb′ ba bb =
+            let a = ahead in
+            record {
+              zs = g .zs;
+              is = g .is;
+              enough = g .enough;
+              xs = g .xs ++ (a .y ∷ []);
+              after = subst (After s (g .xs ++ (a .y ∷ []))) (sym moved) (after-next s (g .xs) c (g .after) some (a .y) (a .k) (a .is));
+              laid = subst (λ (t : Bytes). Laid r₀ r′ 0 t (w .to)) (sym (text-last (g .xs) (a .y))) (laid-join (g .laid) (p .laid (a .y) (a .k) lent));
+              bytes = g .bytes;
+              atoms = beside-join (g .atoms) ba;
+              bonds = beside-join (g .bonds) bb;
+            }
 
-pub ruleset filling-laws = (filling-start, filling-atoms, filling-bonds, filling-size, filling-end, filling-ready, filling-less, filling-at, filling-next)
+pub ruleset filling-laws = (
+  filling-start,
+  filling-atoms,
+  filling-bonds,
+  filling-size,
+  filling-end,
+  filling-ready,
+  filling-fits,
+  filling-less,
+  filling-next,
+)
 
 -- ---- Both passes
 

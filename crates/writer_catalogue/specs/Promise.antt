@@ -21,13 +21,26 @@ use Rattle.judge_file.specs.Place.{sdfile}
 use Rattle.judge_file.specs.Verdict.{Verdict, verdict}
 use Rattle.judge_file.specs.Promise.{accepted-sd, refusal-bad}
 use Rattle.judge_file.specs.Promise as J
-use Rattle.reader_walk.specs.Promise.{Said, RefusedAt, Checked, saidBy, verdict-checked, checked-one}
-use Rattle.judge_parts.specs.Part.{PartVerdict, good, refused}
+use Rattle.reader_walk.specs.Promise as W
+use Rattle.reader_walk.specs.Promise.{RefusedAt, Checked, saidBy, verdict-checked, checked-one}
+use Rattle.judge_parts.specs.Part.{PartVerdict, good}
 use Rattle.reader_record.specs.Read.{rowsIn}
 use Rattle.reader_record.specs.Promise.{Roomy}
 use Rattle.writer_record.specs.Write.{demand, roomy}
 use Rattle.writer_catalogue.specs.declared.Catalogue.{Catalogue}
 use Rattle.writer_catalogue.specs.Catalogue.{catalogueText, ofFile, fitting, fileFor, catalogueFor, answerBy, roomBy, catalogueOf, roomAfter, atomsAfter, bondsAfter}
+
+-- ---- What an answer says
+
+pub data Said : Type 0 where
+  written : ℕ → ℕ → Said  -- the length of the text, and the number of its records
+  refused : ℕ → ℕ → ℕ → Said  -- number, line, column
+
+abbrev pub numbersOf : Catalogue → Said
+numbersOf (Catalogue.Done l c) = written l c
+numbersOf (Catalogue.Refused e line column) = Said.refused e line column
+
+-- ---- The promise
 
 -- what is wrong, in room of k bytes: the first of these, in this order
 pub data Refusal (s : Bytes) (ta tb : List ℤ) (k : ℕ) : ℕ → ℕ → ℕ → Type 0 where
@@ -43,10 +56,10 @@ pub record Promise (s : Bytes) (ta₀ tb₀ : List ℤ) (r₀ : Bytes) (a : Cata
   pub atoms : ta ≡ atomsAfter ta₀ tb₀
   pub bonds : tb ≡ bondsAfter ta₀ tb₀
   pub accepted : (l c : ℕ) →
-      (a ≡ Catalogue.Done l c) ↔ ((xs : List Raw) × Roomy ta₀ tb₀ × GoodSDfile s xs × (l ≡ length (catalogueText xs)) × (c ≡ length xs) × (l ≤ length r₀))
+      (numbersOf a ≡ written l c) ↔ ((xs : List Raw) × Roomy ta₀ tb₀ × GoodSDfile s xs × (l ≡ length (catalogueText xs)) × (c ≡ length xs) × (l ≤ length r₀))
   pub written : (xs : List Raw) → Roomy ta₀ tb₀ → GoodSDfile s xs → length (catalogueText xs) ≤ length r₀ → r ≡ catalogueText xs ++ drop (length (catalogueText xs)) r₀
-  pub refused : (e line column : ℕ) → (a ≡ Catalogue.Refused e line column) ↔ Refusal s ta₀ tb₀ (length r₀) e line column
-  pub untouched : (e line column : ℕ) → a ≡ Catalogue.Refused e line column → r ≡ r₀
+  pub refused : (e line column : ℕ) → (numbersOf a ≡ Said.refused e line column) ↔ Refusal s ta₀ tb₀ (length r₀) e line column
+  pub untouched : (e line column : ℕ) → numbersOf a ≡ Said.refused e line column → r ≡ r₀
   -- no row is left; tables without room are as they were
   pub emptied : Roomy ta₀ tb₀ → (ta ≡ rowsIn 4080 ta₀ []) × (tb ≡ rowsIn 1530 tb₀ [])
   pub kept : ¬ Roomy ta₀ tb₀ → (ta ≡ ta₀) × (tb ≡ tb₀)
@@ -105,7 +118,7 @@ module _ (s : Bytes) where
   not-good (RefusedAt.line h m c f st) xs g = refusal-bad sdfile limit s (J.Refusal.line h m c f) (g .0, g .1, (xs, g .2))
   not-good (RefusedAt.cut-short h v bad) xs g = bad (g .0, g .1, (xs, g .2))
 
-  said-refused : {e i c : ℕ} → RefusedAt sdfile s e i c → Checked sdfile s (Said.refused e i c)
+  said-refused : {e i c : ℕ} → RefusedAt sdfile s e i c → Checked sdfile s (W.Said.refused e i c)
   said-refused {e} {i} {c} r =
       record {
         accepts = λ count. (
@@ -120,14 +133,14 @@ module _ (s : Bytes) where
       }
 
   at-refused : (e i c : ℕ) → RefusedAt sdfile s e i c → verdict sdfile limit s ≡ Verdict.refused e i c
-  at-refused e i c r = go (verdict sdfile limit s) refl (checked-one 1 s (saidBy (verdict sdfile limit s)) (Said.refused e i c) (verdict-checked s sdfile) (said-refused r))
+  at-refused e i c r = go (verdict sdfile limit s) refl (checked-one 1 s (saidBy (verdict sdfile limit s)) (W.Said.refused e i c) (verdict-checked s sdfile) (said-refused r))
     where
-      go : (v : Verdict) → verdict sdfile limit s ≡ v → saidBy (verdict sdfile limit s) ≡ Said.refused e i c → verdict sdfile limit s ≡ Verdict.refused e i c
+      go : (v : Verdict) → verdict sdfile limit s ≡ v → saidBy (verdict sdfile limit s) ≡ W.Said.refused e i c → verdict sdfile limit s ≡ Verdict.refused e i c
       go (Verdict.accepted xs) h q =
-          let z : Said.accepted (length xs) ≡ Said.refused e i c = sym (ap saidBy h) ∙ q in
+          let z : W.Said.accepted (length xs) ≡ W.Said.refused e i c = sym (ap saidBy h) ∙ q in
           absurd (let z : _≡_ {A = ℕ} 0 1 = cc in omega arith)
       go (Verdict.refused n j d) h q =
-          let z : Said.refused n j d ≡ Said.refused e i c = sym (ap saidBy h) ∙ q in
+          let z : W.Said.refused n j d ≡ W.Said.refused e i c = sym (ap saidBy h) ∙ q in
           let v : Verdict.refused n j d ≡ Verdict.refused e i c = cc in
           h ∙ v
 
@@ -136,9 +149,9 @@ module _ (s : Bytes) where
 module _ (s : Bytes) (ta tb : List ℤ) (k : ℕ) where
   -- what was found, with its reason
   data Found : PartVerdict (List Raw) → Type 0 where
-    tables : ¬ Roomy ta tb → Found (refused 2 0 0)
-    file : {e i c : ℕ} → Roomy ta tb → verdict sdfile limit s ≡ Verdict.refused e i c → Found (refused e i c)
-    room : {xs : List Raw} → Roomy ta tb → verdict sdfile limit s ≡ Verdict.accepted xs → k < length (catalogueText xs) → Found (refused 20 0 0)
+    tables : ¬ Roomy ta tb → Found (PartVerdict.refused 2 0 0)
+    file : {e i c : ℕ} → Roomy ta tb → verdict sdfile limit s ≡ Verdict.refused e i c → Found (PartVerdict.refused e i c)
+    room : {xs : List Raw} → Roomy ta tb → verdict sdfile limit s ≡ Verdict.accepted xs → k < length (catalogueText xs) → Found (PartVerdict.refused 20 0 0)
     fine : {xs : List Raw} → Roomy ta tb → verdict sdfile limit s ≡ Verdict.accepted xs → length (catalogueText xs) ≤ k → Found (good xs)
 
   found : Found (catalogueFor ta tb s k)
@@ -154,7 +167,7 @@ module _ (s : Bytes) (ta tb : List ℤ) (k : ℕ) where
       go true a (Verdict.accepted xs) e = fit xs (roomy-agrees ta tb .0 a) e (leb (length (catalogueText xs)) k) refl
       go true a (Verdict.refused n i c) e = Found.file (roomy-agrees ta tb .0 a) e
 
-  by-tables : ¬ Roomy ta tb → catalogueFor ta tb s k ≡ refused 2 0 0
+  by-tables : ¬ Roomy ta tb → catalogueFor ta tb s k ≡ PartVerdict.refused 2 0 0
   unfolding catalogueFor
   by-tables h = rw (roomy-false ta tb h)
 
@@ -163,7 +176,7 @@ module _ (s : Bytes) (ta tb : List ℤ) (k : ℕ) where
     unfolding catalogueFor fileFor
     by-file v e = rw (roomy-agrees ta tb .1 r, e)
 
-    by-room : (xs : List Raw) → GoodSDfile s xs → k < length (catalogueText xs) → catalogueFor ta tb s k ≡ refused 20 0 0
+    by-room : (xs : List Raw) → GoodSDfile s xs → k < length (catalogueText xs) → catalogueFor ta tb s k ≡ PartVerdict.refused 20 0 0
     by-room xs g h = by-file (Verdict.accepted xs) (accepted-sd limit s xs .1 g) ∙ rw (lt-leb (length (catalogueText xs)) k h)
 
     by-good : (xs : List Raw) → GoodSDfile s xs → length (catalogueText xs) ≤ k → catalogueFor ta tb s k ≡ good xs
@@ -192,14 +205,22 @@ module _ (s : Bytes) (ta tb : List ℤ) (k : ℕ) where
   refused-by n j d (Found.room {xs = xs} r e h) q = said-as q (Refusal.room r (accepted-sd limit s xs .0 e) h)
   refused-by n j d (Found.fine r e h) q = absurd (let z : _≡_ {A = ℕ} 0 1 = cc in omega arith)
 
-  by-refusal : {n j d : ℕ} → Refusal s ta tb k n j d → catalogueFor ta tb s k ≡ refused n j d
+  by-refusal : {n j d : ℕ} → Refusal s ta tb k n j d → catalogueFor ta tb s k ≡ PartVerdict.refused n j d
   by-refusal (Refusal.tables h) = by-tables h
   by-refusal (Refusal.file {e = e} {line = i} {column = c} r f) = by-file r (Verdict.refused e i c) (at-refused s e i c f)
   by-refusal (Refusal.room {xs = xs} r g h) = by-room r xs g h
 
+done-is : (a : Catalogue) (l c : ℕ) → numbersOf a ≡ written l c → a ≡ Catalogue.Done l c
+done-is (Catalogue.Done n d) l c h = cc
+done-is (Catalogue.Refused e i d) l c h = absurd (let z : _≡_ {A = ℕ} 0 1 = cc in omega arith)
+
+refused-is : (a : Catalogue) (e i c : ℕ) → numbersOf a ≡ Said.refused e i c → a ≡ Catalogue.Refused e i c
+refused-is (Catalogue.Done n d) e i c h = absurd (let z : _≡_ {A = ℕ} 0 1 = cc in omega arith)
+refused-is (Catalogue.Refused n j d) e i c h = cc
+
 room-by : (r : Bytes) (n j d : ℕ) (v : PartVerdict (List Raw)) → answerBy v ≡ Catalogue.Refused n j d → roomBy r v ≡ r
 room-by r n j d (good xs) q = absurd (let z : _≡_ {A = ℕ} 0 1 = cc in omega arith)
-room-by r n j d (refused e i c) q = refl
+room-by r n j d (PartVerdict.refused e i c) q = refl
 
 module _ (s : Bytes) (ta₀ tb₀ : List ℤ) (r₀ : Bytes) where
   promise : (a : Catalogue) (ta tb : List ℤ) (r : Bytes) → a ≡ catalogueOf ta₀ tb₀ s (length r₀) → r ≡ roomAfter ta₀ tb₀ s r₀ → ta ≡ atomsAfter ta₀ tb₀ → tb ≡ bondsAfter ta₀ tb₀ →
@@ -213,15 +234,18 @@ module _ (s : Bytes) (ta₀ tb₀ : List ℤ) (r₀ : Bytes) where
         atoms = ga;
         bonds = gb;
         accepted = λ l c. (
-          (λ h. done-by s ta₀ tb₀ k l c (found s ta₀ tb₀ k) (sym e ∙ h)),
+          (λ h. done-by s ta₀ tb₀ k l c (found s ta₀ tb₀ k) (sym e ∙ done-is a l c h)),
           (λ x.
-              e ∙ ap answerBy (by-good s ta₀ tb₀ k (x .1) (x .0) (x .2) (omega (arith, x .3, x .5)))
-              ∙ ap (λ (n : ℕ). Catalogue.Done n (length (x .0))) (sym (x .3))
-              ∙ ap (Catalogue.Done l) (sym (x .4))),
+              ap numbersOf (e ∙ ap answerBy (by-good s ta₀ tb₀ k (x .1) (x .0) (x .2) (omega (arith, x .3, x .5))))
+              ∙ ap (λ (n : ℕ). written n (length (x .0))) (sym (x .3))
+              ∙ ap (written l) (sym (x .4))),
         );
         written = λ xs y g h. f ∙ ap (roomBy r₀) (by-good s ta₀ tb₀ k y xs g h);
-        refused = λ n j d. ((λ h. refused-by s ta₀ tb₀ k n j d (found s ta₀ tb₀ k) (sym e ∙ h)), (λ h. e ∙ ap answerBy (by-refusal s ta₀ tb₀ k h)));
-        untouched = λ n j d h. f ∙ room-by r₀ n j d (catalogueFor ta₀ tb₀ s k) (sym e ∙ h);
+        refused = λ n j d. (
+          (λ h. refused-by s ta₀ tb₀ k n j d (found s ta₀ tb₀ k) (sym e ∙ refused-is a n j d h)),
+          (λ h. ap numbersOf (e ∙ ap answerBy (by-refusal s ta₀ tb₀ k h))),
+        );
+        untouched = λ n j d h. f ∙ room-by r₀ n j d (catalogueFor ta₀ tb₀ s k) (sym e ∙ refused-is a n j d h);
         emptied = λ y.
             let t = roomy-agrees ta₀ tb₀ .1 y in
             (ga ∙ ap (λ (b : Bool). cond b (rowsIn 4080 ta₀ []) ta₀) t, gb ∙ ap (λ (b : Bool). cond b (rowsIn 1530 tb₀ []) tb₀) t);

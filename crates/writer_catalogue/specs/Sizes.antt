@@ -2,10 +2,10 @@
 use Prim.Native.Nat.{ℕ, _+_, _-_, _*_, _≤_, _<_, _^_}
 use native.Mathlib.Omega.{arith}
 use mathlib.Core.Path.{_≡_, refl, sym, ap, ap₂, _∙_}
-use mathlib.Core.List.{List, [], _∷_, _++_, map, append-nil}
+use mathlib.Core.List.{List, [], _∷_, _++_, map, append-nil, append-assoc}
 use mathlib.Core.Bool.{Bool, true, false, cond}
 use lib.Dec.{leb}
-use lib.ListN.{length, take, drop, length-append}
+use lib.ListN.{length, take, drop}
 use lib.IntN.{ℤ}
 use mir.Syntax.{w64}
 use mir.Val.{Fits}
@@ -58,16 +58,22 @@ pub text-none : catalogueText [] ≡ []
 unfolding catalogueText fileLines text
 text-none = refl
 
-pub text-more : (x : Raw) (xs : List Raw) → catalogueText (x ∷ xs) ≡ canonText (meaning x) ++ catalogueText xs
+text-more : (x : Raw) (xs : List Raw) → catalogueText (x ∷ xs) ≡ canonText (meaning x) ++ catalogueText xs
 unfolding catalogueText fileLines
 text-more x xs = text-append (canonLines (meaning x)) (canonFile (map meaning xs))
 
-pub text-last : (xs : List Raw) (x : Raw) → length (catalogueText (xs ++ (x ∷ []))) ≡ length (catalogueText xs) + length (canonText (meaning x))
-text-last [] x = ap length (text-more x [] ∙ ap (λ (z : Bytes). canonText (meaning x) ++ z) text-none ∙ append-nil (canonText (meaning x))) ∙ omega (arith, ap length text-none)
-text-last (y ∷ xs) x =
-    ap length (text-more y (xs ++ (x ∷ [])))
-    ∙ length-append (canonText (meaning y)) (catalogueText (xs ++ (x ∷ [])))
-    ∙ omega (arith, text-last xs x, ap length (text-more y xs), length-append (canonText (meaning y)) (catalogueText xs))
+pub text-join : (xs ys : List Raw) → catalogueText (xs ++ ys) ≡ catalogueText xs ++ catalogueText ys
+text-join [] ys = sym (ap (λ (z : Bytes). z ++ catalogueText ys) text-none)
+text-join (x ∷ xs) ys =
+    text-more x (xs ++ ys)
+    ∙ ap (λ (z : Bytes). canonText (meaning x) ++ z) (text-join xs ys)
+    ∙ sym (append-assoc (canonText (meaning x)) (catalogueText xs) (catalogueText ys))
+    ∙ ap (λ (z : Bytes). z ++ catalogueText ys) (sym (text-more x xs))
+
+pub text-last : (xs : List Raw) (x : Raw) → catalogueText (xs ++ (x ∷ [])) ≡ catalogueText xs ++ canonText (meaning x)
+text-last xs x =
+    text-join xs (x ∷ [])
+    ∙ ap (λ (z : Bytes). catalogueText xs ++ z) (text-more x [] ∙ ap (λ (z : Bytes). canonText (meaning x) ++ z) text-none ∙ append-nil (canonText (meaning x)))
 
 -- ---- One record
 

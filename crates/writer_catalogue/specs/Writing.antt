@@ -9,14 +9,12 @@ use lib.IntN.{ℤ}
 use borrow.Rule.Slice.PartMut.{putMid}
 use mir.Syntax.{w64}
 use mir.Val.{Fits}
-use Rattle.text.specs.Text.{Bytes, Line}
-use Rattle.text.specs.Cut.{cut}
-use Rattle.rules.specs.Record.{Raw, limit}
+use Rattle.text.specs.Text.{Bytes}
+use Rattle.rules.specs.Record.{Raw}
 use Rattle.rules.specs.Meaning.{Reading, meaning}
 use Rattle.judge_file.specs.Place.{sdfile}
-use Rattle.judge_file.specs.One.{One, oneRecord}
 use Rattle.judge_file.specs.WalkText.{afterLines}
-use Rattle.reader_walk.specs.Outcome.{whole, refused, ofOne, outcomeOf}
+use Rattle.reader_walk.specs.Outcome.{Outcome, whole, refused, outcomeOf}
 use Rattle.reader_walk.specs.Walked.{Beside}
 use Rattle.writer_lines.specs.Laid.{Laid}
 use Rattle.reader_record.specs.declared.RecordRead.{RecordRead}
@@ -112,18 +110,17 @@ pub record Next (t : Bytes) (ta tb : List ℤ) (r : Bytes) (to : ℕ) : Type 0 w
   pub bonds : 1530 ≤ length tb
   pub x : Raw
   pub k : ℕ
-  pub rest : List Line
-  pub is : oneRecord limit (cut t .lines) ≡ One.whole x k rest
+  pub is : outcomeOf sdfile t ≡ whole x k
   pub enough : to + length (canonText (meaning x)) ≤ length r
 
--- that record's canonical text was laid
+-- that record's canonical text was laid, and so many bytes and lines are its own
 pub record WroteNext (t r₀ r : Bytes) (to : ℕ) (w : Wrote) : Type 0 where
-  pub laid : (x : Raw) (k : ℕ) (rest : List Line) → oneRecord limit (cut t .lines) ≡ One.whole x k rest → Laid r₀ r to (canonText (meaning x)) (w .to)
-  pub taken : (x : Raw) (k : ℕ) (rest : List Line) → oneRecord limit (cut t .lines) ≡ One.whole x k rest → w .taken ≡ afterLines t 0 k
+  pub laid : (x : Raw) (k : ℕ) → outcomeOf sdfile t ≡ whole x k → Laid r₀ r to (canonText (meaning x)) (w .to)
+  pub bytes : (x : Raw) (k : ℕ) → outcomeOf sdfile t ≡ whole x k → w .length ≡ afterLines t 0 k
+  pub lines : (x : Raw) (k : ℕ) → outcomeOf sdfile t ≡ whole x k → w .lines ≡ k
 
-same-one : (t : Bytes) {x y : Raw} {k j : ℕ} {rest : List Line} → outcomeOf sdfile t ≡ whole x k → oneRecord limit (cut t .lines) ≡ One.whole y j rest → (x ≡ y) × (k ≡ j)
-unfolding outcomeOf
-same-one t {x} {y} {k} {j} p q = let e : whole x k ≡ whole y j = sym p ∙ ap ofOne q in (cc, cc)
+same-whole : {o : Outcome} {x y : Raw} {k j : ℕ} → o ≡ whole x k → o ≡ whole y j → (x ≡ y) × (k ≡ j)
+same-whole {o} {x} {y} {k} {j} p q = let e : whole x k ≡ whole y j = sym p ∙ q in (cc, cc)
 
 module _ (t : Bytes) (ta tb ta′ tb′ : List ℤ) (r : Bytes) (to : ℕ) (g : Next t ta tb r to) (ea : ta′ ≡ atomsAfter 1 (length tb) t ta) (eb : tb′ ≡ bondsAfter 1 (length ta) t tb)
     (a : RecordRead) (er : a ≡ readOf 1 (length ta) (length tb) t) where
@@ -148,20 +145,20 @@ module _ (t : Bytes) (ta tb ta′ tb′ : List ℤ) (r : Bytes) (to : ℕ) (g : 
 
     pub wrote-handed : Handed (givenOf t ta′ tb′ n m chiral h i j) r to
     wrote-handed =
-        let e = ap (λ (y : Raw). length (canonText (meaning y))) (same-one t (it .is) (g .is) .0) in
+        let e = ap (λ (y : Raw). length (canonText (meaning y))) (same-whole (it .is) (g .is) .0) in
         record { x = meaning (it .x); accepted = it .accepted; enough = omega (arith, g .enough) }
 
-    pub wrote-next : (r′ : Bytes) (e : ℕ) → Put (givenOf t ta′ tb′ n m chiral h i j) r r′ to e → WroteNext t r r′ to (record { taken = len; to = e })
+    pub wrote-next : (r′ : Bytes) (e : ℕ) → Put (givenOf t ta′ tb′ n m chiral h i j) r r′ to e → WroteNext t r r′ to (record { length = len; lines = k; to = e })
     wrote-next r′ e p =
         record {
-          laid = λ x u rest o. subst (λ (z : Raw). Laid r r′ to (canonText (meaning z)) e) (same-one t (it .is) o .0) (p .laid (meaning (it .x)) (it .accepted));
-          taken = λ x u rest o. it .size ∙ ap (afterLines t 0) (same-one t (it .is) o .1);
+          laid = λ x u o. subst (λ (z : Raw). Laid r r′ to (canonText (meaning z)) e) (same-whole (it .is) o .0) (p .laid (meaning (it .x)) (it .accepted));
+          bytes = λ x u o. it .size ∙ ap (afterLines t 0) (same-whole (it .is) o .1);
+          lines = λ x u o. same-whole (it .is) o .1;
         }
 
   -- a record that begins the text is read
   pub wrote-never : (e i c : ℕ) (w : Wrote) → a ≡ RecordRead.Refused e i c → WroteNext t r r to w
-  unfolding outcomeOf
   wrote-never e i c w q =
       let o = read-refused t ta tb ta′ tb′ (g .atoms) (g .bonds) ea eb a er e i c q in
-      let z : whole (g .x) (g .k) ≡ refused e i c = sym (ap ofOne (g .is)) ∙ o in
+      let z : whole (g .x) (g .k) ≡ refused e i c = sym (g .is) ∙ o in
       absurd (let z : _≡_ {A = ℕ} 0 1 = cc in omega arith)

@@ -1,4 +1,5 @@
 // A whole SDfile in its canonical form, written into lent room: one pass judges and measures, one reads and writes.
+use reader_cursor::Cursor;
 use reader_record::RecordRead;
 use writer_record::Written;
 ghost use mathlib.Core.Path.{_≡_};
@@ -38,9 +39,10 @@ pub enum Measured {
     },
 }
 
-// A record written: the bytes it took in the file, and where its text ends in the room.
+// A record written: the bytes and lines it took in the file, and where its text ends in the room.
 pub struct Wrote {
-    pub taken: usize,
+    pub length: usize,
+    pub lines: usize,
     pub to: usize,
 }
 
@@ -155,36 +157,29 @@ fn measure_file(s: &[u8], atoms: &mut [i32], bonds: &mut [i32], room: usize) -> 
     ensures { λ r. ⌜ Beside 4080 (now (atoms .entry)) (now (atoms .exit)) ⌝ }
     ensures { λ r. ⌜ Beside 1530 (now (bonds .entry)) (now (bonds .exit)) ⌝ }
 {
-    let mut at: usize = 0;
-    let mut line: usize = 1;
-    let mut records: usize = 0;
+    let mut cursor = Cursor::new();
     let mut needed: usize = 0;
-    while at < s.len() {
+    while cursor.at < s.len() {
+        let at = cursor.at;
         match measure_next(&s[at..], atoms, bonds, needed, room) {
             Measured::Record {
                 length,
                 lines,
                 needed: more,
             } => {
-                at += length;
-                line += lines;
-                records += 1;
+                cursor = cursor.past(length, lines);
                 needed = more;
             }
-            Measured::Refused {
-                no,
-                line: k,
-                column,
-            } => {
+            Measured::Refused { no, line, column } => {
                 return Catalogue::Refused {
                     no,
-                    line: line + k - 1,
+                    line: cursor.line_of(line),
                     column,
                 };
             }
         }
     }
-    conclude(needed, records, room)
+    conclude(needed, cursor.records, room)
 }
 
 // A record into what remains of the room: it was measured, so it is judged no more.
@@ -218,12 +213,13 @@ fn write_next(t: &[u8], atoms: &mut [i32], bonds: &mut [i32], room: &mut [u8], t
             m,
             chiral,
             length,
-            lines: _,
+            lines,
             header_end,
             items_start,
             items_end,
         } => Wrote {
-            taken: length,
+            length,
+            lines,
             to: put_record(
                 atoms,
                 bonds,
@@ -240,7 +236,11 @@ fn write_next(t: &[u8], atoms: &mut [i32], bonds: &mut [i32], room: &mut [u8], t
             no: _,
             line: _,
             column: _,
-        } => Wrote { taken: 0, to },
+        } => Wrote {
+            length: 0,
+            lines: 0,
+            to,
+        },
     }
 }
 
@@ -251,11 +251,12 @@ fn write_file(s: &[u8], atoms: &mut [i32], bonds: &mut [i32], room: &mut [u8]) -
     ensures { λ r. ⌜ Beside 4080 (now (atoms .entry)) (now (atoms .exit)) ⌝ }
     ensures { λ r. ⌜ Beside 1530 (now (bonds .entry)) (now (bonds .exit)) ⌝ }
 {
-    let mut at: usize = 0;
+    let mut cursor = Cursor::new();
     let mut to: usize = 0;
-    while at < s.len() {
+    while cursor.at < s.len() {
+        let at = cursor.at;
         let wrote = write_next(&s[at..], atoms, bonds, room, to);
-        at += wrote.taken;
+        cursor = cursor.past(wrote.length, wrote.lines);
         to = wrote.to;
     }
     to

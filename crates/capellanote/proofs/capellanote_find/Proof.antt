@@ -1,5 +1,5 @@
 -- `capellanote::capellanote_find` meets its contract.
-use Rattle.capellanote.specs.Numbers.{told-laws}
+use Rattle.capellanote.specs.Find.{found-laws}
 use borrow.Author.Needs.{needs}
 use Rattle.capellanote.proofs.capellanote_find.Statement.{statement}
 use Rattle.capellanote.proofs.capellanote_find.Tie as tie
@@ -11,7 +11,7 @@ of-found-requires : tie.Need-of-found-requires
 of-found-requires c κs = search needs
 
 returns : tie.Need-returns
-returns c = search (needs, told-laws)
+returns c = search (needs, found-laws)
 
 pub capellanote-find-spec : {M : Type 1} → statement M
 capellanote-find-spec = tie.close (tie.spec find-item-requires of-found-requires returns)

@@ -1,6 +1,5 @@
 -- `capellanote::capellanote_write_catalogue` meets its contract.
-use mathlib.Core.Path.{ap, _∙_}
-use Rattle.capellanote.specs.Numbers.{catalogueNumbers}
+use Rattle.capellanote.specs.Catalogue.{catalogue-held, catalogue-told}
 use borrow.Author.Needs.{needs}
 use Rattle.capellanote.proofs.capellanote_write_catalogue.Statement.{statement}
 use Rattle.capellanote.proofs.capellanote_write_catalogue.Tie as tie
@@ -23,7 +22,7 @@ same-length-3 c = search needs
 returns : tie.Need-returns
 returns c =
     let p = c .before .before .before .before .before .write-catalogue .ensures in
-    (c .of-catalogue .ensures ∙ ap catalogueNumbers (p .answer), (p .room, (p .atoms, p .bonds)))
+    (catalogue-held _ _ _ _ _ _ _ _ _ (c .of-catalogue .ensures) p, catalogue-told _ _ _ _ _ _ _ _ _ (c .of-catalogue .ensures) p)
 
 pub capellanote-write-catalogue-spec : {M : Type 1} → statement M
 capellanote-write-catalogue-spec =

@@ -1,5 +1,5 @@
 -- `capellanote::capellanote_write_record` meets its contract.
-use Rattle.capellanote.specs.Numbers.{told-laws}
+use Rattle.capellanote.specs.Write.{written-laws}
 use borrow.Author.Needs.{needs}
 use Rattle.capellanote.proofs.capellanote_write_record.Statement.{statement}
 use Rattle.capellanote.proofs.capellanote_write_record.Tie as tie
@@ -14,7 +14,7 @@ same-length : tie.Need-same-length
 same-length c = search needs
 
 returns : tie.Need-returns
-returns c = search (needs, told-laws)
+returns c = search (needs, written-laws)
 
 pub capellanote-write-record-spec : {M : Type 1} → statement M
 capellanote-write-record-spec =

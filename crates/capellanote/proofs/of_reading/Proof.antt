@@ -1,5 +1,5 @@
 -- `capellanote::of_reading` meets its contract.
-use Rattle.capellanote.specs.Numbers.{array-laws}
+use Rattle.capellanote.specs.Read.{read-array}
 use borrow.Author.Needs.{needs}
 use Rattle.capellanote.proofs.of_reading.Statement.{statement}
 use Rattle.capellanote.proofs.of_reading.Tie as tie
@@ -23,10 +23,10 @@ cast-t22 : tie.Need-cast-t22
 cast-t22 c = search needs
 
 returns : tie.Need-returns
-returns c = search (needs, array-laws)
+returns c = search (needs, read-array)
 
 returns-2 : tie.Need-returns-2
-returns-2 c = search (needs, array-laws)
+returns-2 c = search (needs, read-array)
 
 pub of-reading-spec : {M : Type 1} → statement M
 of-reading-spec =

@@ -1,6 +1,6 @@
 -- `reader_feed::plus` meets its contract.
-use Rattle.reader_feed.specs.Pieces.{plus-laws}
 use borrow.Author.Needs.{needs}
+use Rattle.reader_feed.specs.Pieces.{plus-laws}
 use Rattle.reader_feed.proofs.plus.Statement.{statement}
 use Rattle.reader_feed.proofs.plus.Tie as tie
 

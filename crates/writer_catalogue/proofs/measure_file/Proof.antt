@@ -7,10 +7,13 @@ use Rattle.writer_catalogue.proofs.measure_file.Statement.{statement}
 use Rattle.writer_catalogue.proofs.measure_file.Tie as tie
 
 abbrev Inv-loop : tie.InvT-loop
-Inv-loop s atoms₀ bonds₀ room at₀ line₀ records₀ needed₀ atoms bonds at line records needed = Measuring s atoms₀ bonds₀ atoms bonds room at line records needed
+Inv-loop s atoms₀ bonds₀ room cursor₀ needed₀ atoms bonds cursor needed = Measuring s atoms₀ bonds₀ atoms bonds room cursor needed
 
 abbrev μ-loop : tie.MeasureT-loop
-μ-loop s atoms₀ bonds₀ room at₀ line₀ records₀ needed₀ atoms bonds at line records needed = length s - at
+μ-loop s atoms₀ bonds₀ room cursor₀ needed₀ atoms bonds cursor needed = length s - cursor .at
+
+new-requires : tie.Need-new-requires Inv-loop μ-loop
+new-requires c κs = search (needs, measuring-laws)
 
 loop-holds : tie.Need-loop-holds Inv-loop μ-loop
 loop-holds c = search (needs, measuring-laws)
@@ -30,14 +33,8 @@ measure-next-requires c κs = search (needs, measuring-laws)
 enum-known-length : tie.Need-enum-known-length Inv-loop μ-loop
 enum-known-length c = search (needs, measuring-laws)
 
-add-at : tie.Need-add-at Inv-loop μ-loop
-add-at c = search (needs, measuring-laws)
-
-add-line : tie.Need-add-line Inv-loop μ-loop
-add-line c = search (needs, measuring-laws)
-
-add-records : tie.Need-add-records Inv-loop μ-loop
-add-records c = search (needs, measuring-laws)
+past-requires : tie.Need-past-requires Inv-loop μ-loop
+past-requires c κs = search (needs, measuring-laws)
 
 loop-less : tie.Need-loop-less Inv-loop μ-loop
 loop-less c = search (needs, measuring-laws)
@@ -48,11 +45,8 @@ loop-again c = search (needs, measuring-laws)
 enum-known-no : tie.Need-enum-known-no Inv-loop μ-loop
 enum-known-no c = search (needs, measuring-laws)
 
-add-t25 : tie.Need-add-t25 Inv-loop μ-loop
-add-t25 c = search (needs, measuring-laws)
-
-sub-t26 : tie.Need-sub-t26 Inv-loop μ-loop
-sub-t26 c = search (needs, measuring-laws)
+line-of-requires : tie.Need-line-of-requires Inv-loop μ-loop
+line-of-requires c κs = search (needs, measuring-laws)
 
 same-length : tie.Need-same-length Inv-loop μ-loop
 same-length c = search (needs, measuring-laws)
@@ -81,20 +75,18 @@ measure-file-spec =
     (tie.spec
     Inv-loop
     μ-loop
+    new-requires
     loop-holds
     sub-measure-next
     part-measure-next-start
     part-measure-next-end
     measure-next-requires
     enum-known-length
-    add-at
-    add-line
-    add-records
+    past-requires
     loop-less
     loop-again
     enum-known-no
-    add-t25
-    sub-t26
+    line-of-requires
     same-length
     same-length-2
     returns

@@ -7,10 +7,13 @@ use Rattle.writer_catalogue.proofs.write_file.Statement.{statement}
 use Rattle.writer_catalogue.proofs.write_file.Tie as tie
 
 abbrev Inv-loop : tie.InvT-loop
-Inv-loop s atoms₀ bonds₀ room₀ at₀ to₀ atoms bonds room at to = Filling s atoms₀ bonds₀ room₀ atoms bonds room at to
+Inv-loop s atoms₀ bonds₀ room₀ cursor₀ to₀ atoms bonds room cursor to = Filling s atoms₀ bonds₀ room₀ atoms bonds room cursor to
 
 abbrev μ-loop : tie.MeasureT-loop
-μ-loop s atoms₀ bonds₀ room₀ at₀ to₀ atoms bonds room at to = length s - at
+μ-loop s atoms₀ bonds₀ room₀ cursor₀ to₀ atoms bonds room cursor to = length s - cursor .at
+
+new-requires : tie.Need-new-requires Inv-loop μ-loop
+new-requires c κs = search (needs, filling-laws)
 
 loop-holds : tie.Need-loop-holds Inv-loop μ-loop
 loop-holds c = search (needs, filling-laws)
@@ -27,8 +30,8 @@ part-write-next-end c = search (needs, filling-laws)
 write-next-requires : tie.Need-write-next-requires Inv-loop μ-loop
 write-next-requires c κs = search (needs, filling-laws)
 
-add-at : tie.Need-add-at Inv-loop μ-loop
-add-at c = search (needs, filling-laws)
+past-requires : tie.Need-past-requires Inv-loop μ-loop
+past-requires c κs = search (needs, filling-laws)
 
 loop-less : tie.Need-loop-less Inv-loop μ-loop
 loop-less c = search (needs, filling-laws)
@@ -54,12 +57,13 @@ write-file-spec =
     (tie.spec
     Inv-loop
     μ-loop
+    new-requires
     loop-holds
     sub-write-next
     part-write-next-start
     part-write-next-end
     write-next-requires
-    add-at
+    past-requires
     loop-less
     loop-again
     same-length

@@ -1,6 +1,6 @@
 -- `reader_feed::Counter::counted` meets its contract.
-use Rattle.reader_feed.specs.Feeding.{counted-laws}
 use borrow.Author.Needs.{needs}
+use Rattle.reader_feed.specs.Feeding.{counted-laws}
 use Rattle.reader_feed.proofs.Counter.counted.Statement.{statement}
 use Rattle.reader_feed.proofs.Counter.counted.Tie as tie
 

@@ -1,0 +1,88 @@
+-- The answer of the check of a whole file: what the array holds, and what it tells in the words of the rules.
+use Prim.Native.Nat.{ℕ, zero, suc, _≤_}
+use native.Mathlib.Omega.{arith}
+use mathlib.Core.Path.{_≡_, refl, sym, ap, _∙_, subst}
+use mathlib.Core.Logic.{_↔_}
+use mathlib.Core.List.{List, [], _∷_}
+use lib.ListN.{length}
+use Rattle.text.specs.Text.{Bytes}
+use Rattle.rules.specs.Record.{Raw, GoodMolfile, GoodSDfile}
+use Rattle.judge_file.specs.Place.{FileKind}
+use Rattle.reader_walk.specs.Promise.{Said, accepted, refused, RefusedAt, CheckedAs}
+use Rattle.reader_walk.specs.Checking.{checkOf}
+use Rattle.reader_check.specs.declared.Answer.{Answer}
+use Rattle.reader_check.specs.Promised.{numbersOf, Promised}
+use Rattle.capellanote.specs.Answer.{number, byFirst, first-refused, zero-exactly}
+
+-- 0, records, 0
+unfoldable pub checkNumbers : Said → List ℕ
+checkNumbers (accepted count) = 0 ∷ (count ∷ (0 ∷ []))
+checkNumbers (refused e i column) = e ∷ (i ∷ (column ∷ []))
+
+-- what an array tells
+unfoldable pub checkTold : List ℕ → Said
+checkTold a = byFirst (number a 0) (accepted (number a 1)) (λ e. refused e (number a 1) (number a 2))
+
+-- by the rules the file is good: kind 0 is a molfile, kind 1 an SDfile
+abbrev pub GoodFile : ℕ → Bytes → Type 0
+GoodFile zero s = (x : Raw) × GoodMolfile s x
+GoodFile (suc zero) s = (xs : List Raw) × GoodSDfile s xs
+GoodFile (suc (suc kind)) s = ⊥
+
+-- ---- The array, of the answer
+
+module _ (a : Answer) where
+  pub check-accepted : (count : ℕ) → a ≡ Answer.Accepted count → 0 ∷ (count ∷ (0 ∷ [])) ≡ checkNumbers (numbersOf a)
+  unfolding checkNumbers
+  check-accepted count h = ap (λ (x : Answer). checkNumbers (numbersOf x)) (sym h)
+
+  pub check-refused : (e i column : ℕ) → a ≡ Answer.Refused e i column → e ∷ (i ∷ (column ∷ [])) ≡ checkNumbers (numbersOf a)
+  unfolding checkNumbers
+  check-refused e i column h = ap (λ (x : Answer). checkNumbers (numbersOf x)) (sym h)
+
+pub ruleset check-array = (check-accepted, check-refused)
+
+-- ---- It tells that answer, since no refusal has the number 0
+
+apart : {X : Type 0} {n e i column : ℕ} → refused e i column ≡ accepted n → X
+apart h = absurd (let z : _≡_ {A = ℕ} 0 1 = cc in omega arith)
+
+pub at-numbered : {kind : FileKind} {s : Bytes} {e i column : ℕ} → RefusedAt kind s e i column → 1 ≤ e
+at-numbered (RefusedAt.line h m c d why) = omega (arith, m .0)
+at-numbered (RefusedAt.cut-short h v bad) = omega arith
+
+numbered : (kind : ℕ) (s : Bytes) (e i column : ℕ) → CheckedAs kind s (refused e i column) → 1 ≤ e
+numbered zero s e i column p = at-numbered (p .refuses e i column refl)
+numbered (suc zero) s e i column p = at-numbered (p .refuses e i column refl)
+numbered (suc (suc kind)) s e i column p = let z : e ≡ 1 = cc in omega (arith, z)
+
+tells : (kind : ℕ) (s : Bytes) (x : Said) → CheckedAs kind s x → checkTold (checkNumbers x) ≡ x
+unfolding checkNumbers checkTold
+tells kind s (accepted n) p = refl
+tells kind s (refused e i column) p = first-refused e (accepted i) (λ (n : ℕ). refused n i column) (numbered kind s e i column p)
+
+module _ (kind : ℕ) (s : Bytes) (r : Answer) (out : List ℕ) (e : out ≡ checkNumbers (numbersOf r)) (p : Promised kind s r) where
+  pub check-held : out ≡ checkNumbers (checkOf kind s)
+  check-held = e ∙ ap checkNumbers (p .judged)
+
+  pub check-told : CheckedAs kind s (checkTold out)
+  check-told = subst (CheckedAs kind s) (sym (ap checkTold e ∙ tells kind s (numbersOf r) (p .checked))) (p .checked)
+
+pub ruleset check-laws = (check-held, check-told)
+
+-- ---- The first number is 0 exactly for a good file
+
+module _ (s : Bytes) (a : List ℕ) where
+  told : (kind : ℕ) → CheckedAs kind s (checkTold a) → checkTold a ≡ accepted (number a 1) → GoodFile kind s
+  told zero p h = let g = p .accepts (number a 1) .0 h in (g .0, g .1)
+  told (suc zero) p h = let g = p .accepts (number a 1) .0 h in (g .0, g .1)
+  told (suc (suc kind)) p h = apart (sym p ∙ h)
+
+  kept : (kind : ℕ) → CheckedAs kind s (checkTold a) → GoodFile kind s → (n : ℕ) → checkTold a ≡ refused n (number a 1) (number a 2) → ⊥
+  kept zero p g n h = apart (sym h ∙ p .accepts 1 .1 (g .0, g .1, refl))
+  kept (suc zero) p g n h = apart (sym h ∙ p .accepts (length (g .0)) .1 (g .0, g .1, refl))
+  kept (suc (suc kind)) p g n h = absurd g
+
+  pub check-good : (kind : ℕ) → CheckedAs kind s (checkTold a) → (number a 0 ≡ 0) ↔ GoodFile kind s
+  unfolding checkTold
+  check-good kind p = zero-exactly (number a 0) (accepted (number a 1)) (λ (e : ℕ). refused e (number a 1) (number a 2)) (told kind p) (kept kind p)

@@ -1,0 +1,123 @@
+-- The answer of the reading of a record: what the array holds, and what it tells in the words of the rules.
+use Prim.Native.Nat.{ℕ, zero, suc, _≤_}
+use native.Mathlib.Omega.{arith}
+use mathlib.Core.Path.{_≡_, refl, sym, ap, _∙_, subst}
+use mathlib.Core.Logic.{_↔_}
+use mathlib.Core.Bool.{Bool, true, false}
+use mathlib.Core.List.{List, [], _∷_}
+use lib.Dec.{ltb}
+use lib.ListN.{length}
+use lib.IntN.{ℤ}
+use borrow.Author.Tests.{ltb-true, ltb-false}
+use Rattle.text.specs.Text.{Bytes}
+use Rattle.rules.specs.Record.{Raw}
+use Rattle.judge_file.specs.Place.{FileKind, molfile, sdfile}
+use Rattle.judge_refusals.specs.NoRecord.{NoRecord}
+use Rattle.reader_record.specs.declared.RecordRead.{RecordRead}
+use Rattle.reader_record.specs.Promise.{Begins, Roomy, Reads, Refusal, kindNumber, numbersOf, accepted, ReadPromise}
+use Rattle.reader_record.specs.Promise as R
+use Rattle.reader_record.specs.Told.{replyOf, begins-told}
+use Rattle.capellanote.specs.Answer.{number, byFirst, first-refused, zero-exactly}
+use Rattle.capellanote.specs.Check.{at-numbered}
+
+-- 0, n, m, chiral, length, lines, end of the header lines, start and end of the items
+unfoldable pub readNumbers : RecordRead → List ℕ
+readNumbers (RecordRead.Read n m chiral length lines h a b) = 0 ∷ (n ∷ (m ∷ (chiral ∷ (length ∷ (lines ∷ (h ∷ (a ∷ (b ∷ []))))))))
+readNumbers (RecordRead.Refused e i column) = e ∷ (i ∷ (column ∷ (0 ∷ (0 ∷ (0 ∷ (0 ∷ (0 ∷ (0 ∷ []))))))))
+
+-- what an array tells
+abbrev pub recordTold : List ℕ → RecordRead
+recordTold a = RecordRead.Read (number a 1) (number a 2) (number a 3) (number a 4) (number a 5) (number a 6) (number a 7) (number a 8)
+
+unfoldable pub readTold : List ℕ → RecordRead
+readTold a = byFirst (number a 0) (recordTold a) (λ e. RecordRead.Refused e (number a 1) (number a 2))
+
+-- by the rules a record begins the text, and the tables have room
+abbrev pub GoodRecord : ℕ → Bytes → List ℤ → List ℤ → Type 0
+GoodRecord kind s ta tb = (k : FileKind) × (kind ≡ kindNumber k) × Roomy ta tb × ((x : Raw) × Begins k s x)
+
+-- ---- The array, of the answer
+
+module _ (x : RecordRead) where
+  pub read-accepted : (n m chiral length lines h a b : ℕ) → x ≡ RecordRead.Read n m chiral length lines h a b →
+      0 ∷ (n ∷ (m ∷ (chiral ∷ (length ∷ (lines ∷ (h ∷ (a ∷ (b ∷ [])))))))) ≡ readNumbers x
+  unfolding readNumbers
+  read-accepted n m chiral length lines h a b e = ap readNumbers (sym e)
+
+  pub read-refused : (e i column : ℕ) → x ≡ RecordRead.Refused e i column → e ∷ (i ∷ (column ∷ (0 ∷ (0 ∷ (0 ∷ (0 ∷ (0 ∷ (0 ∷ [])))))))) ≡ readNumbers x
+  unfolding readNumbers
+  read-refused e i column h = ap readNumbers (sym h)
+
+pub ruleset read-array = (read-accepted, read-refused)
+
+-- ---- Kind and room
+
+pub by-room : {X : Type 0} (ta tb : List ℤ) → (Roomy ta tb → X) → (¬ Roomy ta tb → X) → X
+by-room {X} ta tb y n = go (ltb (length ta) 4080) refl (ltb (length tb) 1530) refl
+  where
+    go : (t : Bool) → ltb (length ta) 4080 ≡ t → (u : Bool) → ltb (length tb) 1530 ≡ u → X
+    go true p u q = let h = ltb-true (length ta) 4080 p in n (λ r. omega (arith, h, r .atoms))
+    go false p true q = let h = ltb-true (length tb) 1530 q in n (λ r. omega (arith, h, r .bonds))
+    go false p false q = y (record { atoms = ltb-false (length ta) 4080 p; bonds = ltb-false (length tb) 1530 q })
+
+by-kind : {X : Type 0} (kind : ℕ) → ((k : FileKind) → kind ≡ kindNumber k → kind ≤ 1 → X) → (2 ≤ kind → X) → X
+by-kind zero y n = y molfile refl (omega arith)
+by-kind (suc zero) y n = y sdfile refl (omega arith)
+by-kind (suc (suc kind)) y n = n (omega arith)
+
+-- ---- It tells that answer, since no refusal has the number 0
+
+pub none-numbered : {s : Bytes} {e i column : ℕ} → NoRecord s e i column → 1 ≤ e
+none-numbered (NoRecord.line h m c d why) = omega (arith, m .0)
+none-numbered (NoRecord.cut-short h v bad) = omega arith
+
+pub refusal-numbered : (k : FileKind) (s : Bytes) (e i column : ℕ) → Refusal k s e i column → 1 ≤ e
+refusal-numbered molfile s e i column r = at-numbered r
+refusal-numbered sdfile s e i column r = none-numbered r
+
+same-number : {e i c n j d : ℕ} → R.refused e i c ≡ R.refused n j d → e ≡ n
+same-number h = cc
+
+module _ (kind : ℕ) (s : Bytes) (ta tb : List ℤ) where
+  pub read-numbered : (e i column : ℕ) (ta′ tb′ : List ℤ) → ReadPromise kind s ta tb (RecordRead.Refused e i column) ta′ tb′ → 1 ≤ e
+  read-numbered e i column ta′ tb′ p =
+      by-kind kind (λ k h few. by-room ta tb (λ y. refusal-numbered k s e i column (p .reads k h y .refuses e i column refl .0)) (λ n. let z = same-number (p .no-room few n .0) in omega (arith, z)))
+      (λ h. let z = same-number (p .other-kind h .0) in omega (arith, z))
+
+  tells : (r : RecordRead) (ta′ tb′ : List ℤ) → ReadPromise kind s ta tb r ta′ tb′ → readTold (readNumbers r) ≡ r
+  unfolding readNumbers readTold
+  tells (RecordRead.Read n m chiral len lines h a b) ta′ tb′ p = refl
+  tells (RecordRead.Refused e i column) ta′ tb′ p =
+      first-refused e (RecordRead.Read i column 0 0 0 0 0 0) (λ (n : ℕ). RecordRead.Refused n i column) (read-numbered e i column ta′ tb′ p)
+
+  pub read-told : (r : RecordRead) (ta′ tb′ : List ℤ) (out : List ℕ) → out ≡ readNumbers r → ReadPromise kind s ta tb r ta′ tb′ → ReadPromise kind s ta tb (readTold out) ta′ tb′
+  read-told r ta′ tb′ out e p = subst (λ (x : RecordRead). ReadPromise kind s ta tb x ta′ tb′) (sym (ap readTold e ∙ tells r ta′ tb′ p)) p
+
+pub read-held : (x y : RecordRead) (out : List ℕ) → out ≡ readNumbers x → x ≡ y → out ≡ readNumbers y
+read-held x y out e h = e ∙ ap readNumbers h
+
+pub ruleset read-laws = (read-held, read-told)
+
+-- ---- The first number is 0 exactly for a good record
+
+apart : {X : Type 0} {e i c : ℕ} {w : R.Reply} → R.refused e i c ≡ accepted w → X
+apart h = absurd (let z : _≡_ {A = ℕ} 0 1 = cc in omega arith)
+
+module _ (kind : ℕ) (s : Bytes) (ta tb : List ℤ) (a : List ℕ) (ta′ tb′ : List ℤ) (p : ReadPromise kind s ta tb (readTold a) ta′ tb′) where
+  told : readTold a ≡ recordTold a → GoodRecord kind s ta tb
+  told h = by-kind kind
+      (λ k e few. by-room ta tb
+      (λ y. let g = p .reads k e y .accepts _ .0 (ap numbersOf h) in (k, e, y, (g .0, g .1)))
+      (λ n. apart (sym (p .no-room few n .0) ∙ ap numbersOf h)))
+      (λ e. apart (sym (p .other-kind e .0) ∙ ap numbersOf h))
+
+  kept : GoodRecord kind s ta tb → (n : ℕ) → readTold a ≡ RecordRead.Refused n (number a 1) (number a 2) → ⊥
+  kept g n h =
+      let k = g .0 in
+      let x = g .3 .0 in
+      let w = replyOf k s x in
+      apart (sym (ap numbersOf h) ∙ p .reads k (g .1) (g .2) .accepts w .1 (x, g .3 .1, begins-told k s x (g .3 .1)))
+
+  pub read-good : (number a 0 ≡ 0) ↔ GoodRecord kind s ta tb
+  unfolding readTold
+  read-good = zero-exactly (number a 0) (recordTold a) (λ (e : ℕ). RecordRead.Refused e (number a 1) (number a 2)) told kept

@@ -1,0 +1,6 @@
+-- What the contracts cite
+pub mod Walk
+-- The law of the walk
+pub mod After
+-- Laws for the proofs
+pub mod Going
