@@ -1,7 +1,7 @@
 -- Calls on a full buffer, or with all that is left of the input, come to an end.
 use Prim.Native.Nat.{ℕ, zero, suc, _≤_, _<_}
 use native.Mathlib.Omega.{arith}
-use mathlib.Core.Path.{_≡_, refl, sym}
+use mathlib.Core.Path.{_≡_, refl, sym, ap}
 use mathlib.Core.List.{[], append-nil}
 use mathlib.Core.Bool.{Bool, true, false}
 use lib.Dec.{ltb}
@@ -13,7 +13,7 @@ use Rattle.reader_feed.specs.declared.Counter.{Counter}
 use Rattle.reader_feed.specs.declared.Fed.{Fed}
 use Rattle.reader_feed.specs.Fed.{fedOf}
 use Rattle.reader_feed.specs.Says.{Told, accepted, refused, too-long}
-use Rattle.reader_feed.specs.Calls.{fedAs, Handed, Feeds}
+use Rattle.reader_feed.specs.Calls.{Said, numbersOf, Handed, Feeds}
 use Rattle.reader_feed.specs.Asks.{call-asks, call-moves}
 
 full-part : (room : ℕ) (t : Bytes) → room < length t → Handed room t (take room t) false
@@ -38,9 +38,9 @@ last-part room t few =
 
 -- such calls: each part fills the room, or is all that is left
 pub data Filled (room : ℕ) : Counter → Bytes → Told → Type 0 where
-  last : {c : Counter} {t : Bytes} {told : Told} → fedOf c t true room ≡ fedAs told → length t ≤ room → Filled room c t told
-  stop : {c : Counter} {t : Bytes} {told : Told} → fedOf c (take room t) false room ≡ fedAs told → room < length t → Filled room c t told
-  more : {c : Counter} {t : Bytes} {told : Told} (c′ : Counter) (used : ℕ) → fedOf c (take room t) false room ≡ Fed.More c′ used → room < length t →
+  last : {c : Counter} {t : Bytes} {told : Told} → numbersOf (fedOf c t true room) ≡ Said.tells told → length t ≤ room → Filled room c t told
+  stop : {c : Counter} {t : Bytes} {told : Told} → numbersOf (fedOf c (take room t) false room) ≡ Said.tells told → room < length t → Filled room c t told
+  more : {c : Counter} {t : Bytes} {told : Told} (c′ : Counter) (used : ℕ) → numbersOf (fedOf c (take room t) false room) ≡ Said.asks c′ used → room < length t →
       Filled room c′ (drop used t) told → Filled room c t told
 
 pub filled-feeds : {room : ℕ} {c : Counter} {t : Bytes} {told : Told} → Filled room c t told → Feeds room c t told
@@ -50,7 +50,7 @@ filled-feeds {room = room} {t = t} (Filled.more c′ used e many f) = Feeds.more
 
 -- an answer ends the calls or asks for more
 data Kind (r : Fed) : Type 0 where
-  ends : (told : Told) → r ≡ fedAs told → Kind r
+  ends : (told : Told) → numbersOf r ≡ Said.tells told → Kind r
   asks : (c : Counter) (used : ℕ) → r ≡ Fed.More c used → Kind r
 
 kind : (r : Fed) → Kind r
@@ -82,7 +82,7 @@ comes-more room m t many few r c = go (kind (fedOf c (take room t) false room))
     go (Kind.asks c′ used e) =
         let some = call-moves room c (take room t) false c′ used (omega (arith, size)) e in
         let f = r (drop used t) (omega (arith, few, many, some, length-drop used t)) c′ in
-        (f .0, Filled.more c′ used e many (f .1))
+        (f .0, Filled.more c′ used (ap numbersOf e) many (f .1))
 
 comes : (room m : ℕ) (t : Bytes) → length t ≤ m → Comes room t
 comes room zero t h = comes-last room t (omega (arith, h))

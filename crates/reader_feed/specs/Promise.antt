@@ -8,12 +8,11 @@ use Rattle.judge_file.specs.Place.{sdfile}
 use Rattle.reader_walk.specs.Promise.{Said, Checked, checked-one, verdict-checked}
 use Rattle.reader_walk.specs.Checking.{saidOf}
 use Rattle.reader_feed.specs.declared.Counter.{Counter}
-use Rattle.reader_feed.specs.declared.Fed.{Fed}
 use Rattle.reader_feed.specs.Fed.{begun, fedOf}
 use Rattle.reader_feed.specs.Says.{Told, accepted, refused, too-long, counterSays, AsChecked, as-checked}
 use Rattle.reader_feed.specs.TooLong.{TooLong, says-too-long}
-use Rattle.reader_feed.specs.Calls.{fedAs, Feeds}
-use Rattle.reader_feed.specs.Asks.{not-more}
+use Rattle.reader_feed.specs.Calls as Calls
+use Rattle.reader_feed.specs.Calls.{numbersOf, as-told, Feeds}
 use Rattle.reader_feed.specs.Goes.{Small, says, Goes, call-goes}
 
 -- ---- What is to be written, in the words of the rules
@@ -26,33 +25,25 @@ Writes room t (too-long k) = TooLong room t k
 
 -- ---- Any sequence of calls says that
 
-same-told : (a b : Told) → fedAs a ≡ fedAs b → a ≡ b
-same-told a b h = sym (back a) ∙ ap toldOf h ∙ back b
-  where
-    toldOf : Fed → Told
-    toldOf (Fed.More c used) = accepted 0
-    toldOf (Fed.Accepted n) = accepted n
-    toldOf (Fed.Refused e i column) = refused e i column
-    toldOf (Fed.TooLong k) = too-long k
+same-told : {a b : Told} → Calls.Said.tells a ≡ Calls.Said.tells b → a ≡ b
+same-told h = cc
 
-    back : (a : Told) → toldOf (fedAs a) ≡ a
-    back (accepted n) = refl
-    back (refused e i column) = refl
-    back (too-long k) = refl
+apart : {X : Type 0} {c : Counter} {used : ℕ} {told : Told} → Calls.Said.asks c used ≡ Calls.Said.tells told → X
+apart h = absurd (let z : _≡_ {A = ℕ} 0 1 = cc in omega arith)
 
 feeds-say : {room : ℕ} {c : Counter} {t : Bytes} {told : Told} → Feeds room c t told → Small c t → told ≡ says room c t
 feeds-say {room = room} {c = c} {t = t} {told = told} (Feeds.last part ended h e) small = go (call-goes room c t part ended h small)
   where
     go : Goes room (c .records) (c .lines) 0 t (fedOf c part ended room) → told ≡ says room c t
-    go (Goes.tells x q is) = same-told told x (sym e ∙ q) ∙ is
-    go (Goes.waits c′ d q s is) = not-more told c′ (0 + d) (sym e ∙ q)
+    go (Goes.tells x q is) = same-told (sym e ∙ ap numbersOf q ∙ as-told x) ∙ is
+    go (Goes.waits c′ d q s is) = apart (sym (ap numbersOf q) ∙ e)
 feeds-say {room = room} {c = c} {t = t} {told = told} (Feeds.more part ended c₁ used h e f) small =
     go (λ s. feeds-say f s) (call-goes room c t part ended h small)
   where
     go : (Small c₁ (drop used t) → told ≡ says room c₁ (drop used t)) → Goes room (c .records) (c .lines) 0 t (fedOf c part ended room) → told ≡ says room c t
-    go r (Goes.tells x q is) = not-more x c₁ used (sym q ∙ e)
+    go r (Goes.tells x q is) = apart (sym e ∙ ap numbersOf q ∙ as-told x)
     go r (Goes.waits c′ d q s is) =
-        let both : Fed.More c₁ used ≡ Fed.More c′ (0 + d) = sym e ∙ q in
+        let both : Calls.Said.asks c₁ used ≡ Calls.Said.asks c′ (0 + d) = sym e ∙ ap numbersOf q in
         let ec : c′ ≡ c₁ = cc in
         let eu : used ≡ 0 + d = cc in
         let ed : d ≡ used = omega (arith, eu) in
