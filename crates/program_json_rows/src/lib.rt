@@ -8,6 +8,11 @@ pub const ATOM: usize = 16;
 
 pub const BOND: usize = 6;
 
+// Numbers of the tables that a record is read into: 255 atoms, and 255 bonds.
+pub const ATOMS: usize = ATOM * 255;
+
+pub const BONDS: usize = BOND * 255;
+
 // No row is longer, with the comma before it.
 pub const ROW: usize = 256;
 
