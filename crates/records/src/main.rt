@@ -8,7 +8,7 @@ enum Verb {
     Unknown,
 }
 
-fn verb() -> Verb {
+fn asked() -> Verb {
     if program_io::is_argument(1, b"read") {
         return Verb::Read;
     }
@@ -44,7 +44,7 @@ fn canon() {
 }
 
 fn main() {
-    match verb() {
+    match asked() {
         Verb::Read => read(),
         Verb::Fetch => fetch(),
         Verb::Canon => canon(),
