@@ -18,6 +18,8 @@ def put(name, data):
         try:
             text = printed(verb, word, data)
         except Refusal:
+            if not name.startswith("bad"):
+                raise
             text = b""
         with open(where + "/" + name + "." + verb, "wb") as file:
             file.write(text)
@@ -30,10 +32,12 @@ for k in range(8):
 small, size = sized_record(rng, 700), 1048576
 put("large.sdf", small * 900 + sized_record(rng, size) + small * 2000 + sized_record(rng, size - 1) + small)
 # A record of the buffer's size whose canonical text is as long as it can be made: items of seven bytes.
-head = b"\n\n\n  0  0                           V2000\nM  END\n"
+head = b"\n\n\n  0  0%33s\nM  END\n" % b"V2000"
 items = (size - len(head) - 5) // 7
 rest = size - len(head) - 5 - 7 * items
 put("grows.sdf", head + b"> <N>\n\n" * (items - 1) + b"> <N" + b"N" * rest + b">\n\n" + b"$$$$\n")
+# Header lines that look like a record's last line.
+put("dollars.sdf", (b"a\n$$$$\n$$$$  \n" + head[3:] + b"> <A>\n$$$\n\n$$$$ \n") * 2)
 END
 
 wrote() { # EXPECTED COMMAND...
@@ -122,8 +126,5 @@ for how in damaged cut; do
 done
 
 # A sub-command that is not there.
-kit=${RATTLE_HOME:-$(dirname "$(dirname "$(readlink -f "$(command -v rt)")")")}/on/$(uname -m)/toolchain
-emulator=$kit/bin/qemu-x86_64
-[ -x "$emulator" ] || emulator=
-got ${emulator:+"$emulator"} "$kit/lib/ld-linux-x86-64.so.2" --library-path "$kit/lib" target/bin/records tidy examples/sample.sdf
+got examples/compile --run target/bin/records tidy examples/sample.sdf
 is "records: an unknown sub-command" 0 "" "records: no sub-command of this name"

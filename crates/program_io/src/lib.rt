@@ -150,14 +150,17 @@ impl Text {
         self
     }
 
-    pub fn word(self, word: &[u8]) -> Text {
-        let mut text = self;
+    pub fn word(mut self, word: &[u8]) -> Text {
         let mut i: usize = 0;
         while i < word.len() {
-            text = text.byte(word[i]);
+            let at = self.used;
+            if at < SHORT {
+                self.bytes[at] = word[i];
+                self.used = at + 1;
+            }
             i += 1;
         }
-        text
+        self
     }
 
     // A number in decimal digits.
@@ -292,13 +295,6 @@ impl Out {
 
     pub fn text(self, room: &mut [u8], text: Text) -> Out {
         self.bytes(room, front(&text.bytes, text.used))
-    }
-
-    // A number in decimal digits.
-    pub fn number(self, room: &mut [u8], n: u64) -> Out {
-        let mut digits = [0u8; 20];
-        let k = io::decimal(n, &mut digits);
-        self.bytes(room, &digits[..k])
     }
 }
 

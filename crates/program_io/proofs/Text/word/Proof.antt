@@ -5,19 +5,22 @@ use Rattle.program_io.proofs.Text.word.Statement.{statement}
 use Rattle.program_io.proofs.Text.word.Tie as tie
 
 abbrev Inv-loop : tie.InvT-loop
-Inv-loop word text₀ i₀ text i = Unit {0}
+Inv-loop word self₀ i₀ self i = Unit {0}
 
 abbrev μ-loop : tie.MeasureT-loop
-μ-loop word text₀ i₀ text i = length word - i
+μ-loop word self₀ i₀ self i = length word - i
 
 loop-holds : tie.Need-loop-holds Inv-loop μ-loop
 loop-holds c = search needs
 
-shared-slice-read-byte : tie.Need-shared-slice-read-byte Inv-loop μ-loop
-shared-slice-read-byte c = search needs
+shared-slice-read-self : tie.Need-shared-slice-read-self Inv-loop μ-loop
+shared-slice-read-self c = search needs
 
-byte-requires : tie.Need-byte-requires Inv-loop μ-loop
-byte-requires c κs = search needs
+element-write-self : tie.Need-element-write-self Inv-loop μ-loop
+element-write-self c = search needs
+
+add-self : tie.Need-add-self Inv-loop μ-loop
+add-self c = search needs
 
 add-i : tie.Need-add-i Inv-loop μ-loop
 add-i c = search needs
@@ -38,8 +41,9 @@ word-spec =
     Inv-loop
     μ-loop
     loop-holds
-    shared-slice-read-byte
-    byte-requires
+    shared-slice-read-self
+    element-write-self
+    add-self
     add-i
     loop-less
     loop-again
