@@ -94,15 +94,14 @@ fn place_of(pass: Pass) -> Place {
     }
 }
 
-// The record at the front of s, read and written as JSON.
-fn put_reading(
-    pass: Pass,
-    s: &[u8],
-    room: &mut [u8],
-    atoms: &mut [i32; ATOMS],
-    bonds: &mut [i32; BONDS],
-) -> Stepped {
-    match reader_record::read_record(kind_of(pass.sd), s, atoms, bonds) {
+// A record that was read, and its lines, or the number of its refusal.
+enum Front {
+    Whole { r: Reading, lines: usize },
+    No(u8),
+}
+
+fn front_of(place: Place, got: RecordRead) -> Front {
+    match got {
         RecordRead::Read {
             n,
             m,
@@ -112,9 +111,9 @@ fn put_reading(
             header_end,
             items_start,
             items_end,
-        } => {
-            let r = Reading {
-                place: place_of(pass),
+        } => Front::Whole {
+            r: Reading {
+                place,
                 length,
                 n,
                 m,
@@ -122,15 +121,37 @@ fn put_reading(
                 header_end,
                 items_start,
                 items_end,
-            };
-            let out = program_json::put_record(pass.out, room, s, r, atoms, bonds);
-            behind(pass, length, lines, out)
-        }
+            },
+            lines,
+        },
         RecordRead::Refused {
             no,
             line: _,
             column: _,
-        } => refused(no),
+        } => Front::No(no),
+    }
+}
+
+// The record at the front of s, read into the tables. What is promised of them is not asked for here.
+fn read_front(pass: Pass, s: &[u8], atoms: &mut [i32; ATOMS], bonds: &mut [i32; BONDS]) -> Front {
+    let got = reader_record::read_record(kind_of(pass.sd), s, atoms, bonds);
+    front_of(place_of(pass), got)
+}
+
+// The record at the front of s, read and written as JSON.
+fn put_reading(
+    pass: Pass,
+    s: &[u8],
+    room: &mut [u8],
+    atoms: &mut [i32; ATOMS],
+    bonds: &mut [i32; BONDS],
+) -> Stepped {
+    match read_front(pass, s, atoms, bonds) {
+        Front::Whole { r, lines } => {
+            let out = program_json::put_record(pass.out, room, s, r, atoms, bonds);
+            behind(pass, r.length, lines, out)
+        }
+        Front::No(no) => refused(no),
     }
 }
 
@@ -234,7 +255,25 @@ fn after_copy(pass: Pass, room: &[u8], copied: Copied) -> Stepped {
     }
 }
 
-// The record at the front of s in its canonical form, into what remains of the room.
+// The record at the front of s in its canonical form, into what remains of the room behind `used`.
+fn copy(
+    sd: bool,
+    s: &[u8],
+    room: &mut [u8],
+    used: usize,
+    atoms: &mut [i32; ATOMS],
+    bonds: &mut [i32; BONDS],
+) -> Copied {
+    if room.len() < used {
+        return Copied::Refused {
+            no: 20,
+            line: 0,
+            column: 0,
+        };
+    }
+    writer_copy::copy_record(kind_of(sd), s, atoms, bonds, &mut room[used..])
+}
+
 fn put_copy(
     pass: Pass,
     s: &[u8],
@@ -242,12 +281,7 @@ fn put_copy(
     atoms: &mut [i32; ATOMS],
     bonds: &mut [i32; BONDS],
 ) -> Stepped {
-    let used = pass.out.used;
-    if room.len() < used {
-        return Stepped::Failed(Verdict::NoRoom);
-    }
-    let kind = kind_of(pass.sd);
-    let copied = writer_copy::copy_record(kind, s, atoms, bonds, &mut room[used..]);
+    let copied = copy(pass.sd, s, room, pass.out.used, atoms, bonds);
     after_copy(pass, room, copied)
 }
 
