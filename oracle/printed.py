@@ -1,7 +1,7 @@
-"""What the programs have to write of a file: its readings, one item of each record, its canonical text.
+"""What the sub-commands of `records` have to write of a file: its readings, one item of each record, its canonical text.
 
-    python3 printed.py readings KIND FILE...     KIND is molfile or sdfile
-    python3 printed.py item NAME FILE...
+    python3 printed.py read KIND FILE...     KIND is molfile or sdfile
+    python3 printed.py fetch NAME FILE...
     python3 printed.py canon FILE...
 
 Nothing is written of a file that is refused or missing.
@@ -49,22 +49,22 @@ def each(records, shown):
         line += record.lines_used
 
 
-def printed(task, word, data):
+def printed(verb, word, data):
     sheet = Sheet(data)
-    if task == "readings":
+    if verb == "read":
         return "".join(each([molfile(sheet)] if word == "molfile" else sdfile(sheet), reading)).encode()
-    if task == "item":
+    if verb == "fetch":
         name = word.encode()
         return "".join(each(sdfile(sheet), lambda *where: item(*where, name))).encode()
     return catalogue_text(data)
 
 
-def main(task, *words):
-    word, files = ("", words) if task == "canon" else (words[0], words[1:])
+def main(verb, *words):
+    word, files = ("", words) if verb == "canon" else (words[0], words[1:])
     for name in files:
         try:
             with open(name, "rb") as file:
-                sys.stdout.buffer.write(printed(task, word, file.read()))
+                sys.stdout.buffer.write(printed(verb, word, file.read()))
         except (OSError, Refusal):
             pass
 

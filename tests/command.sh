@@ -35,11 +35,54 @@ is "check: a file named as an option" 0 "--progress: accepted, 0 records" ""
 status=$?
 is "check: standard input" 0 "-: accepted, 5 records" ""
 
-# Every number from 3 to 19 has a sentence of its own, and the hints stand where they are asked for.
-for no in $(seq 1 22); do
-    said=$(sed -n '/^sentence()/,/^}/p' capellanote | grep -c "^    $no) echo ")
-    [ "$said" = 1 ] && ok || bad "sentence $no" "not there"
+# A file for each number that a file can be refused with, 3 to 19: the place that the second program says, and a sentence.
+python3 - "$room" <<'END'
+import random, sys
+sys.path.insert(0, "oracle")
+from ctfile import check
+from damage import damaged
+rng, found = random.Random(5), set()
+while len(found) < 17:
+    for kind, ending in ((0, "mol"), (1, "sdf")):
+        data = damaged(rng, kind)
+        answer = check(kind, data)
+        if answer[0] == "refused" and answer[1] not in found:
+            found.add(answer[1])
+            name = "%s/no%02d." % (sys.argv[1], answer[1])
+            with open(name + ending, "wb") as file:
+                file.write(data)
+            with open(name + "place", "w") as file:
+                file.write("%d:%d: refused %d: " % (answer[2], answer[3], answer[1]))
+END
+for file in "$room"/no??.mol "$room"/no??.sdf; do
+    case $file in *.mol) molfile=--molfile ;; *) molfile= ;; esac
+    # shellcheck disable=SC2086
+    got ./capellanote check $molfile "$file"
+    case $status$(cat "$room/out") in
+    *"no sentence"*) bad "check: $(basename "$file")" "$(cat "$room/out")" ;;
+    "1$file:$(cat "${file%.*}.place")"?*) ok ;;
+    *) bad "check: $(basename "$file")" "status $status: $(cat "$room/out")" ;;
+    esac
 done
+
+# Every number from 1 to 22 has a sentence of its own: the command runs with a stand-in for the program, which says this verdict.
+stand=$room/kit/on/$(uname -m)/toolchain/lib
+mkdir -p "$stand"
+printf '#!/bin/sh\necho "$VERDICT" >&3\n' >"$stand/ld-linux-x86-64.so.2"
+chmod +x "$stand/ld-linux-x86-64.so.2"
+says() { # VERDICT
+    VERDICT=$1 RATTLE_HOME=$room/kit ./capellanote check examples/sample.sdf
+}
+for no in $(seq 1 22); do says "refused $no 7 9"; done >"$room/sentences" 2>"$room/err"
+[ "$(grep -c '^examples/sample.sdf:7:9: refused [0-9]*: ' "$room/sentences")" = 22 ] && ok || bad "sentences" "$(cat "$room/sentences")"
+[ "$(sed 's/.*refused [0-9]*: //' "$room/sentences" | sort -u | wc -l)" = 22 ] && ok || bad "sentences" "two are the same"
+grep -q "no sentence" "$room/sentences" && bad "sentences" "one is missing" || ok
+got says "refused 23 7 9"
+is "sentence 23" 1 "examples/sample.sdf:7:9: refused 23: no sentence for this number" ""
+got says "refused 2 0 0"
+is "a refusal without a place" 1 "examples/sample.sdf: refused 2: the tables lent have room for fewer than 255 atoms or 255 bonds" ""
+got says ""
+is "no verdict" 2 "" "the program ended without a verdict"
 
 # Records around the buffer of 1,048,576 bytes.
 python3 - "$room" <<'END'

@@ -13,13 +13,15 @@ os.mkdir(where)
 def put(name, data):
     with open(where + "/" + name, "wb") as file:
         file.write(data)
-    tasks = [("readings", "sdfile"), ("item", "A"), ("canon", "")] if name.endswith(".sdf") else [("readings", "molfile")]
-    for task, word in tasks:
+    verbs = [("read", "sdfile"), ("fetch", "A"), ("canon", "")] if name.endswith(".sdf") else [("read", "molfile")]
+    for verb, word in verbs:
         try:
-            text = printed(task, word, data)
+            text = printed(verb, word, data)
         except Refusal:
+            if not name.startswith("bad"):
+                raise
             text = b""
-        with open(where + "/" + name + "." + task, "wb") as file:
+        with open(where + "/" + name + "." + verb, "wb") as file:
             file.write(text)
 for k in range(24):
     put("good%02d.sdf" % k, to_bytes(rng, file_rows(rng, good_drafts(rng, 1), 1)))
@@ -30,10 +32,12 @@ for k in range(8):
 small, size = sized_record(rng, 700), 1048576
 put("large.sdf", small * 900 + sized_record(rng, size) + small * 2000 + sized_record(rng, size - 1) + small)
 # A record of the buffer's size whose canonical text is as long as it can be made: items of seven bytes.
-head = b"\n\n\n  0  0                           V2000\nM  END\n"
+head = b"\n\n\n  0  0%33s\nM  END\n" % b"V2000"
 items = (size - len(head) - 5) // 7
 rest = size - len(head) - 5 - 7 * items
 put("grows.sdf", head + b"> <N>\n\n" * (items - 1) + b"> <N" + b"N" * rest + b">\n\n" + b"$$$$\n")
+# Header lines that look like a record's last line.
+put("dollars.sdf", (b"a\n$$$$\n$$$$  \n" + head[3:] + b"> <A>\n$$$\n\n$$$$ \n") * 2)
 END
 
 wrote() { # EXPECTED COMMAND...
@@ -42,15 +46,15 @@ wrote() { # EXPECTED COMMAND...
     ./capellanote "$@" 2>"$room/err" | cmp -s - "$expected" && ok || bad "$*" "it did not write what the second program writes: $(head -c 300 "$room/err")"
 }
 for file in "$room"/files/*.sdf; do
-    wrote "$file.readings" read "$file"
-    wrote "$file.item" fetch A "$file"
+    wrote "$file.read" read "$file"
+    wrote "$file.fetch" fetch A "$file"
     wrote "$file.canon" canon "$file"
 done
 for file in "$room"/files/*.mol; do
-    wrote "$file.readings" read --molfile "$file"
+    wrote "$file.read" read --molfile "$file"
 done
 python3 -c 'import json, sys
-for line in open(sys.argv[1]): json.loads(line)' "$room/files/large.sdf.readings" && ok || bad "read" "it is not JSON"
+for line in open(sys.argv[1]): json.loads(line)' "$room/files/large.sdf.read" && ok || bad "read" "it is not JSON"
 
 # Nothing of a refused file, and the refusal on standard error.
 for task in read "fetch LOT" canon; do
@@ -87,6 +91,8 @@ is "fetch: every record" 0 '{"record":1,"line":1,"value":["00417"]}
 {"record":5,"line":82,"value":["00421"]}' ""
 got ./capellanote fetch EMPTY examples/sample.sdf
 [ "$(sed -n 4p "$room/out")" = '{"record":4,"line":56,"value":[]}' ] && [ "$(sed -n 1p "$room/out")" = '{"record":1,"line":1,"value":null}' ] && ok || bad "fetch: no value lines, no item" "$(cat "$room/out")"
+got ./capellanote fetch --progress LOT examples/sample.sdf
+[ "$(sed -n 1p "$room/out")" = '{"record":1,"line":1,"value":["00417"]}' ] && ok || bad "fetch: with progress" "$(cat "$room/out" "$room/err")"
 got ./capellanote canon examples/sample.sdf
 cmp -s "$room/out" examples/sample.sdf && ok || bad "canon: the sample" "it is not written back as itself"
 
@@ -118,3 +124,7 @@ for how in damaged cut; do
     *) bad "read: a file that is $how while it is read" "status $status: $(cat "$room/out" "$room/err" | head -c 300)" ;;
     esac
 done
+
+# A sub-command that is not there.
+got examples/compile --run target/bin/records tidy examples/sample.sdf
+is "records: an unknown sub-command" 0 "" "records: no sub-command of this name"

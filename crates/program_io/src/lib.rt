@@ -124,6 +124,58 @@ pub fn has_more(length: usize, at: usize, n: usize) -> bool
     true
 }
 
+// Bytes of a short text.
+const SHORT: usize = 128;
+
+// A short text, passed on by value; what does not fit is left out, and no text here is so long.
+pub struct Text {
+    bytes: [u8; SHORT],
+    used: usize,
+}
+
+impl Text {
+    pub fn new() -> Text {
+        Text {
+            bytes: [0u8; SHORT],
+            used: 0,
+        }
+    }
+
+    pub fn byte(mut self, b: u8) -> Text {
+        let at = self.used;
+        if at < SHORT {
+            self.bytes[at] = b;
+            self.used = at + 1;
+        }
+        self
+    }
+
+    pub fn word(mut self, word: &[u8]) -> Text {
+        let mut i: usize = 0;
+        while i < word.len() {
+            let at = self.used;
+            if at < SHORT {
+                self.bytes[at] = word[i];
+                self.used = at + 1;
+            }
+            i += 1;
+        }
+        self
+    }
+
+    // A number in decimal digits.
+    pub fn number(self, n: u64) -> Text {
+        let mut digits = [0u8; 20];
+        let k = io::decimal(n, &mut digits);
+        self.word(&digits[..k])
+    }
+
+    // Whether all of it was written.
+    pub fn write(self, fd: i32) -> bool {
+        io::write_all(fd, front(&self.bytes, self.used))
+    }
+}
+
 // Text gathered in a lent room for a descriptor: how much of the room is filled, and whether all went well so far.
 pub struct Out {
     pub fd: i32,
@@ -241,11 +293,8 @@ impl Out {
         }
     }
 
-    // A number in decimal digits.
-    pub fn number(self, room: &mut [u8], n: u64) -> Out {
-        let mut digits = [0u8; 20];
-        let k = io::decimal(n, &mut digits);
-        self.bytes(room, &digits[..k])
+    pub fn text(self, room: &mut [u8], text: Text) -> Out {
+        self.bytes(room, front(&text.bytes, text.used))
     }
 }
 

@@ -4,6 +4,7 @@ mod strings;
 
 use listing::put_items;
 use program_io::Out;
+use program_io::Text;
 use program_json_rows::ATOM;
 use program_json_rows::BOND;
 use program_json_rows::ROW;
@@ -85,42 +86,15 @@ pub fn put_lines(out: Out, room: &mut [u8], s: &[u8], from: usize, to: usize) ->
     next
 }
 
-// A text and a number after it.
-pub fn put_counted(out: Out, room: &mut [u8], name: &[u8], n: usize) -> Out {
-    out.bytes(room, name).number(room, n as u64)
-}
-
-// The record's number, its first line, its bytes.
-fn put_place(out: Out, room: &mut [u8], record: usize, line: usize, length: usize) -> Out {
-    let numbered = put_counted(out, room, b"{\"record\":", record);
-    let placed = put_counted(numbered, room, b",\"line\":", line);
-    put_counted(placed, room, b",\"bytes\":", length)
-}
-
-fn put_header(out: Out, room: &mut [u8], s: &[u8], header_end: usize) -> Out {
-    let opened = out.bytes(room, b",\"header\":[");
-    put_lines(opened, room, s, 0, header_end).byte(room, b']')
-}
-
-// Header lines, chiral and atoms.
-fn put_front(out: Out, room: &mut [u8], s: &[u8], header_end: usize, chiral: u32) -> Out {
-    let headed = put_header(out, room, s, header_end);
-    put_counted(headed, room, b",\"chiral\":", chiral as usize)
-}
-
-fn put_tables(out: Out, room: &mut [u8], atoms: &[i32], n: u32, bonds: &[i32], m: u32) -> Out {
-    let with_atoms = put_atoms(out.bytes(room, b",\"atoms\":["), room, atoms, n);
-    put_bonds(with_atoms.bytes(room, b"],\"bonds\":["), room, bonds, m)
-}
-
-fn put_tail(out: Out, room: &mut [u8], items: &[u8]) -> Out {
-    put_items(out.bytes(room, b"],\"items\":["), room, items).bytes(room, b"]}\n")
-}
-
-// Where a record stands in its file and in the bytes handed on, and its numbers.
-pub struct Reading {
+// Where a record stands in its file: its number and its first line.
+pub struct Place {
     pub record: usize,
     pub line: usize,
+}
+
+// Where a record stands in the bytes handed on, and its numbers.
+pub struct Reading {
+    pub place: Place,
     pub length: usize,
     pub n: u32,
     pub m: u32,
@@ -128,6 +102,42 @@ pub struct Reading {
     pub header_end: usize,
     pub items_start: usize,
     pub items_end: usize,
+}
+
+// What every object begins with.
+fn opening(place: Place) -> Text {
+    let numbered = Text::new()
+        .word(b"{\"record\":")
+        .number(place.record as u64);
+    numbered.word(b",\"line\":").number(place.line as u64)
+}
+
+// What stands before the header lines.
+fn before_header(place: Place, length: usize) -> Text {
+    let sized = opening(place).word(b",\"bytes\":").number(length as u64);
+    sized.word(b",\"header\":[")
+}
+
+// What stands between the header lines and the atoms.
+fn before_atoms(chiral: u32) -> Text {
+    let flagged = Text::new().word(b"],\"chiral\":").number(chiral as u64);
+    flagged.word(b",\"atoms\":[")
+}
+
+// All up to the atoms.
+fn put_front(out: Out, room: &mut [u8], s: &[u8], r: Reading) -> Out {
+    let opened = out.text(room, before_header(r.place, r.length));
+    let headed = put_lines(opened, room, s, 0, r.header_end);
+    headed.text(room, before_atoms(r.chiral))
+}
+
+fn put_tables(out: Out, room: &mut [u8], atoms: &[i32], n: u32, bonds: &[i32], m: u32) -> Out {
+    let with_atoms = put_atoms(out, room, atoms, n);
+    put_bonds(with_atoms.bytes(room, b"],\"bonds\":["), room, bonds, m)
+}
+
+fn put_tail(out: Out, room: &mut [u8], items: &[u8]) -> Out {
+    put_items(out.bytes(room, b"],\"items\":["), room, items).bytes(room, b"]}\n")
 }
 
 // A record as one object, in a line of its own; s begins where the record does.
@@ -139,33 +149,18 @@ pub fn put_record(
     atoms: &[i32],
     bonds: &[i32],
 ) -> Out {
-    let placed = put_place(out, room, r.record, r.line, r.length);
-    let headed = put_front(placed, room, s, r.header_end, r.chiral);
+    let headed = put_front(out, room, s, r);
     let filled = put_tables(headed, room, atoms, r.n, bonds, r.m);
     put_tail(filled, room, part(s, r.items_start, r.items_end))
 }
 
-// What stands before the value of an item.
-fn open_item(out: Out, room: &mut [u8], record: usize, line: usize) -> Out {
-    let numbered = put_counted(out, room, b"{\"record\":", record);
-    put_counted(numbered, room, b",\"line\":", line).bytes(room, b",\"value\":")
-}
-
 // An item of a record: its value lines stand from `from` to before `to`.
-pub fn put_item(
-    out: Out,
-    room: &mut [u8],
-    record: usize,
-    line: usize,
-    s: &[u8],
-    from: usize,
-    to: usize,
-) -> Out {
-    let opened = open_item(out, room, record, line).byte(room, b'[');
+pub fn put_item(out: Out, room: &mut [u8], place: Place, s: &[u8], from: usize, to: usize) -> Out {
+    let opened = out.text(room, opening(place).word(b",\"value\":["));
     put_lines(opened, room, s, from, to).bytes(room, b"]}\n")
 }
 
 // A record without the item.
-pub fn put_missing(out: Out, room: &mut [u8], record: usize, line: usize) -> Out {
-    open_item(out, room, record, line).bytes(room, b"null}\n")
+pub fn put_missing(out: Out, room: &mut [u8], place: Place) -> Out {
+    out.text(room, opening(place).word(b",\"value\":null}\n"))
 }

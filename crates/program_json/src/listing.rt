@@ -17,7 +17,9 @@ struct Listed {
 fn put_name(list: Listed, room: &mut [u8], name: &[u8]) -> Listed {
     let opened = put_comma(list.out, room, list.first).byte(room, b'[');
     Listed {
-        out: put_string(opened, room, name).bytes(room, b",["),
+        out: put_string(opened, room, name)
+            .byte(room, b',')
+            .byte(room, b'['),
         inside: true,
         first: true,
     }
@@ -34,33 +36,50 @@ fn put_value(list: Listed, room: &mut [u8], line: &[u8]) -> Listed {
 
 fn close_item(list: Listed, room: &mut [u8]) -> Listed {
     Listed {
-        out: list.out.bytes(room, b"]]"),
+        out: list.out.byte(room, b']').byte(room, b']'),
         inside: false,
         first: false,
     }
 }
 
-fn at_item(list: Listed, room: &mut [u8], line: &[u8]) -> Listed {
+// What a line of the items is; anything else does not stand in an accepted record.
+enum Line {
+    Name { from: usize, to: usize },
+    Value,
+    Blank,
+    Other,
+}
+
+fn title_line(line: &[u8]) -> Line {
     match line_text::item_line(line) {
-        ItemRead::Title { from, to } => put_name(list, room, part(line, from, to)),
-        ItemRead::Close => list,
-        ItemRead::Bad { no: _, column: _ } => list,
+        ItemRead::Title { from, to } => Line::Name { from, to },
+        ItemRead::Close => Line::Other,
+        ItemRead::Bad { no: _, column: _ } => Line::Other,
     }
 }
 
-fn at_value(list: Listed, room: &mut [u8], line: &[u8]) -> Listed {
+fn inner_line(line: &[u8]) -> Line {
     match line_text::value_line(line) {
-        ValueRead::Value => put_value(list, room, line),
-        ValueRead::Blank => close_item(list, room),
-        ValueRead::Bad { no: _, column: _ } => list,
+        ValueRead::Value => Line::Value,
+        ValueRead::Blank => Line::Blank,
+        ValueRead::Bad { no: _, column: _ } => Line::Other,
     }
 }
 
-fn at_line(list: Listed, room: &mut [u8], line: &[u8]) -> Listed {
-    if list.inside {
-        return at_value(list, room, line);
+fn line_as(inside: bool, line: &[u8]) -> Line {
+    if inside {
+        return inner_line(line);
     }
-    at_item(list, room, line)
+    title_line(line)
+}
+
+fn put_line(list: Listed, room: &mut [u8], line: &[u8]) -> Listed {
+    match line_as(list.inside, line) {
+        Line::Name { from, to } => put_name(list, room, part(line, from, to)),
+        Line::Value => put_value(list, room, line),
+        Line::Blank => close_item(list, room),
+        Line::Other => list,
+    }
 }
 
 // The items of an accepted record. A line has at least one byte, so the bytes are more turns than are needed.
@@ -72,7 +91,7 @@ fn list_items(list: Listed, room: &mut [u8], s: &[u8]) -> Listed {
         let LineAt::Line { end, next } = text::line_at(s, at) else {
             return listed;
         };
-        listed = at_line(listed, room, part(s, at, end));
+        listed = put_line(listed, room, part(s, at, end));
         at = next;
         turns -= 1;
     }

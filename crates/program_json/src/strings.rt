@@ -50,38 +50,14 @@ fn put_quoted(room: &mut [u8], at: usize, s: &[u8]) -> usize
     program_json_rows::put_byte(room, behind, b'"')
 }
 
-// One byte of a string.
-fn put_escaped(out: Out, room: &mut [u8], b: u8) -> Out {
-    if is_special(b) {
-        return out.byte(room, b'\\').byte(room, b);
-    }
-    out.byte(room, b)
-}
-
-fn put_all_escaped(out: Out, room: &mut [u8], s: &[u8]) -> Out {
-    let mut next = out;
-    let mut i: usize = 0;
-    while i < s.len() {
-        next = put_escaped(next, room, s[i]);
-        i += 1;
-    }
-    next
-}
-
-// A string of any length, in any room.
-fn put_any(out: Out, room: &mut [u8], s: &[u8]) -> Out {
-    let opened = out.byte(room, b'"');
-    put_all_escaped(opened, room, s).byte(room, b'"')
-}
-
+// A string. The output fails where it is longer than a line may be, or the room too short for one.
 pub fn put_string(out: Out, room: &mut [u8], s: &[u8]) -> Out {
-    if LINE < s.len() {
-        return put_any(out, room, s);
-    }
     let ready = out.clear(room, QUOTED);
     let at = ready.used;
     if program_io::has_more(room.len(), at, QUOTED) {
-        return ready.to(put_quoted(room, at, s));
+        if s.len() <= LINE {
+            return ready.to(put_quoted(room, at, s));
+        }
     }
-    put_any(ready, room, s)
+    ready.failed()
 }

@@ -1,62 +1,269 @@
-// What is written of one record.
+// One record of the second reading, written.
+use crate::Pass;
+use crate::Stepped;
+use crate::Task;
+use line_text::ItemRead;
 use program_io::Out;
+use program_json::Place;
 use program_json::Reading;
+use program_json_rows::ATOMS;
+use program_json_rows::BONDS;
+use program_verdict::Verdict;
 use reader_item::Found;
+use reader_record::RecordRead;
+use text::LineAt;
 use writer_copy::Copied;
 
-// Every record as JSON; the item of a name; the canonical text.
-pub enum Task {
-    Readings,
-    Item,
-    Canon,
+// What is to be done with what stands in the buffer.
+enum Next {
+    Read,
+    Fetch,
+    Copy,
+    // More has to be read first.
+    Fill,
+    // Nothing is left.
+    End,
 }
 
-fn put_item(out: Out, room: &mut [u8], s: &[u8], r: Reading, item: &[u8]) -> Out {
-    match reader_item::find_item(s, item) {
-        Found::Item { from, to } => program_json::put_item(
-            out,
-            room,
-            r.record,
-            r.line,
-            s,
-            from,
-            to,
-        ),
-        Found::Refused {
-            no: _,
+// Where the first record of the bytes ends.
+enum Ends {
+    At { length: usize, lines: usize },
+    Beyond,
+}
+
+// A sum that stays at the largest number.
+pub fn plus(a: usize, b: usize) -> usize {
+    if usize::MAX - a < b {
+        return usize::MAX;
+    }
+    a + b
+}
+
+fn by_task(task: Task) -> Next {
+    match task {
+        Task::Readings => Next::Read,
+        Task::Item => Next::Fetch,
+        Task::Canon => Next::Copy,
+    }
+}
+
+// A molfile is all of its bytes, so its end has to be there before it is read.
+fn next_of(pass: Pass, left: usize) -> Next {
+    let task = pass.task;
+    if pass.ended {
+        if left == 0 {
+            return Next::End;
+        }
+        return by_task(task);
+    }
+    if pass.sd {
+        return by_task(task);
+    }
+    Next::Fill
+}
+
+// The pass behind a record of so many bytes and lines, with its output.
+fn behind(pass: Pass, length: usize, lines: usize, out: Out) -> Stepped {
+    if out.good {
+        let mut next = pass;
+        next.at = plus(pass.at, length);
+        next.records = plus(pass.records, 1);
+        next.lines = plus(pass.lines, lines);
+        next.out = out;
+        return Stepped::Next(next);
+    }
+    Stepped::Failed(Verdict::Unwritten)
+}
+
+// What was accepted at the first reading is only cut short by the buffer.
+fn refused(no: u8) -> Stepped {
+    if no == 19 {
+        return Stepped::Short;
+    }
+    Stepped::Failed(Verdict::Changed)
+}
+
+fn kind_of(sd: bool) -> u8 {
+    if sd { 1 } else { 0 }
+}
+
+fn place_of(pass: Pass) -> Place {
+    Place {
+        record: plus(pass.records, 1),
+        line: plus(pass.lines, 1),
+    }
+}
+
+// A record that was read, and its lines, or the number of its refusal.
+enum Front {
+    Whole { r: Reading, lines: usize },
+    No(u8),
+}
+
+fn front_of(place: Place, got: RecordRead) -> Front {
+    match got {
+        RecordRead::Read {
+            n,
+            m,
+            chiral,
+            length,
+            lines,
+            header_end,
+            items_start,
+            items_end,
+        } => Front::Whole {
+            r: Reading {
+                place,
+                length,
+                n,
+                m,
+                chiral,
+                header_end,
+                items_start,
+                items_end,
+            },
+            lines,
+        },
+        RecordRead::Refused {
+            no,
             line: _,
             column: _,
-        } => program_json::put_missing(out, room, r.record, r.line),
+        } => Front::No(no),
     }
 }
 
-// A record that was read, and stands at the front of s.
-pub fn put_record(
-    task: Task,
-    out: Out,
-    room: &mut [u8],
+// The record at the front of s, read into the tables. What is promised of them is not asked for here.
+fn read_front(pass: Pass, s: &[u8], atoms: &mut [i32; ATOMS], bonds: &mut [i32; BONDS]) -> Front {
+    let got = reader_record::read_record(kind_of(pass.sd), s, atoms, bonds);
+    front_of(place_of(pass), got)
+}
+
+// The record at the front of s, read and written as JSON.
+fn put_reading(
+    pass: Pass,
     s: &[u8],
-    r: Reading,
-    item: &[u8],
-    atoms: &[i32],
-    bonds: &[i32],
-) -> Out {
-    match task {
-        Task::Item => put_item(out, room, s, r, item),
-        _ => program_json::put_record(out, room, s, r, atoms, bonds),
+    room: &mut [u8],
+    atoms: &mut [i32; ATOMS],
+    bonds: &mut [i32; BONDS],
+) -> Stepped {
+    match read_front(pass, s, atoms, bonds) {
+        Front::Whole { r, lines } => {
+            let out = program_json::put_record(pass.out, room, s, r, atoms, bonds);
+            behind(pass, r.length, lines, out)
+        }
+        Front::No(no) => refused(no),
     }
 }
 
-// The record at the front of s in its canonical form, into what remains of the room.
-pub fn copy_after(
-    out: Out,
-    room: &mut [u8],
-    kind: u8,
+// Whether so many lines of an accepted record are all: its three header lines may hold anything, no other line but the last is a `$$$$` line.
+fn is_last(line: &[u8], lines: usize) -> bool {
+    if lines < 4 {
+        return false;
+    }
+    match line_text::item_line(line) {
+        ItemRead::Close => true,
+        _ => false,
+    }
+}
+
+// A line has at least one byte, so the bytes are more turns than are needed.
+fn first_end(s: &[u8]) -> Ends {
+    let mut at: usize = 0;
+    let mut lines: usize = 0;
+    let mut turns = s.len();
+    while turns > 0 {
+        let LineAt::Line { end, next } = text::line_at(s, at) else {
+            return Ends::Beyond;
+        };
+        lines = plus(lines, 1);
+        if is_last(program_json::part(s, at, end), lines) {
+            return Ends::At {
+                length: next,
+                lines,
+            };
+        }
+        at = next;
+        turns -= 1;
+    }
+    Ends::Beyond
+}
+
+// The item of a record that is wholly there: it is judged again, and sought, in one walk.
+fn put_found(pass: Pass, item: &[u8], record: &[u8], lines: usize, room: &mut [u8]) -> Stepped {
+    let place = place_of(pass);
+    match reader_item::find_item(record, item) {
+        Found::Item { from, to } => {
+            let out = program_json::put_item(pass.out, room, place, record, from, to);
+            behind(pass, record.len(), lines, out)
+        }
+        Found::Refused {
+            no,
+            line: _,
+            column: _,
+        } => {
+            if no == 22 {
+                let out = program_json::put_missing(pass.out, room, place);
+                behind(pass, record.len(), lines, out)
+            } else {
+                Stepped::Failed(Verdict::Changed)
+            }
+        }
+    }
+}
+
+fn put_item(pass: Pass, item: &[u8], s: &[u8], room: &mut [u8]) -> Stepped {
+    match first_end(s) {
+        Ends::At { length, lines } => {
+            put_found(pass, item, program_io::front(s, length), lines, room)
+        }
+        Ends::Beyond => Stepped::Short,
+    }
+}
+
+// Where what remains of the room does not suffice, it is written out, and the record tried again in all of it.
+fn make_room(pass: Pass, room: &[u8]) -> Stepped {
+    if pass.out.used == 0 {
+        return Stepped::Failed(Verdict::NoRoom);
+    }
+    let out = pass.out.flush(room);
+    if out.good {
+        let mut next = pass;
+        next.out = out;
+        return Stepped::Next(next);
+    }
+    Stepped::Failed(Verdict::Unwritten)
+}
+
+fn after_copy(pass: Pass, room: &[u8], copied: Copied) -> Stepped {
+    match copied {
+        Copied::Done {
+            taken,
+            lines,
+            length,
+        } => behind(pass, taken, lines, pass.out.more(room, length)),
+        Copied::Refused {
+            no,
+            line: _,
+            column: _,
+        } => {
+            if no == 20 {
+                make_room(pass, room)
+            } else {
+                refused(no)
+            }
+        }
+    }
+}
+
+// The record at the front of s in its canonical form, into what remains of the room behind `used`.
+fn copy(
+    sd: bool,
     s: &[u8],
-    atoms: &mut [i32],
-    bonds: &mut [i32],
+    room: &mut [u8],
+    used: usize,
+    atoms: &mut [i32; ATOMS],
+    bonds: &mut [i32; BONDS],
 ) -> Copied {
-    let used = out.used;
     if room.len() < used {
         return Copied::Refused {
             no: 20,
@@ -64,21 +271,34 @@ pub fn copy_after(
             column: 0,
         };
     }
-    writer_copy::copy_record(kind, s, atoms, bonds, &mut room[used..])
+    writer_copy::copy_record(kind_of(sd), s, atoms, bonds, &mut room[used..])
 }
 
-// Whether there was no room for its text.
-pub fn is_short(copied: Copied) -> bool {
-    match copied {
-        Copied::Done {
-            taken: _,
-            lines: _,
-            length: _,
-        } => false,
-        Copied::Refused {
-            no,
-            line: _,
-            column: _,
-        } => no == 20,
+fn put_copy(
+    pass: Pass,
+    s: &[u8],
+    room: &mut [u8],
+    atoms: &mut [i32; ATOMS],
+    bonds: &mut [i32; BONDS],
+) -> Stepped {
+    let copied = copy(pass.sd, s, room, pass.out.used, atoms, bonds);
+    after_copy(pass, room, copied)
+}
+
+// The record at the front of s, where one may stand.
+pub fn put_next(
+    pass: Pass,
+    item: &[u8],
+    s: &[u8],
+    room: &mut [u8],
+    atoms: &mut [i32; ATOMS],
+    bonds: &mut [i32; BONDS],
+) -> Stepped {
+    match next_of(pass, s.len()) {
+        Next::Read => put_reading(pass, s, room, atoms, bonds),
+        Next::Fetch => put_item(pass, item, s, room),
+        Next::Copy => put_copy(pass, s, room, atoms, bonds),
+        Next::Fill => Stepped::Short,
+        Next::End => Stepped::Done,
     }
 }

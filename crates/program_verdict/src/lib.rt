@@ -2,7 +2,7 @@
 mod say;
 
 use program_io::Filled;
-use program_io::Out;
+use program_io::Text;
 use reader_check::Answer;
 use reader_feed::Counter;
 use reader_feed::Fed;
@@ -41,6 +41,12 @@ enum Turn {
     End(Verdict),
 }
 
+// What the counter says of a part.
+enum Told {
+    More { counter: Counter, used: usize },
+    End(Verdict),
+}
+
 // One line of progress for so many bytes.
 const STRIDE: u64 = 16777216;
 
@@ -61,9 +67,8 @@ fn plus(a: u64, b: u64) -> u64 {
 
 // So many mebibytes are read.
 fn write_progress(mebibytes: u64) {
-    let mut room = [0u8; 64];
-    let out = Out::new(libc::STDERR_FILENO).number(&mut room, mebibytes);
-    out.bytes(&mut room, b" MiB read\n").flush(&room);
+    let text = Text::new().number(mebibytes).word(b" MiB read\n");
+    text.write(libc::STDERR_FILENO);
 }
 
 // A line of progress where a stride is passed between the two counts of bytes.
@@ -75,22 +80,28 @@ fn note_passed(progress: bool, before: u64, after: u64) {
     }
 }
 
+fn tell_part(counter: Counter, part: &[u8], ended: bool, room: usize) -> Told {
+    match counter.take(part, ended, room) {
+        Fed::More { counter, used } => Told::More { counter, used },
+        Fed::Accepted { records } => Told::End(Verdict::Accepted { records }),
+        Fed::Refused { no, line, column } => Told::End(Verdict::Refused { no, line, column }),
+        Fed::TooLong { record } => Told::End(Verdict::TooLong { record }),
+    }
+}
+
 // The buffer holds n bytes. Its last byte stands beside what is judged: it only tells that input follows.
 fn judge_part(buf: &mut [u8], n: usize, place: Place) -> Turn
     requires { ⌜ 0 < length (now buf) ⌝ }
 {
     let room = buf.len() - 1;
-    let done = place.done;
     let part = program_io::front(buf, least(n, room));
-    match place.counter.take(part, n <= room, room) {
-        Fed::More { counter, used } => Turn::Next(Place {
+    match tell_part(place.counter, part, n <= room, room) {
+        Told::More { counter, used } => Turn::Next(Place {
             counter,
             kept: program_io::keep(buf, used, n),
-            done: plus(done, used as u64),
+            done: plus(place.done, used as u64),
         }),
-        Fed::Accepted { records } => Turn::End(Verdict::Accepted { records }),
-        Fed::Refused { no, line, column } => Turn::End(Verdict::Refused { no, line, column }),
-        Fed::TooLong { record } => Turn::End(Verdict::TooLong { record }),
+        Told::End(v) => Turn::End(v),
     }
 }
 
@@ -141,17 +152,17 @@ fn molfile_whole(s: &[u8]) -> Verdict {
     }
 }
 
-// The beginning of a molfile: a refused line is refused whatever follows.
-fn molfile_begun(s: &[u8]) -> Verdict {
-    match reader_check::check(0, s) {
-        Answer::Accepted { records: _ } => Verdict::TooLong { record: 1 },
-        Answer::Refused { no, line, column } => {
+// The beginning of a molfile by what was said of it alone: a refused line is refused whatever follows.
+fn begun(v: Verdict) -> Verdict {
+    match v {
+        Verdict::Refused { no, line, column } => {
             if no == 19 {
                 Verdict::TooLong { record: 1 }
             } else {
                 Verdict::Refused { no, line, column }
             }
         }
+        _ => Verdict::TooLong { record: 1 },
     }
 }
 
@@ -164,7 +175,7 @@ fn judge_molfile(fd: i32, buf: &mut [u8]) -> Verdict
             if n <= room {
                 molfile_whole(program_io::front(buf, n))
             } else {
-                molfile_begun(program_io::front(buf, room))
+                begun(molfile_whole(program_io::front(buf, room)))
             }
         }
         Filled::Failed => Verdict::Unreadable,

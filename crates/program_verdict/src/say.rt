@@ -1,83 +1,75 @@
 // A verdict in words for people, and in one line for programs.
 use crate::Verdict;
-use program_io::Out;
+use program_io::Text;
 
 // The descriptor on which programs read the verdict. Where it is not open the line is lost, and nothing else changes.
 const CHANNEL: i32 = 3;
 
-// A text and a number after it.
-fn counted(out: Out, room: &mut [u8], text: &[u8], n: usize) -> Out {
-    out.bytes(room, text).number(room, n as u64)
+// A refusal's numbers, with these words before line and column.
+fn refusal(
+    begun: Text,
+    no: u8,
+    line: usize,
+    before_line: &[u8],
+    column: usize,
+    before_column: &[u8],
+) -> Text {
+    let numbered = begun.word(b"refused ").number(no as u64);
+    let placed = numbered.word(before_line).number(line as u64);
+    placed.word(before_column).number(column as u64)
 }
 
-fn refusal(out: Out, room: &mut [u8], no: u8, line: usize, column: usize) -> Out {
-    let numbered = counted(out, room, b"refused ", no as usize);
-    let placed = counted(numbered, room, b" line ", line);
-    counted(placed, room, b" column ", column)
+fn accepted(begun: Text, records: usize) -> Text {
+    begun.word(b"accepted ").number(records as u64)
 }
 
 // What was judged, as people read it; nothing where the file was not judged.
-fn words(out: Out, room: &mut [u8], v: Verdict) -> Out {
+fn words(begun: Text, v: Verdict) -> Text {
     match v {
-        Verdict::Accepted { records } => counted(out, room, b"accepted ", records),
-        Verdict::Refused { no, line, column } => refusal(out, room, no, line, column),
-        Verdict::TooLong { record } => {
-            counted(out, room, b"record ", record).bytes(room, b" too long")
+        Verdict::Accepted { records } => accepted(begun, records),
+        Verdict::Refused { no, line, column } => {
+            refusal(begun, no, line, b" line ", column, b" column ")
         }
-        Verdict::Unreadable => out,
-        Verdict::Endless => out,
-        Verdict::Once => out,
-        Verdict::Changed => out,
-        Verdict::Unwritten => out,
-        Verdict::NoRoom => out,
+        Verdict::TooLong { record } => {
+            begun
+                .word(b"record ")
+                .number(record as u64)
+                .word(b" too long")
+        }
+        _ => begun,
     }
 }
 
-fn refusal_code(out: Out, room: &mut [u8], no: u8, line: usize, column: usize) -> Out {
-    let numbered = counted(out, room, b"refused ", no as usize);
-    let placed = counted(numbered, room, b" ", line);
-    counted(placed, room, b" ", column)
-}
-
 // The verdict as programs read it.
-fn code(out: Out, room: &mut [u8], v: Verdict) -> Out {
+fn code(v: Verdict) -> Text {
+    let begun = Text::new();
     match v {
-        Verdict::Accepted { records } => counted(out, room, b"accepted ", records),
-        Verdict::Refused { no, line, column } => refusal_code(out, room, no, line, column),
-        Verdict::TooLong { record } => counted(out, room, b"too long ", record),
-        Verdict::Unreadable => out.bytes(room, b"unreadable"),
-        Verdict::Endless => out.bytes(room, b"endless"),
-        Verdict::Once => out.bytes(room, b"once"),
-        Verdict::Changed => out.bytes(room, b"changed"),
-        Verdict::Unwritten => out.bytes(room, b"unwritten"),
-        Verdict::NoRoom => out.bytes(room, b"no room"),
+        Verdict::Accepted { records } => accepted(begun, records),
+        Verdict::Refused { no, line, column } => refusal(begun, no, line, b" ", column, b" "),
+        Verdict::TooLong { record } => begun.word(b"too long ").number(record as u64),
+        Verdict::Unreadable => begun.word(b"unreadable"),
+        Verdict::Endless => begun.word(b"endless"),
+        Verdict::Once => begun.word(b"once"),
+        Verdict::Changed => begun.word(b"changed"),
+        Verdict::Unwritten => begun.word(b"unwritten"),
+        Verdict::NoRoom => begun.word(b"no room"),
     }
 }
 
 // The verdict on the channel of its own.
 fn announce(v: Verdict) {
-    let mut room = [0u8; 64];
-    let out = code(Out::new(CHANNEL), &mut room, v);
-    out.byte(&mut room, b'\n').flush(&room);
+    code(v).byte(b'\n').write(CHANNEL);
 }
 
 // A line about a file on standard error.
 fn complain_of(name: &[u8], what: &[u8]) {
-    let mut room = [0u8; 512];
-    let out = Out::new(libc::STDERR_FILENO).bytes(&mut room, name);
-    out.bytes(&mut room, what).flush(&room);
+    io::write_all(libc::STDERR_FILENO, name);
+    io::write_all(libc::STDERR_FILENO, what);
 }
 
 // The reason on standard error where a file was not judged, or not written.
 fn complain(name: &[u8], v: Verdict) {
     match v {
-        Verdict::Accepted { records: _ } => {}
-        Verdict::Refused {
-            no: _,
-            line: _,
-            column: _,
-        } => {}
-        Verdict::TooLong { record: _ } => {}
         Verdict::Unreadable => os::fail(name),
         Verdict::Endless => complain_of(name, b": has no end that can be counted to\n"),
         Verdict::Once => complain_of(
@@ -93,6 +85,7 @@ fn complain(name: &[u8], v: Verdict) {
             name,
             b": a record's canonical text does not fit the room for it\n",
         ),
+        _ => {}
     }
 }
 
@@ -106,30 +99,20 @@ fn is_judged(v: Verdict) -> bool {
             column: _,
         } => true,
         Verdict::TooLong { record: _ } => true,
-        Verdict::Unreadable => false,
-        Verdict::Endless => false,
-        Verdict::Once => false,
-        Verdict::Changed => false,
-        Verdict::Unwritten => false,
-        Verdict::NoRoom => false,
+        _ => false,
     }
 }
 
-// The start of a line: the file's name, where it is to stand there.
-fn name_first(out: Out, room: &mut [u8], name: &[u8], named: bool) -> Out {
-    if named {
-        return out.bytes(room, name).bytes(room, b": ");
-    }
-    out
-}
-
-// The line on standard output; whether it was written.
+// The line on standard output, behind the file's name where it is to stand there; whether it was written.
 fn line(name: &[u8], named: bool, v: Verdict) -> bool {
-    let mut room = [0u8; 512];
-    let begun = name_first(Out::new(libc::STDOUT_FILENO), &mut room, name, named);
-    let said = words(begun, &mut room, v).byte(&mut room, b'\n');
-    let done = said.flush(&room);
-    done.good
+    if named {
+        if io::write_all(libc::STDOUT_FILENO, name) {
+            let text = words(Text::new().word(b": "), v);
+            return text.byte(b'\n').write(libc::STDOUT_FILENO);
+        }
+        return false;
+    }
+    words(Text::new(), v).byte(b'\n').write(libc::STDOUT_FILENO)
 }
 
 // The reason of a failure on standard error, and the verdict on the channel: nothing on standard output.

@@ -1,15 +1,13 @@
 use Prim.Native.Nat.{_-_}
-use mathlib.Core.Path.{_≡_}
-use lib.ListN.{length}
 use borrow.Author.Needs.{needs}
 use Rattle.program_printer.proofs.write_arguments.Statement.{statement}
 use Rattle.program_printer.proofs.write_arguments.Tie as tie
 
 abbrev Inv-loop : tie.InvT-loop
-Inv-loop task sd item from progress buf₀ room₀ count i₀ buf room i = (length buf ≡ length buf₀) × (length room ≡ length room₀)
+Inv-loop way item from count i₀ i = Unit {0}
 
 abbrev μ-loop : tie.MeasureT-loop
-μ-loop task sd item from progress buf₀ room₀ count i₀ buf room i = count - i
+μ-loop way item from count i₀ i = count - i
 
 arg-count-requires : tie.Need-arg-count-requires Inv-loop μ-loop
 arg-count-requires c κs = search needs
@@ -29,12 +27,6 @@ loop-less c = search needs
 loop-again : tie.Need-loop-again Inv-loop μ-loop
 loop-again c = search needs
 
-same-length : tie.Need-same-length Inv-loop μ-loop
-same-length c = search needs
-
-same-length-2 : tie.Need-same-length-2 Inv-loop μ-loop
-same-length-2 c = search needs
-
 returns : tie.Need-returns Inv-loop μ-loop
 returns c = search needs
 
@@ -50,6 +42,4 @@ write-arguments-spec =
     add-i
     loop-less
     loop-again
-    same-length
-    same-length-2
     returns)

@@ -5,26 +5,31 @@ use Rattle.program_printer.proofs.write_records.Statement.{statement}
 use Rattle.program_printer.proofs.write_records.Tie as tie
 
 abbrev Inv-loop : tie.InvT-loop
-Inv-loop task sd item fd buf₀ room₀ atoms₀ bonds₀ records pass₀ turns₀ buf room atoms bonds pass turns =
-    (length buf ≡ length buf₀) × (length room ≡ length room₀) × (length atoms ≡ length atoms₀) × (length bonds ≡ length bonds₀)
+Inv-loop item fd buf₀ room₀ records atoms₀ bonds₀ pass₀ turns₀ buf room atoms bonds pass turns = (length buf ≡ length buf₀) × (length room ≡ length room₀)
 
 abbrev μ-loop : tie.MeasureT-loop
-μ-loop task sd item fd buf₀ room₀ atoms₀ bonds₀ records pass₀ turns₀ buf room atoms bonds pass turns = turns
+μ-loop item fd buf₀ room₀ records atoms₀ bonds₀ pass₀ turns₀ buf room atoms bonds pass turns = turns
 
-new-requires : tie.Need-new-requires Inv-loop μ-loop
-new-requires c κs = search needs
+begin-requires : tie.Need-begin-requires Inv-loop μ-loop
+begin-requires c κs = search needs
 
 loop-holds : tie.Need-loop-holds Inv-loop μ-loop
 loop-holds c = search needs
 
-step-requires : tie.Need-step-requires Inv-loop μ-loop
-step-requires c κs = search needs
+part-requires : tie.Need-part-requires Inv-loop μ-loop
+part-requires c κs = search needs
+
+put-next-requires : tie.Need-put-next-requires Inv-loop μ-loop
+put-next-requires c κs = search needs
+
+read-on-requires : tie.Need-read-on-requires Inv-loop μ-loop
+read-on-requires c κs = search needs
 
 enum-known-p : tie.Need-enum-known-p Inv-loop μ-loop
 enum-known-p c = search needs
 
-enum-known-p-2 : tie.Need-enum-known-p-2 Inv-loop μ-loop
-enum-known-p-2 c = search needs
+enum-told : tie.Need-enum-told Inv-loop μ-loop
+enum-told c = search needs
 
 finish-requires : tie.Need-finish-requires Inv-loop μ-loop
 finish-requires c κs = search needs
@@ -35,29 +40,17 @@ same-length c = search needs
 same-length-2 : tie.Need-same-length-2 Inv-loop μ-loop
 same-length-2 c = search needs
 
+returns : tie.Need-returns Inv-loop μ-loop
+returns c = search needs
+
+enum-told-2 : tie.Need-enum-told-2 Inv-loop μ-loop
+enum-told-2 c = search needs
+
 same-length-3 : tie.Need-same-length-3 Inv-loop μ-loop
 same-length-3 c = search needs
 
 same-length-4 : tie.Need-same-length-4 Inv-loop μ-loop
 same-length-4 c = search needs
-
-returns : tie.Need-returns Inv-loop μ-loop
-returns c = search needs
-
-enum-told : tie.Need-enum-told Inv-loop μ-loop
-enum-told c = search needs
-
-same-length-5 : tie.Need-same-length-5 Inv-loop μ-loop
-same-length-5 c = search needs
-
-same-length-6 : tie.Need-same-length-6 Inv-loop μ-loop
-same-length-6 c = search needs
-
-same-length-7 : tie.Need-same-length-7 Inv-loop μ-loop
-same-length-7 c = search needs
-
-same-length-8 : tie.Need-same-length-8 Inv-loop μ-loop
-same-length-8 c = search needs
 
 returns-2 : tie.Need-returns-2 Inv-loop μ-loop
 returns-2 c = search needs
@@ -65,17 +58,11 @@ returns-2 c = search needs
 enum-known-v : tie.Need-enum-known-v Inv-loop μ-loop
 enum-known-v c = search needs
 
-same-length-9 : tie.Need-same-length-9 Inv-loop μ-loop
-same-length-9 c = search needs
+same-length-5 : tie.Need-same-length-5 Inv-loop μ-loop
+same-length-5 c = search needs
 
-same-length-10 : tie.Need-same-length-10 Inv-loop μ-loop
-same-length-10 c = search needs
-
-same-length-11 : tie.Need-same-length-11 Inv-loop μ-loop
-same-length-11 c = search needs
-
-same-length-12 : tie.Need-same-length-12 Inv-loop μ-loop
-same-length-12 c = search needs
+same-length-6 : tie.Need-same-length-6 Inv-loop μ-loop
+same-length-6 c = search needs
 
 returns-3 : tie.Need-returns-3 Inv-loop μ-loop
 returns-3 c = search needs
@@ -89,17 +76,11 @@ loop-less c = search needs
 loop-again : tie.Need-loop-again Inv-loop μ-loop
 loop-again c = search needs
 
-same-length-13 : tie.Need-same-length-13 Inv-loop μ-loop
-same-length-13 c = search needs
+same-length-7 : tie.Need-same-length-7 Inv-loop μ-loop
+same-length-7 c = search needs
 
-same-length-14 : tie.Need-same-length-14 Inv-loop μ-loop
-same-length-14 c = search needs
-
-same-length-15 : tie.Need-same-length-15 Inv-loop μ-loop
-same-length-15 c = search needs
-
-same-length-16 : tie.Need-same-length-16 Inv-loop μ-loop
-same-length-16 c = search needs
+same-length-8 : tie.Need-same-length-8 Inv-loop μ-loop
+same-length-8 c = search needs
 
 returns-4 : tie.Need-returns-4 Inv-loop μ-loop
 returns-4 c = search needs
@@ -110,34 +91,28 @@ write-records-spec =
     (tie.spec
     Inv-loop
     μ-loop
-    new-requires
+    begin-requires
     loop-holds
-    step-requires
+    part-requires
+    put-next-requires
+    read-on-requires
     enum-known-p
-    enum-known-p-2
+    enum-told
     finish-requires
     same-length
     same-length-2
+    returns
+    enum-told-2
     same-length-3
     same-length-4
-    returns
-    enum-told
-    same-length-5
-    same-length-6
-    same-length-7
-    same-length-8
     returns-2
     enum-known-v
-    same-length-9
-    same-length-10
-    same-length-11
-    same-length-12
+    same-length-5
+    same-length-6
     returns-3
     sub-turns
     loop-less
     loop-again
-    same-length-13
-    same-length-14
-    same-length-15
-    same-length-16
+    same-length-7
+    same-length-8
     returns-4)

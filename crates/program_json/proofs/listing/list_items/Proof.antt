@@ -31,8 +31,8 @@ returns c = search needs
 part-requires : tie.Need-part-requires Inv-loop μ-loop
 part-requires c κs = search needs
 
-at-line-requires : tie.Need-at-line-requires Inv-loop μ-loop
-at-line-requires c κs = search needs
+put-line-requires : tie.Need-put-line-requires Inv-loop μ-loop
+put-line-requires c κs = search needs
 
 sub-turns : tie.Need-sub-turns Inv-loop μ-loop
 sub-turns c = search needs
@@ -62,7 +62,7 @@ list-items-spec =
     same-length
     returns
     part-requires
-    at-line-requires
+    put-line-requires
     sub-turns
     loop-less
     loop-again

@@ -1,0 +1,58 @@
+// Reads the records of files. The first argument says what is written of them; what stands behind it is that sub-command's own.
+use program_printer::Task;
+
+enum Verb {
+    Read,
+    Fetch,
+    Canon,
+    Unknown,
+}
+
+fn asked() -> Verb {
+    if program_io::is_argument(1, b"read") {
+        return Verb::Read;
+    }
+    if program_io::is_argument(1, b"fetch") {
+        return Verb::Fetch;
+    }
+    if program_io::is_argument(1, b"canon") {
+        return Verb::Canon;
+    }
+    Verb::Unknown
+}
+
+// Every record as JSON, one object a line: `molfile` or `sdfile`, perhaps `--progress`, then the names.
+fn read() {
+    let sd = program_io::is_argument(2, b"sdfile");
+    program_printer::run(Task::Readings, sd, b"", 3);
+}
+
+// The item of a name in every record of SDfiles as JSON: the name, perhaps `--progress`, then the names of the files.
+fn fetch() {
+    let mut item = io::buffer();
+    let n = os::arg(2, &mut item);
+    if os::errno() != 0 {
+        os::fail(b"name of the item");
+        return;
+    }
+    program_printer::run(Task::Item, true, &item[..n], 3);
+}
+
+// The canonical text of SDfiles: perhaps `--progress`, then the names.
+fn canon() {
+    program_printer::run(Task::Canon, true, b"", 2);
+}
+
+fn main() {
+    match asked() {
+        Verb::Read => read(),
+        Verb::Fetch => fetch(),
+        Verb::Canon => canon(),
+        Verb::Unknown => {
+            io::write_all(
+                libc::STDERR_FILENO,
+                b"records: no sub-command of this name\n",
+            );
+        }
+    }
+}
