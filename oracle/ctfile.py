@@ -134,10 +134,9 @@ def atom_numbers(atom, number, found):
     charge = CODE_CHARGE.get(code, 0)
     radical = 2 if code == 4 else 0
     mass, isotope = atom["mass"], 0
-    if b"CHG" in found:
-        charge = found[b"CHG"].get(number, 0)
-    if b"RAD" in found:
-        radical = found[b"RAD"].get(number, 0)
+    if b"CHG" in found or b"RAD" in found:      # a line of either kind voids all codes of the record
+        charge = found.get(b"CHG", {}).get(number, 0)
+        radical = found.get(b"RAD", {}).get(number, 0)
     if b"ISO" in found:
         mass, isotope = 0, found[b"ISO"].get(number, 0)
     return [atom["x"], atom["y"], atom["z"], atom["symbol"], mass, charge, radical, isotope,

@@ -20,6 +20,7 @@ COORDINATES = [0, 1, -1, 9999, -9999, 10000, 12500, -8250, 999_999_999, -99_999_
 STEREO = {1: [0, 1, 4, 6], 2: [0, 3]}
 CENTRES = [-1, 0, 1, 2, 4, 5, 8, 9, 12, 13]
 CHARGES = [0, 3, 2, 1, 0, -1, -2, -3]         # by charge code
+NUMBERS = {"CHG": (-15, 15), "RAD": (0, 3), "ISO": (1, 999)}
 ATOM_TOPS = [("parity", 3), ("hydrogens", 5), ("care", 1), ("valence", 15), ("h0", 1)]
 NAMES = [b"A", b"LOT", b"a b", b" ", b"$$$$", b"=" * 30, b"B 7 " * 7 + b"..", b"M  END", b"LOT2"]
 VALUES = [b"00417", b">98%", b"> <A", b"><A>", b">  <>", b">  <A> x", b">  <A<B>", b" > <A>",
@@ -55,10 +56,12 @@ class Draft:
     def truth(self):
         """The reading that a record spelled from this draft has."""
         charges, radicals, isotopes = map(self.listed, ("CHG", "RAD", "ISO"))
+        if charges is None and radicals is None:    # codes count only where neither kind has a line
+            charges = {k: CHARGES[a["code"]] for k, a in enumerate(self.atoms, 1)}
+            radicals = {k: 2 for k, a in enumerate(self.atoms, 1) if a["code"] == 4}
         atoms = []
         for k, a in enumerate(self.atoms, 1):
-            charge = CHARGES[a["code"]] if charges is None else charges.get(k, 0)
-            radical = (2 if a["code"] == 4 else 0) if radicals is None else radicals.get(k, 0)
+            charge, radical = (charges or {}).get(k, 0), (radicals or {}).get(k, 0)
             mass = a["mass"] if isotopes is None else 0
             isotope = 0 if isotopes is None else isotopes.get(k, 0)
             atoms.append((*a["xyz"], a["symbol"], mass, charge, radical, isotope, a["parity"],
@@ -97,19 +100,35 @@ def draft_bonds(rng, n, m):
     return bonds
 
 
+def draft_lines(rng, n, tag, low, high):
+    """Lines of one kind, of one to eight entries each, for some of the atoms."""
+    lines, atoms = [], rng.sample(range(1, n + 1), rng.randrange(1, n + 1))
+    while atoms:
+        size = rng.choice([1, 2, 8, 8])
+        now, atoms = atoms[:size], atoms[size:]
+        lines.append((tag, [(a, rng.randrange(low, high + 1)) for a in now]))
+    return lines
+
+
 def draft_properties(rng, n):
-    """Lines of one to eight entries; the kinds may stand in any order and come again."""
+    """The kinds may stand in any order and come again."""
     lines = []
-    for tag, low, high in (("CHG", -15, 15), ("RAD", 0, 3), ("ISO", 1, 999)):
-        if n == 0 or rng.random() < 0.5:
-            continue
-        atoms = rng.sample(range(1, n + 1), rng.randrange(1, n + 1))
-        while atoms:
-            size = rng.choice([1, 2, 8, 8])
-            now, atoms = atoms[:size], atoms[size:]
-            lines.append((tag, [(a, rng.randrange(low, high + 1)) for a in now]))
+    for tag, (low, high) in NUMBERS.items():
+        if n > 0 and rng.random() >= 0.5:
+            lines += draft_lines(rng, n, tag, low, high)
     rng.shuffle(lines)
     return lines
+
+
+def codes_beside_one_kind(rng, draft):
+    """A code on every atom, and lines of charges alone or of radicals alone, at times only zeros."""
+    tag = rng.choice(["CHG", "RAD"])
+    low, high = rng.choice([NUMBERS[tag], NUMBERS[tag], (0, 0)])
+    for atom in draft.atoms:
+        atom["code"] = rng.randrange(1, 8)
+    isotopes = [line for line in draft.properties if line[0] == "ISO"]
+    draft.properties = isotopes + draft_lines(rng, draft.n, tag, low, high)
+    rng.shuffle(draft.properties)
 
 
 def draft_record(rng, n=None, m=None, items=None):
@@ -121,6 +140,8 @@ def draft_record(rng, n=None, m=None, items=None):
     draft.atoms = [draft_atom(rng, n) for _ in range(n)]
     draft.bonds = draft_bonds(rng, n, rng.randrange(min(most, 6) + 1) if m is None else m)
     draft.properties = draft_properties(rng, n)
+    if n > 0 and rng.random() < 0.2:
+        codes_beside_one_kind(rng, draft)
     for _ in range(rng.choice([0, 1, 1, 2, 3]) if items is None else items):
         values = [rng.choice(VALUES) for _ in range(rng.choice([0, 1, 1, 2]))]
         draft.items.append((rng.choice(NAMES), values))

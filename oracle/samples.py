@@ -1,4 +1,4 @@
-"""A sample record with a line of every kind, and small edits of it."""
+"""A sample record with a line of every kind, small edits of it, and a record with every charge code."""
 
 from ctfile import read_record
 
@@ -32,6 +32,13 @@ def edit(line=None, text=None, column=None, drop=None):
     elif line:
         lines[line - 1] = text
     return b"".join(l + b"\n" for l in lines)
+
+
+def coded(*properties):
+    """A record whose eight atoms have the codes 0 to 7 and mass difference 1, with these property lines."""
+    rows = [b"", b"", b"", b"  8  0".ljust(33) + b" V2000"]
+    rows += [b" " * 31 + b"C   1%3d" % code for code in range(8)]
+    return b"".join(row + b"\n" for row in rows + [*properties, b"M  END", b"$$$$"])
 
 
 def tables(atoms=255, bonds=255, fill=FILL):

@@ -7,6 +7,7 @@ import sys
 
 import crosschecks
 import field_tests
+import meaning_tests
 import part_tests
 import scanner_tests
 import writer_tests
@@ -79,9 +80,9 @@ def easy_mistakes():
     _, atoms, _ = read(edit(drop=8))
     expect("code without a line", atoms[16 + 5], -1)
     _, atoms, _ = read(edit(6, b"4", 39))
-    expect("code 4 beside M  CHG", atoms[16 + 5:16 + 7], [-1, 2])
+    expect("code 4 beside M  CHG", atoms[16 + 5:16 + 7], [-1, 0])
     _, atoms, _ = read(edit(8, b"M  RAD  1   1   3"))
-    expect("charge code beside M  RAD", (atoms[21], atoms[6], atoms[22]), (-1, 3, 0))
+    expect("charge code beside M  RAD", (atoms[21], atoms[6], atoms[22]), (0, 3, 0))
     _, atoms, _ = read(edit(8, b"M  ISO  1   1  13").replace(b"O   0", b"O  -2"))
     expect("mass difference beside M  ISO", (atoms[7], atoms[23], atoms[20]), (13, 0, 0))
 
@@ -183,7 +184,8 @@ def counting():
 
 if __name__ == "__main__":
     for test in (bench_samples, sample_record, easy_mistakes, refusals_by_hand, good_by_hand, counting,
-                 *writer_tests.ALL, *part_tests.ALL, *scanner_tests.ALL, *field_tests.ALL, *crosschecks.ALL):
+                 *meaning_tests.ALL, *writer_tests.ALL, *part_tests.ALL, *scanner_tests.ALL, *field_tests.ALL,
+                 *crosschecks.ALL):
         before = len(FAILURES)
         try:
             test()

@@ -22,7 +22,7 @@ from generate import (NAMES, all_symbols, draft_record, file_rows, good_drafts, 
                       record_rows, to_bytes)
 from lines import Refusal, Sheet
 from logs import any_log, fixed_logs
-from samples import MOLFILE, SAMPLE, edit
+from samples import MOLFILE, SAMPLE, coded, edit
 from scanner import replay
 from writer import catalogue_text, text_of
 
@@ -30,8 +30,8 @@ MOST_STORED = 3_000_000     # bytes of all stored files together
 LEAST_OF_EACH = 10          # stored cases for every refusal number that an operation can give
 BASE = ("check", "read", "fetch", "write", "catalogue")
 STORED = {                  # seed, cases, operations
-    "base": (1, 2400, BASE), "copy": (4, 540, ("copy",)), "feed": (9, 460, ("feed",)),
-    "next": (10, 420, ("next",)), "replay": (5, 700, ("replay",))}
+    "base": (1, 2400, BASE), "copy": (2, 540, ("copy",)), "feed": (1, 460, ("feed",)),
+    "next": (21, 420, ("next",)), "replay": (5, 700, ("replay",))}
 LINES = {*range(3, 18), 19}  # refusals that a record of an SDfile can meet
 NUMBERS = {
     "check": {1, 18} | LINES, "read": {1, 2, 18} | LINES, "fetch": {22} | LINES,
@@ -315,6 +315,18 @@ def sample_cases():
         yield replay_case(log)
 
 
+def coded_cases():
+    """Every charge code beside lines of charges, of radicals, of both and of neither; a line of zeros is one too."""
+    charge, radical, isotope = b"M  CHG  1   2   1", b"M  RAD  1   3   1", b"M  ISO  1   1  13"
+    for lines in ([], [isotope], [charge], [radical], [radical, charge], [isotope, radical],
+                  [b"M  CHG  1   1   0"], [b"M  RAD  1   1   0"]):
+        data = coded(*lines)
+        yield read_case(1, 255, 255, data)
+        yield catalogue_case(255, 255, 999, data)
+        yield copy_case(1, 255, 255, 999, data)
+        yield next_case((0, 0, 0), 255, 255, data)
+
+
 def fixed_cases(rng):
     """Large and small extremes that chance would not bring."""
     yield check_case(0, b"")
@@ -351,7 +363,7 @@ MAKERS = [make_check] * 35 + [make_read] * 25 + [make_fetch] * 10 + [make_write]
 def case_list(seed, count, operations):
     rng = random.Random(seed)
     cases = list(fixed_cases(rng)) + list(sweeps(rng, count // 6))
-    cases += sample_cases()
+    cases += [*sample_cases(), *coded_cases()]
     cases = [case for case in cases if operation_of(case) in operations]
     makers = [make for make in MAKERS if make.__name__[5:] in operations]
     while len(cases) < count:

@@ -15,7 +15,7 @@ use Rattle.rules.specs.Meaning.{chargeOfCode, radicalOfCode}
 use Rattle.line_property.specs.Listed.{places}
 use Rattle.line_fields.specs.Steps.{hop}
 use Rattle.reader_tables.specs.Mean.{anyAfter, numberKept, chargeBy, radicalBy, massBy, codeIn}
-use Rattle.reader_tables.specs.declared.Kinds.{Kinds}
+use Rattle.reader_tables.specs.declared.Superseded.{Superseded}
 
 -- ---- some place is in use
 
@@ -77,15 +77,15 @@ pub ruleset keeping = (kept-none, kept-plain, kept-minus)
 code-is : (z : ℤ) (k : ℕ) → SFits w32 z → ofZ w32 z ≡ k → k < 8 → z ≡ pos k
 code-is z k f e h = sym (hop z f) ∙ ap (toZ w32) e ∙ toZ-pos w32 {n = k} (omega arith)
 
-module _ (kinds : Kinds) (z n : ℤ) where
-  pub charge-listed : (r : ℤ) → kinds .charges ≡ true → SFits w32 r → r ≡ n → toZ w32 (ofZ w32 r) ≡ chargeBy kinds (codeIn z) n
+module _ (over : Superseded) (z n : ℤ) where
+  pub charge-listed : (r : ℤ) → over .codes ≡ true → SFits w32 r → r ≡ n → toZ w32 (ofZ w32 r) ≡ chargeBy over (codeIn z) n
   charge-listed r h f e = hop r f ∙ rw h e
 
-  pub charge-coded : (k : ℕ) (r : ℤ) → kinds .charges ≡ false → SFits w32 z → ofZ w32 z ≡ k → k < 8 → r ≡ chargeOfCode k → r ≡ chargeBy kinds (codeIn z) n
+  pub charge-coded : (k : ℕ) (r : ℤ) → over .codes ≡ false → SFits w32 z → ofZ w32 z ≡ k → k < 8 → r ≡ chargeOfCode k → r ≡ chargeBy over (codeIn z) n
   charge-coded k r h f e i q = rw (h, code-is z k f e i) q
 
-  pub charge-none : kinds .charges ≡ false → (ofZ w32 z ≡ 1 → ⊥) → (ofZ w32 z ≡ 2 → ⊥) → (ofZ w32 z ≡ 3 → ⊥) → (ofZ w32 z ≡ 5 → ⊥) → (ofZ w32 z ≡ 6 → ⊥) → (ofZ w32 z ≡ 7 → ⊥) →
-      pos 0 ≡ chargeBy kinds (codeIn z) n
+  pub charge-none : over .codes ≡ false → (ofZ w32 z ≡ 1 → ⊥) → (ofZ w32 z ≡ 2 → ⊥) → (ofZ w32 z ≡ 3 → ⊥) → (ofZ w32 z ≡ 5 → ⊥) → (ofZ w32 z ≡ 6 → ⊥) → (ofZ w32 z ≡ 7 → ⊥) →
+      pos 0 ≡ chargeBy over (codeIn z) n
   charge-none h a b c d e f = rw h (go z a b c d e f)
     where
       go : (z : ℤ) → (ofZ w32 z ≡ 1 → ⊥) → (ofZ w32 z ≡ 2 → ⊥) → (ofZ w32 z ≡ 3 → ⊥) → (ofZ w32 z ≡ 5 → ⊥) → (ofZ w32 z ≡ 6 → ⊥) → (ofZ w32 z ≡ 7 → ⊥) → pos 0 ≡ chargeOfCode (codeIn z)
@@ -100,23 +100,23 @@ module _ (kinds : Kinds) (z n : ℤ) where
       go (pos (suc (suc (suc (suc (suc (suc (suc zero)))))))) a b c d e f = absurd (f refl)
       go (pos (suc (suc (suc (suc (suc (suc (suc (suc k))))))))) a b c d e f = refl
 
-  pub radical-listed : (r : ℤ) → kinds .radicals ≡ true → SFits w32 r → r ≡ n → toZ w32 (ofZ w32 r) ≡ radicalBy kinds (codeIn z) n
+  pub radical-listed : (r : ℤ) → over .codes ≡ true → SFits w32 r → r ≡ n → toZ w32 (ofZ w32 r) ≡ radicalBy over (codeIn z) n
   radical-listed r h f e = hop r f ∙ rw h e
 
-  pub radical-coded : kinds .radicals ≡ false → SFits w32 z → ofZ w32 z ≡ 4 → pos 2 ≡ radicalBy kinds (codeIn z) n
+  pub radical-coded : over .codes ≡ false → SFits w32 z → ofZ w32 z ≡ 4 → pos 2 ≡ radicalBy over (codeIn z) n
   radical-coded h f e = rw (h, code-is z 4 f e (omega arith))
 
-  pub radical-none : kinds .radicals ≡ false → (ofZ w32 z ≡ 4 → ⊥) → pos 0 ≡ radicalBy kinds (codeIn z) n
+  pub radical-none : over .codes ≡ false → (ofZ w32 z ≡ 4 → ⊥) → pos 0 ≡ radicalBy over (codeIn z) n
   radical-none h a = rw h (go z a)
     where
       go : (z : ℤ) → (ofZ w32 z ≡ 4 → ⊥) → pos 0 ≡ radicalOfCode (codeIn z)
       go (negsuc k) a = refl
       go (pos k) a = rw (ne-eqb k 4 (λ (q : k ≡ 4). a q))
 
-  pub mass-none : kinds .isotopes ≡ true → pos 0 ≡ massBy kinds z
+  pub mass-none : over .masses ≡ true → pos 0 ≡ massBy over z
   mass-none h = rw h
 
-  pub mass-kept : kinds .isotopes ≡ false → SFits w32 z → toZ w32 (ofZ w32 z) ≡ massBy kinds z
+  pub mass-kept : over .masses ≡ false → SFits w32 z → toZ w32 (ofZ w32 z) ≡ massBy over z
   mass-kept h f = rw h (hop z f)
 
 pub ruleset meaning = (charge-listed, charge-coded, charge-none, radical-listed, radical-coded, radical-none, mass-none, mass-kept)

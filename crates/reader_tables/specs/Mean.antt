@@ -1,7 +1,7 @@
 -- The meaning of the rows that a record's reading stored, given by its table of listed numbers. Each row is changed once, after the last line.
 use Prim.Native.Nat.{ℕ, zero, suc, _+_, _*_, _-_, _≤_}
 use mathlib.Core.List.{List, [], _∷_}
-use mathlib.Core.Bool.{Bool, true, false, cond}
+use mathlib.Core.Bool.{Bool, true, false, cond, _||_}
 use lib.Dec.{eqb, leb}
 use lib.ListN.{getD}
 use lib.Seq.{sets}
@@ -9,7 +9,7 @@ use lib.IntN.{ℤ, pos, negsuc, negℤ}
 use Rattle.rules.specs.Forms.{Kind, CHG, RAD, ISO}
 use Rattle.rules.specs.Meaning.{chargeOfCode, radicalOfCode}
 use Rattle.line_property.specs.Listed.{base, slot}
-use Rattle.reader_tables.specs.declared.Kinds.{Kinds}
+use Rattle.reader_tables.specs.declared.Superseded.{Superseded}
 
 -- ---- what is listed
 
@@ -22,8 +22,11 @@ anyAfter from t (suc a) = cond (eqb (getD t (from + suc a) 0) 0) (anyAfter from 
 abbrev pub anyListed : Kind → List ℕ → ℕ → Bool
 anyListed kind t n = anyAfter (base kind) t n
 
-abbrev pub kindsIn : ℕ → List ℕ → Kinds
-kindsIn n t = record { charges = anyListed CHG t n; radicals = anyListed RAD t n; isotopes = anyListed ISO t n }
+abbrev pub codesIn : ℕ → List ℕ → Bool
+codesIn n t = anyListed CHG t n || anyListed RAD t n
+
+abbrev pub supersededIn : ℕ → List ℕ → Superseded
+supersededIn n t = record { codes = codesIn n t; masses = anyListed ISO t n }
 
 -- the number that a place keeps; 0 if none
 abbrev pub numberKept : ℕ → ℤ
@@ -38,14 +41,14 @@ pub record Kept (n : ℕ) (t : List ℕ) : Type 0 where
 
 -- ---- which kind of line supersedes what
 
-abbrev pub chargeBy : Kinds → ℕ → ℤ → ℤ
-chargeBy kinds code number = cond (kinds .charges) number (chargeOfCode code)
+abbrev pub chargeBy : Superseded → ℕ → ℤ → ℤ
+chargeBy over code number = cond (over .codes) number (chargeOfCode code)
 
-abbrev pub radicalBy : Kinds → ℕ → ℤ → ℤ
-radicalBy kinds code number = cond (kinds .radicals) number (radicalOfCode code)
+abbrev pub radicalBy : Superseded → ℕ → ℤ → ℤ
+radicalBy over code number = cond (over .codes) number (radicalOfCode code)
 
-abbrev pub massBy : Kinds → ℤ → ℤ
-massBy kinds mass = cond (kinds .isotopes) (pos 0) mass
+abbrev pub massBy : Superseded → ℤ → ℤ
+massBy over mass = cond (over .masses) (pos 0) mass
 
 -- ---- rows
 
@@ -55,21 +58,21 @@ codeIn (pos k) = k
 codeIn (negsuc k) = 0
 
 -- mass difference, charge, radical and isotope of row i; rows count from 0, atoms from 1
-abbrev pub fourOf : Kinds → List ℕ → ℕ → List ℤ → List ℤ
-fourOf kinds listed i t =
+abbrev pub fourOf : Superseded → List ℕ → ℕ → List ℤ → List ℤ
+fourOf over listed i t =
     let code = codeIn (getD t (16 * i + 5) (pos 0)) in
-    massBy kinds (getD t (16 * i + 4) (pos 0)) ∷
-    chargeBy kinds code (listedNumber CHG listed (i + 1)) ∷
-    radicalBy kinds code (listedNumber RAD listed (i + 1)) ∷
+    massBy over (getD t (16 * i + 4) (pos 0)) ∷
+    chargeBy over code (listedNumber CHG listed (i + 1)) ∷
+    radicalBy over code (listedNumber RAD listed (i + 1)) ∷
     listedNumber ISO listed (i + 1) ∷ []
 
-abbrev pub meantRow : Kinds → List ℕ → ℕ → List ℤ → List ℤ
-meantRow kinds listed i t = sets t (16 * i + 4) (fourOf kinds listed i t)
+abbrev pub meantRow : Superseded → List ℕ → ℕ → List ℤ → List ℤ
+meantRow over listed i t = sets t (16 * i + 4) (fourOf over listed i t)
 
 -- k rows from row i on
-unfoldable pub meantFrom : Kinds → List ℕ → ℕ → ℕ → List ℤ → List ℤ
-meantFrom kinds listed i zero t = t
-meantFrom kinds listed i (suc k) t = meantFrom kinds listed (suc i) k (meantRow kinds listed i t)
+unfoldable pub meantFrom : Superseded → List ℕ → ℕ → ℕ → List ℤ → List ℤ
+meantFrom over listed i zero t = t
+meantFrom over listed i (suc k) t = meantFrom over listed (suc i) k (meantRow over listed i t)
 
 abbrev pub meant : ℕ → List ℤ → List ℕ → List ℤ
-meant n t listed = meantFrom (kindsIn n listed) listed 0 n t
+meant n t listed = meantFrom (supersededIn n listed) listed 0 n t

@@ -19,8 +19,8 @@ use Rattle.line_property.specs.Listed.{base, noted, notedIn, Shows}
 use Rattle.line_property.specs.Shown.{noted-some}
 use Rattle.reader_tables.specs.Row.{rawRow, rawRows, flat, Holds}
 use Rattle.reader_tables.specs.Held.{drop-sets}
-use Rattle.reader_tables.specs.Mean.{anyAfter, anyListed, kindsIn, numberKept, listedNumber, Kept, fourOf, meantRow, meantFrom, meant}
-use Rattle.reader_tables.specs.declared.Kinds.{Kinds}
+use Rattle.reader_tables.specs.Mean.{anyAfter, anyListed, supersededIn, numberKept, listedNumber, Kept, fourOf, meantRow, meantFrom, meant}
+use Rattle.reader_tables.specs.declared.Superseded.{Superseded}
 use Rattle.line_property.specs.Proper.{ProperEntries, Proper, listed-proper, some-listed}
 
 -- ---- numbers kept
@@ -110,7 +110,7 @@ sets-seam p vs os q i e h =
 -- ---- rows
 
 module _ (n : ℕ) (t : List ℕ) (m : Molecule) (shows : Shows n t (m .properties)) (proper : Proper n (m .properties)) where
-  row-is : (pre q : List ℤ) (a : Atom) (i : ℕ) → length pre ≡ 16 * i → suc i ≤ n → meantRow (kindsIn n t) t i (pre ++ (rawRow a ++ q)) ≡ pre ++ (atomNumbers m (suc i) a ++ q)
+  row-is : (pre q : List ℤ) (a : Atom) (i : ℕ) → length pre ≡ 16 * i → suc i ≤ n → meantRow (supersededIn n t) t i (pre ++ (rawRow a ++ q)) ≡ pre ++ (atomNumbers m (suc i) a ++ q)
   row-is pre q a i h k =
       let whole : List ℤ = pre ++ (rawRow a ++ q) in
       let front : List ℤ = a .x ∷ a .y ∷ a .z ∷ pos (a .symbol) ∷ [] in
@@ -138,13 +138,13 @@ module _ (n : ℕ) (t : List ℕ) (m : Molecule) (shows : Shows n t (m .properti
       ∙ append-assoc pre front (massDifferenceOf m a ∷ chargeOf m (suc i) a ∷ radicalOf m (suc i) a ∷ isotopeOf m (suc i) ∷ back))
 
   rows-are : (xs : List Atom) (pre rest : List ℤ) (i : ℕ) → length pre ≡ 16 * i → i + length xs ≤ n →
-      meantFrom (kindsIn n t) t i (length xs) (pre ++ (rawRows xs ++ rest)) ≡ pre ++ (flat (atomsFrom m (suc i) xs) ++ rest)
+      meantFrom (supersededIn n t) t i (length xs) (pre ++ (rawRows xs ++ rest)) ≡ pre ++ (flat (atomsFrom m (suc i) xs) ++ rest)
   unfolding meantFrom rawRows flat atomsFrom
   rows-are [] pre rest i h k = refl
   rows-are (a ∷ xs) pre rest i h k =
       let row : List ℤ = atomNumbers m (suc i) a in
       let l : length (pre ++ row) ≡ 16 * suc i = length-append pre row ∙ omega arith in
-      ap (meantFrom (kindsIn n t) t (suc i) (length xs)) (row-is pre (rawRows xs ++ rest) a i h (omega arith) ∙ sym (append-assoc pre row (rawRows xs ++ rest)))
+      ap (meantFrom (supersededIn n t) t (suc i) (length xs)) (row-is pre (rawRows xs ++ rest) a i h (omega arith) ∙ sym (append-assoc pre row (rawRows xs ++ rest)))
       ∙ rows-are xs (pre ++ row) rest (suc i) l (omega arith)
       ∙ append-assoc pre row (flat (atomsFrom m (suc (suc i)) xs) ++ rest)
 
@@ -155,30 +155,30 @@ module _ (n : ℕ) (t : List ℕ) (m : Molecule) (shows : Shows n t (m .properti
       let rest : List ℤ = drop (length rows) u in
       let whole : u ≡ rows ++ rest = sym (take-append-drop (length rows) u) ∙ ap (λ (x : List ℤ). x ++ rest) h in
       let done : meant n u t ≡ flat (atomsFrom m 1 xs) ++ rest =
-      ap (λ (k : ℕ). meantFrom (kindsIn n t) t 0 k u) (sym e)
-      ∙ ap (meantFrom (kindsIn n t) t 0 (length xs)) whole
+      ap (λ (k : ℕ). meantFrom (supersededIn n t) t 0 k u) (sym e)
+      ∙ ap (meantFrom (supersededIn n t) t 0 (length xs)) whole
       ∙ rows-are xs [] rest 0 refl (omega arith)
       in
       ap (take (length (flat (atomsFrom m 1 xs)))) done ∙ take-at (flat (atomsFrom m 1 xs)) rest (length (flat (atomsFrom m 1 xs))) refl
 
 -- ---- what stays as it was
 
-module _ (kinds : Kinds) (t : List ℕ) where
-  from-length : (i k : ℕ) (u : List ℤ) → length (meantFrom kinds t i k u) ≡ length u
+module _ (over : Superseded) (t : List ℕ) where
+  from-length : (i k : ℕ) (u : List ℤ) → length (meantFrom over t i k u) ≡ length u
   unfolding meantFrom
   from-length i zero u = refl
-  from-length i (suc k) u = from-length (suc i) k (meantRow kinds t i u) ∙ simp length-sets
+  from-length i (suc k) u = from-length (suc i) k (meantRow over t i u) ∙ simp length-sets
 
-  from-past : (i k j : ℕ) (u : List ℤ) → 16 * (i + k) ≤ j → drop j (meantFrom kinds t i k u) ≡ drop j u
+  from-past : (i k j : ℕ) (u : List ℤ) → 16 * (i + k) ≤ j → drop j (meantFrom over t i k u) ≡ drop j u
   unfolding meantFrom
   from-past i zero j u h = refl
-  from-past i (suc k) j u h = from-past (suc i) k j (meantRow kinds t i u) (omega arith) ∙ drop-sets (fourOf kinds t i u) u (16 * i + 4) j (omega arith)
+  from-past i (suc k) j u h = from-past (suc i) k j (meantRow over t i u) (omega arith) ∙ drop-sets (fourOf over t i u) u (16 * i + 4) j (omega arith)
 
 pub meant-length : (n : ℕ) (u : List ℤ) (t : List ℕ) → length (meant n u t) ≡ length u
-meant-length n u t = from-length (kindsIn n t) t 0 n u
+meant-length n u t = from-length (supersededIn n t) t 0 n u
 
 pub meant-past : (n : ℕ) (u : List ℤ) (t : List ℕ) (j : ℕ) → 16 * n ≤ j → drop j (meant n u t) ≡ drop j u
-meant-past n u t j h = from-past (kindsIn n t) t 0 n j u (omega arith)
+meant-past n u t j h = from-past (supersededIn n t) t 0 n j u (omega arith)
 
 pub length-meant-rows : (m : Molecule) (i : ℕ) (xs : List Atom) → length (flat (atomsFrom m i xs)) ≡ 16 * length xs
 unfolding flat atomsFrom

@@ -12,7 +12,7 @@ ghost use Rattle.line_property.specs.Listed.{places};
 ghost use Rattle.reader_tables.specs.Row.{rawRow, SmallAtom, SmallBond};
 ghost use Rattle.reader_tables.specs.Parts.{placeRow, codesRow, restRow, SmallCodes};
 ghost use Rattle.reader_tables.specs.Filled.{cleared};
-ghost use Rattle.reader_tables.specs.Mean.{anyAfter, numberKept, chargeBy, radicalBy, massBy, codeIn, Kept, kindsIn, meantRow, meant};
+ghost use Rattle.reader_tables.specs.Mean.{anyAfter, numberKept, chargeBy, radicalBy, massBy, codeIn, Kept, codesIn, supersededIn, meantRow, meant};
 use line_atom::Atom;
 use line_atom::AtomCodes;
 use line_atom::AtomPlace;
@@ -22,11 +22,10 @@ use line_property::LISTED;
 // Places of one kind in the table of listed numbers.
 const PLACES: usize = LISTED / 3;
 
-// Of which kinds a record has property lines.
-struct Kinds {
-    charges: bool,
-    radicals: bool,
-    isotopes: bool,
+// What a record's property lines supersede: a line of charges or of radicals every code, a line of isotopes every mass difference.
+struct Superseded {
+    codes: bool,
+    masses: bool,
 }
 
 // Where an atom stands and what it is: the first four numbers of its row.
@@ -155,11 +154,11 @@ fn number_kept(k: u32) -> i32
 }
 
 // The charge of an atom: listed, or that of its code.
-fn charge_of(kinds: Kinds, code: i32, kept: u32) -> i32
+fn charge_of(over: Superseded, code: i32, kept: u32) -> i32
     requires { ⌜ kept ≤ 1015 ⌝ }
-    ensures { λ r. ⌜ r ≡ chargeBy kinds (codeIn code) (numberKept kept) ⌝ }
+    ensures { λ r. ⌜ r ≡ chargeBy over (codeIn code) (numberKept kept) ⌝ }
 {
-    if kinds.charges {
+    if over.codes {
         return number_kept(kept);
     }
     if code == 1 {
@@ -184,11 +183,11 @@ fn charge_of(kinds: Kinds, code: i32, kept: u32) -> i32
 }
 
 // The radical of an atom: listed, or that of its code.
-fn radical_of(kinds: Kinds, code: i32, kept: u32) -> i32
+fn radical_of(over: Superseded, code: i32, kept: u32) -> i32
     requires { ⌜ kept ≤ 1015 ⌝ }
-    ensures { λ r. ⌜ r ≡ radicalBy kinds (codeIn code) (numberKept kept) ⌝ }
+    ensures { λ r. ⌜ r ≡ radicalBy over (codeIn code) (numberKept kept) ⌝ }
 {
-    if kinds.radicals {
+    if over.codes {
         return number_kept(kept);
     }
     if code == 4 {
@@ -198,10 +197,10 @@ fn radical_of(kinds: Kinds, code: i32, kept: u32) -> i32
 }
 
 // Isotopes put an end to mass differences.
-fn mass_of(kinds: Kinds, mass: i32) -> i32
-    ensures { λ r. ⌜ r ≡ massBy kinds mass ⌝ }
+fn mass_of(over: Superseded, mass: i32) -> i32
+    ensures { λ r. ⌜ r ≡ massBy over mass ⌝ }
 {
-    if kinds.isotopes { 0 } else { mass }
+    if over.masses { 0 } else { mass }
 }
 
 // Four numbers from place `at` on.
@@ -216,30 +215,40 @@ fn put_four(table: &mut [i32], at: usize, a: i32, b: i32, c: i32, d: i32)
 }
 
 // Row i, of atom i + 1, gets its meaning.
-fn mean_row(atoms: &mut [i32], i: usize, listed: &[u32; LISTED], kinds: Kinds)
+fn mean_row(atoms: &mut [i32], i: usize, listed: &[u32; LISTED], over: Superseded)
     requires { ⌜ (i < limit) × (16 * i + 16 ≤ length (now atoms)) × Kept (i + 1) (now listed) ⌝ }
-    ensures { λ r. ⌜ now (atoms .exit) ≡ meantRow kinds (now (listed .entry)) i (now (atoms .entry)) ⌝ }
+    ensures { λ r. ⌜ now (atoms .exit) ≡ meantRow over (now (listed .entry)) i (now (atoms .entry)) ⌝ }
 {
     let at = 16 * i;
     let atom = i + 1;
     let mass = atoms[at + 4];
     let code = atoms[at + 5];
-    let mass = mass_of(kinds, mass);
-    let charge = charge_of(kinds, code, listed[atom]);
-    let radical = radical_of(kinds, code, listed[PLACES + atom]);
+    let mass = mass_of(over, mass);
+    let charge = charge_of(over, code, listed[atom]);
+    let radical = radical_of(over, code, listed[PLACES + atom]);
     let isotope = number_kept(listed[2 * PLACES + atom]);
     put_four(atoms, at + 4, mass, charge, radical, isotope);
 }
 
-// Of which kinds some atom of 1 to n is listed.
-fn kinds_in(listed: &[u32; LISTED], n: usize) -> Kinds
+// Whether a line of charges or of radicals lists some atom of 1 to n.
+fn codes_void(listed: &[u32; LISTED], n: usize) -> bool
     requires { ⌜ n ≤ limit ⌝ }
-    ensures { λ r. ⌜ r ≡ kindsIn n (now (listed .entry)) ⌝ }
+    ensures { λ r. ⌜ r ≡ codesIn n (now (listed .entry)) ⌝ }
 {
-    Kinds {
-        charges: any_listed(listed, 0, n),
-        radicals: any_listed(listed, PLACES, n),
-        isotopes: any_listed(listed, 2 * PLACES, n),
+    if any_listed(listed, 0, n) {
+        return true;
+    }
+    any_listed(listed, PLACES, n)
+}
+
+// What the lines that list some atom of 1 to n supersede.
+fn superseded_by(listed: &[u32; LISTED], n: usize) -> Superseded
+    requires { ⌜ n ≤ limit ⌝ }
+    ensures { λ r. ⌜ r ≡ supersededIn n (now (listed .entry)) ⌝ }
+{
+    Superseded {
+        codes: codes_void(listed, n),
+        masses: any_listed(listed, 2 * PLACES, n),
     }
 }
 
@@ -249,10 +258,10 @@ pub fn mean(atoms: &mut [i32], n: u32, listed: &[u32; LISTED])
     ensures { λ r. ⌜ now (atoms .exit) ≡ meant n (now (atoms .entry)) (now (listed .entry)) ⌝ }
 {
     let rows = n as usize;
-    let kinds = kinds_in(listed, rows);
+    let over = superseded_by(listed, rows);
     let mut i = 0;
     while i < rows {
-        mean_row(atoms, i, listed, kinds);
+        mean_row(atoms, i, listed, over);
         i += 1;
     }
 }

@@ -8,10 +8,11 @@ use mathlib.Core.Bool.{Bool, true, false, cond}
 use lib.ListN.{getD, length, drop, drop-of-length-le}
 use lib.Seq.{drop-cons}
 use lib.IntN.{ℤ, pos, negsuc, natAbs}
+use Rattle.text.specs.Laws.{or-false}
 use Rattle.field_numbers.specs.Number.{OneOf}
 use Rattle.rules.specs.Forms.{stereos, Kind, CHG, RAD, ISO, Entry}
 use Rattle.rules.specs.Record.{Molecule}
-use Rattle.rules.specs.Meaning.{chargeOfCode, radicalOfCode, among, has, numberIn, given, atomNumbers, atomsFrom, bondNumbers, Reading, meaning}
+use Rattle.rules.specs.Meaning.{chargeOfCode, radicalOfCode, among, has, codesVoid, numberIn, given, atomNumbers, atomsFrom, bondNumbers, Reading, meaning}
 use Rattle.rules.specs.Canon.{atomRow, bondRow, isZero, isTwo, chargeCode, atomOf, bondOf, numberOf, entriesFrom, propertiesOf, canon, FromTo, WritableAtom, WritableBond, Rows, Writable}
 use Rattle.rules.specs.Fields.{Every, one-every}
 use Rattle.rules.specs.Entries.{not-among, properties-list, isotope-lines, entries-first, entries-later}
@@ -87,8 +88,8 @@ atom-back n m i t h w g z =
     let a = atomRow t in
     let symbol = size-back 1 122 (a .symbol) (w .symbol) in
     let mass = mass-by (has ISO m) (a .mass-difference) z in
-    let charge = charge-by (has CHG m) (given CHG m i) (a .charge) (a .radical) (nothing-given CHG m i) (g CHG) in
-    let radical = radical-by (has RAD m) (given RAD m i) (a .charge) (a .radical) (nothing-given RAD m i) (g RAD) in
+    let charge = charge-by (codesVoid m) (given CHG m i) (a .charge) (a .radical) (λ e. nothing-given CHG m i (or-false (has CHG m) (has RAD m) e .0)) (g CHG) in
+    let radical = radical-by (codesVoid m) (given RAD m i) (a .charge) (a .radical) (λ e. nothing-given RAD m i (or-false (has CHG m) (has RAD m) e .1)) (g RAD) in
     let isotope = g ISO in
     let parity = size-back 0 3 (a .parity) (w .parity) in
     let hydrogen = size-back 0 5 (a .hydrogen-count) (w .hydrogen-count) in

@@ -14,7 +14,7 @@ use Rattle.field_numbers.specs.Number.{Between}
 use Rattle.field_coordinates.specs.Agree.{coordinate-range}
 use Rattle.rules.specs.Forms.{Atom, AtomLine, Bond, BondLine, Kind, CHG, RAD, ISO, sameKind, Entry, EntryNumber, EntriesFrom, Property, DataHeader}
 use Rattle.rules.specs.Record.{Molecule, Item, Raw, Atoms, Bonds, Properties, Values, Items, Parts1to5, Record, SDfile, listed, NoPairTwice}
-use Rattle.rules.specs.Meaning.{chargesOfCodes, chargeOfCode, radicalOfCode, has, numberIn, given, atomNumbers, atomsFrom, bondNumbers, meaning}
+use Rattle.rules.specs.Meaning.{chargesOfCodes, chargeOfCode, radicalOfCode, has, codesVoid, numberIn, given, atomNumbers, atomsFrom, bondNumbers, meaning}
 use Rattle.rules.specs.Canon.{atomRow, bondRow, bondOf, entriesFrom, canon, canonFile, FromTo, WritableAtom, WritableBond, Rows, GoodValues, GoodName, GoodItems, Good, AllGood}
 use Rattle.rules.specs.Fields.{Every, every-at}
 use Rattle.rules.specs.Entries.{not-among}
@@ -107,8 +107,8 @@ atom-writable n m i l a g h =
       z = coordinate-range (h .z);
       symbol = (h .symbol .low, h .symbol .high);
       mass-difference = either (Between 3 4) (has ISO m) (pos 0) (a .mass-difference) (omega arith) (h .mass-difference .range);
-      charge = either (Between 15 15) (has CHG m) (given CHG m i) (chargeOfCode (a .charge-code)) (of CHG) (code-charge (a .charge-code));
-      radical = either (FromTo 0 3) (has RAD m) (given RAD m i) (radicalOfCode (a .charge-code)) (of RAD) (code-radical (eqb (a .charge-code) 4));
+      charge = either (Between 15 15) (codesVoid m) (given CHG m i) (chargeOfCode (a .charge-code)) (of CHG) (code-charge (a .charge-code));
+      radical = either (FromTo 0 3) (codesVoid m) (given RAD m i) (radicalOfCode (a .charge-code)) (of RAD) (code-radical (eqb (a .charge-code) 4));
       isotope = of ISO;
       parity = (h .parity .low, h .parity .high);
       hydrogen-count = (h .hydrogen-count .low, h .hydrogen-count .high);

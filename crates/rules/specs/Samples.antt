@@ -68,13 +68,17 @@ codes =
     carbon (pos 0) (negsuc 2) 0 0 ∷ []
     ) [] []
 
--- the first atom is listed; the second loses its charge, the third keeps its radical
+-- the first atom is listed; the second loses its charge, the third its radical
 abbrev pub unlisted : Reading
-unlisted = reading "unlisted" "" (carbon (pos 0) (pos 1) 0 0 ∷ carbon (pos 0) (pos 0) 0 0 ∷ carbon (pos 0) (pos 0) 2 0 ∷ []) [] []
+unlisted = reading "unlisted" "" (carbon (pos 0) (pos 1) 0 0 ∷ carbon (pos 0) (pos 0) 0 0 ∷ carbon (pos 0) (pos 0) 0 0 ∷ []) [] []
 
--- the first atom keeps its charge and loses its mass difference; the second loses its radical
+-- the first atom loses the charge of its code and its mass difference; the second loses its radical
 abbrev pub superseded : Reading
-superseded = reading "superseded" "" (carbon (pos 0) (pos 1) 3 13 ∷ carbon (pos 0) (pos 0) 0 0 ∷ []) [] []
+superseded = reading "superseded" "" (carbon (pos 0) (pos 0) 3 13 ∷ carbon (pos 0) (pos 0) 0 0 ∷ []) [] []
+
+-- one radical is listed: the first atom loses the charge of its code, the second the radical
+abbrev pub uncharged : Reading
+uncharged = reading "uncharged" "" (carbon (pos 0) (pos 0) 1 0 ∷ carbon (pos 0) (pos 0) 0 0 ∷ []) [] []
 
 -- charges that codes have and one that they do not have, a radical alone, a radical beside a charge, a radical that codes do not have, an isotope
 abbrev pub mixed : Reading
@@ -168,6 +172,18 @@ othersListed =
     "M  END" ∷ []
     ) superseded
 
+-- codes that a line of radicals alone makes void
+abbrev pub radicalsListed : Sample
+radicalsListed =
+    molfile (
+    "uncharged" ∷ "" ∷ "" ∷
+    "  2  0  0  0  0  0  0  0  0  0999 V2000" ∷
+    "    0.0000    0.0000    0.0000 C   0  5  0  0  0  0  0  0  0  0  0  0" ∷
+    "    0.0000    0.0000    0.0000 C   0  4  0  0  0  0  0  0  0  0  0  0" ∷
+    "M  RAD  1   1   1" ∷
+    "M  END" ∷ []
+    ) uncharged
+
 -- a header where a value or the blank line must stand
 abbrev pub headerAsValue : Sample
 headerAsValue =
@@ -224,6 +240,7 @@ samples =
     codesAlone ∷
     chargesListed ∷
     othersListed ∷
+    radicalsListed ∷
     headerAsValue ∷
     dollarsAsValue ∷
     mixedWritten ∷ []

@@ -22,7 +22,7 @@ use Rattle.rules.specs.After.{parts-after}
 use Rattle.rules.specs.Fields.{Every, number-in}
 use Rattle.rules.specs.Written.{counts-written, GoodAtom, GoodAtoms, GoodBonds, GoodProperties, GoodEntries, GoodMolecule, molecule-written}
 use Rattle.rules.specs.Samples.{Holds, samples}
-use Rattle.rules.specs.Samples.{pairTwice, codesAlone, chargesListed, othersListed, headerAsValue, dollarsAsValue, mixedWritten}
+use Rattle.rules.specs.Samples.{pairTwice, codesAlone, chargesListed, othersListed, radicalsListed, headerAsValue, dollarsAsValue, mixedWritten}
 
 -- ---- Lines by their first bytes
 
@@ -187,6 +187,26 @@ superseded-good : Holds othersListed
 unfolding moleculeLines countsText atomText propertyText entryFields joined textBy pointText symbolText columnsFor meaning atomsFrom numberIn listed among
 superseded-good = raw-molfile supersededMolecule superseded-fine refl refl
 
+abbrev unchargedMolecule : Molecule
+unchargedMolecule = loose (bytes "uncharged") (coded 0 5 ∷ coded 0 4 ∷ []) (lists RAD 1 ∷ [])
+
+uncharged-fine : GoodMolecule limit unchargedMolecule
+unfolding Each GoodAtoms GoodProperties GoodEntries listed NoAtomTwice NotListed
+uncharged-fine =
+    loose-fine (bytes "uncharged") (unchargedMolecule .atoms) (unchargedMolecule .properties) (title (bytes "uncharged") (record { short = omega arith; allowed = omega arith }) (omega arith)) (omega arith)
+    (coded-fine 2 0 5 (omega arith) (omega arith), (coded-fine 2 0 4 (omega arith) (omega arith), tt))
+    (record { some = omega arith; eight = omega arith; entries = (record { atom = omega arith; number = omega arith }, tt) }, tt)
+    once
+  where
+    once : (k : Kind) → NoAtomTwice (listed k (unchargedMolecule .properties))
+    once CHG = tt
+    once RAD = (tt, tt)
+    once ISO = tt
+
+uncharged-good : Holds radicalsListed
+unfolding moleculeLines countsText atomText propertyText entryFields joined textBy pointText symbolText columnsFor meaning atomsFrom numberIn listed among
+uncharged-good = raw-molfile unchargedMolecule uncharged-fine refl refl
+
 -- ---- Lines that nothing can finish
 
 counts-of : (n m : ℕ) → n ≤ 255 → m ≤ 255 → 2 * m ≤ n * (n - 1) → CountsLine limit (countsText (record { atoms = n; bonds = m; chiral = 0 })) (record { atoms = n; bonds = m; chiral = 0 })
@@ -272,4 +292,4 @@ dollars-bad more (x ∷ xs, SDfile.more (Record.record-of p i) s) = no-dollars (
 
 pub samples-hold : Every Holds samples
 unfolding Every
-samples-hold = (again-bad, (codes-good, (unlisted-good, (superseded-good, (header-bad, (dollars-bad, (mixed-written, tt)))))))
+samples-hold = (again-bad, (codes-good, (unlisted-good, (superseded-good, (uncharged-good, (header-bad, (dollars-bad, (mixed-written, tt))))))))

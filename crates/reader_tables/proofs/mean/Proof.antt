@@ -6,13 +6,13 @@ use Rattle.reader_tables.proofs.mean.Statement.{statement}
 use Rattle.reader_tables.proofs.mean.Tie as tie
 
 abbrev Inv-loop : tie.InvT-loop
-Inv-loop atoms₀ n listed rows kinds i₀ atoms i = Meaning atoms₀ atoms listed kinds n i
+Inv-loop atoms₀ n listed rows over i₀ atoms i = Meaning atoms₀ atoms listed over n i
 
 abbrev μ-loop : tie.MeasureT-loop
-μ-loop atoms₀ n listed rows kinds i₀ atoms i = n - i
+μ-loop atoms₀ n listed rows over i₀ atoms i = n - i
 
-kinds-in-requires : tie.Need-kinds-in-requires Inv-loop μ-loop
-kinds-in-requires c κs = search (needs, meanings)
+superseded-by-requires : tie.Need-superseded-by-requires Inv-loop μ-loop
+superseded-by-requires c κs = search (needs, meanings)
 
 loop-holds : tie.Need-loop-holds Inv-loop μ-loop
 loop-holds c = search (needs, meanings)
@@ -41,7 +41,7 @@ mean-spec =
     (tie.spec
     Inv-loop
     μ-loop
-    kinds-in-requires
+    superseded-by-requires
     loop-holds
     mean-row-requires
     add-i
