@@ -24,18 +24,36 @@ use Rattle.store_event.specs.Scan.{keyAt, scanAt}
 use Rattle.store_replay.specs.Next.{fresh, past, After, after, receiptAt, issueAt, countAt, nextBy, nextAt, Stands, nextOf}
 use Rattle.store_event.specs.Twelve.{AllBytes, Twelve}
 use Rattle.store_lots.specs.Holds.{HoldsFrom, Holds}
-use Rattle.store_replay.specs.Runs.{stepOf, lastOf, Runs, stop, more, Replays}
+use Rattle.store_replay.specs.Says.{Said, saidOf, closing, Says}
+use Rattle.store_replay.specs.Promise.{Stood, Usual, Goes, Promise}
+use Rattle.store_replay.specs.Runs.{Runs, stop, more, Replays}
 use Rattle.store_replay.specs.Stepping.{none-left, here}
 use Rattle.store_lots.specs.Places.{with-stored, known-is, paper-is, place-is, new-stored}
 use Rattle.store_event.specs.There.{scanned, key-twelve, scan-left, scan-there, scan-rest, day-left, day-there, day-rest, some-left, unknown-there, cut-scan-there, cut-day-there}
 
--- the lots in memory are the store's
-pub record Stood (r : Replay) (ls : Store) (keys papers : Words) : Type 0 where
-  pub lots : r .lots ≡ length ls
-  pub few : length ls ≤ 512
-  pub holds : Holds keys papers ls
-  pub keys-room : length keys ≡ 1536
-  pub papers-room : length papers ≡ 512
+-- the answer that tells this of an event
+abbrev stepOf : Told → ℕ → Replay → Step
+stepOf (Told.received q) event r = Step.Received q r
+stepOf (Told.issued q) event r = Step.Issued q r
+stepOf (Told.counted lot paper shelf d) event r = Step.Counted event lot paper shelf d r
+stepOf Told.noted event r = Step.Day r
+stepOf (Told.skipped number) event r = Step.Skipped number event r
+
+said-step : (t : Told) (event : ℕ) (r : Replay) → r .events ≡ event → saidOf (stepOf t event r) ≡ Said.tells event t r
+said-step (Told.received q) event r h = ap (λ (i : ℕ). Said.tells i (Told.received q) r) h
+said-step (Told.issued q) event r h = ap (λ (i : ℕ). Said.tells i (Told.issued q) r) h
+said-step (Told.counted lot paper shelf d) event r h = refl
+said-step Told.noted event r h = ap (λ (i : ℕ). Said.tells i Told.noted r) h
+said-step (Told.skipped number) event r h = refl
+
+-- the answer at which a replay stops
+abbrev lastOf : Close → ℕ → Step
+lastOf Close.ended event = Step.End
+lastOf (Close.refused number) event = Step.Refused number event
+
+said-last : (c : Close) (event : ℕ) → saidOf (lastOf c event) ≡ closing c event
+said-last Close.ended event = refl
+said-last (Close.refused number) event = refl
 
 -- an answer with its memories follows what an event does to the store; n is the state past the event
 pub record Moves (n : Replay) (a : store.After) (b : After) : Type 0 where
@@ -146,7 +164,7 @@ module _ (i e : ℕ) (ls : Store) (keys papers : Words) (g : Stood (record { at 
         rw (paper-is keys papers key f ls (g .holds) (g .few) (g .papers-room), place-is keys papers key f ls (g .holds))
         (stays (Told.counted (placeOf key ls) (paperOf key ls) q (pos (paperOf key ls) -ℤ pos q)))
 
-module _ (s : Bytes) (small : AllBytes s) (size : length s < 2 ^ 63) where
+module _ (s : Bytes) (small : AllBytes s) where
   scan-moves : (i e : ℕ) (k : Kind) (key : Bytes) (q : ℕ) (ls : Store) (keys papers : Words) → Twelve key →
       Stood (record { at = i + 15; events = e + 1; lots = length ls }) ls keys papers →
       Moves (record { at = i + 15; events = e + 1; lots = length ls }) (eventOn (Event.scan k key q) ls)
@@ -179,17 +197,17 @@ module _ (s : Bytes) (small : AllBytes s) (size : length s < 2 ^ 63) where
     pub rest : drop (r .at + bytes) s ≡ t
     pub moves : Moves (past r bytes) (eventOn e ls) (nextOf r s keys papers)
 
-  stands-there : (r : Replay) (ls : Store) (keys papers : Words) → Stood r ls keys papers → r .at < length s → r .events ≤ r .at → Stands r s
+  stands-there : (r : Replay) (ls : Store) (keys papers : Words) → Stood r ls keys papers → r .at < length s → r .events < 2 ^ 63 → Stands r s
   stands-there r ls keys papers g h l =
       let a = g .lots in
       let b = g .few in
-      record { left = h; lots = omega (arith, a, b); events = omega (arith, h, l, size) }
+      record { left = h; lots = omega (arith, a, b); events = l }
 
   next-there : (r : Replay) (x : Scan) (keys papers : Words) → Stands r s → scanAt s (r .at) ≡ x → nextOf r s keys papers ≡ nextBy r x keys papers
   unfolding nextOf nextAt
   next-there r x keys papers g e = rw (here r s keys papers g, e)
 
-  step : (r : Replay) (e : Event) (u t : Bytes) (ls : Store) (keys papers : Words) → Stood r ls keys papers → r .events ≤ r .at → drop (r .at) s ≡ u → Begins u e t →
+  step : (r : Replay) (e : Event) (u t : Bytes) (ls : Store) (keys papers : Words) → Stood r ls keys papers → r .events < 2 ^ 63 → drop (r .at) s ≡ u → Begins u e t →
       Steps r e t ls keys papers
   step r e u t ls keys papers g l d (a-scan k key low high rest count w) =
       let there = d ∙ w in
@@ -224,7 +242,7 @@ module _ (s : Bytes) (small : AllBytes s) (size : length s < 2 ^ 63) where
 
   -- ---- Where no event stands
 
-  last-step : (r : Replay) (u : Bytes) (c : Close) (ls : Store) (keys papers : Words) → Stood r ls keys papers → r .events ≤ r .at → drop (r .at) s ≡ u → Closes u c →
+  last-step : (r : Replay) (u : Bytes) (c : Close) (ls : Store) (keys papers : Words) → Stood r ls keys papers → r .events < 2 ^ 63 → drop (r .at) s ≡ u → Closes u c →
       nextOf r s keys papers ≡ after (lastOf c (r .events + 1)) keys papers
   last-step r u c ls keys papers g l d (no-byte w) =
       let e = sym (length-drop (r .at) s) ∙ ap length (d ∙ w) in
@@ -236,8 +254,46 @@ module _ (s : Bytes) (small : AllBytes s) (size : length s < 2 ^ 63) where
   last-step r u c ls keys papers g l d (cut-day t w h) =
       next-there r Scan.Cut keys papers (stands-there r ls keys papers g (some-left s (r .at) _ t (d ∙ w)) l) (cut-day-there s (r .at) t (d ∙ w) h)
 
-  -- ---- The whole log
+  -- ---- The promise
 
+  goes : (r : Replay) (e : Event) (t : Bytes) (ls : Store) (keys papers : Words) → Steps r e t ls keys papers → Goes r s t (eventOn e ls) (nextOf r s keys papers)
+  goes r e t ls keys papers p =
+      let m = p .moves in
+      let n = m .next in
+      let a = m .at-same in
+      let y = p .byte in
+      let w = p .within in
+      record {
+        next = n;
+        said = ap (λ (b : After). saidOf (b .step)) (m .same) ∙ said-step (eventOn e ls .told) (r .events + 1) n (m .events-same);
+        numbered = m .events-same;
+        further = omega (arith, a, y);
+        within = omega (arith, a, w);
+        rest = ap (λ (i : ℕ). drop i s) a ∙ p .rest;
+        stood = subst (λ (b : After). Stood n (eventOn e ls .store) (b .keys) (b .papers)) (sym (m .same)) (m .stood);
+      }
+
+  closes : (r : Replay) (c : Close) (keys papers : Words) → nextOf r s keys papers ≡ after (lastOf c (r .events + 1)) keys papers →
+      Says (nextOf r s keys papers) (closing c (r .events + 1)) keys papers
+  closes r c keys papers h = record {
+    said = ap (λ (b : After). saidOf (b .step)) h ∙ said-last c (r .events + 1);
+    keys-then = ap (λ (b : After). b .keys) h;
+    papers-then = ap (λ (b : After). b .papers) h;
+  }
+
+pub next-promise : (r : Replay) (s : Bytes) (keys papers : Words) → Promise r s keys papers (nextOf r s keys papers)
+next-promise r s keys papers = record {
+  answer = refl;
+  event = λ ls g u e t b. goes s (u .small) r e t ls keys papers (step s (u .small) r e (drop (r .at) s) t ls keys papers g (u .count) refl b);
+  close = λ ls g u c k. closes s (u .small) r c keys papers (last-step s (u .small) r (drop (r .at) s) c ls keys papers g (u .count) refl k);
+}
+
+pub promised : (r : Replay) (s : Bytes) (keys papers : Words) (a : After) → a ≡ nextOf r s keys papers → Promise r s keys papers a
+promised r s keys papers a h = subst (Promise r s keys papers) (sym h) (next-promise r s keys papers)
+
+-- ---- The whole log
+
+module _ (s : Bytes) (small : AllBytes s) (size : length s < 2 ^ 63) where
   record Walk (r : Replay) (es : List Event) (c : Close) (ls : Store) (keys papers : Words) : Type 0 where
     pub last : Replay
     pub kz : Words
@@ -245,25 +301,36 @@ module _ (s : Bytes) (small : AllBytes s) (size : length s < 2 ^ 63) where
     pub runs : Runs s r keys papers (replayFrom ls es .told) c last kz pz
     pub stood : Stood last (replayFrom ls es .store) kz pz
 
-  walk : (r : Replay) {u rest : Bytes} {es : List Event} (c : Close) (ls : Store) (keys papers : Words) → Stood r ls keys papers → r .events ≤ r .at →
+  one-more : (r n : Replay) (e : Event) (es : List Event) (c : Close) (ls : Store) (keys papers : Words) →
+      saidOf (nextOf r s keys papers .step) ≡ Said.tells (r .events + 1) (eventOn e ls .told) n → n .events ≡ r .events + 1 →
+      Walk n es c (eventOn e ls .store) (nextOf r s keys papers .keys) (nextOf r s keys papers .papers) → Walk r (e ∷ es) c ls keys papers
+  unfolding replayFrom
+  one-more r n e es c ls keys papers h j z =
+      record { last = z .last; kz = z .kz; pz = z .pz; runs = Runs.more (record { said = h; keys-then = refl; papers-then = refl }) j (z .runs); stood = z .stood }
+
+  -- a state has read at least a byte for each event, and no byte past the log
+  walk : (r : Replay) {u rest : Bytes} {es : List Event} (c : Close) (ls : Store) (keys papers : Words) → Stood r ls keys papers → r .events ≤ r .at → r .at ≤ length s →
       drop (r .at) s ≡ u → Events u es rest → Closes rest c → Walk r es c ls keys papers
   unfolding replayFrom
-  walk r c ls keys papers g l d none k =
-      record { last = r; kz = keys; pz = papers; runs = stop (last-step r _ c ls keys papers g l d k); stood = g }
-  walk r c ls keys papers g l d (Events.more {s = u} {t = t} {e = e} {es = es} b v) k =
-      let p = step r e u t ls keys papers g l d b in
-      let m = p .moves in
+  walk r c ls keys papers g l w d none k =
+      let p = next-promise r s keys papers in
+      let v : Usual r s = record { small = small; size = size; count = omega (arith, l, w, size) } in
+      record { last = r; kz = keys; pz = papers; runs = stop (p .close ls g v c (subst (λ (x : Bytes). Closes x c) (sym d) k)); stood = g }
+  walk r c ls keys papers g l w d (Events.more {s = u} {t = t} {e = e} {es = es} b v) k =
+      let p = next-promise r s keys papers in
+      let h : Usual r s = record { small = small; size = size; count = omega (arith, l, w, size) } in
+      let m = p .event ls g h e t (subst (λ (x : Bytes). Begins x e t) (sym d) b) in
       let n = m .next in
-      let a = m .at-same in
-      let j = m .events-same in
-      let y = p .byte in
-      let w = walk n c (eventOn e ls .store) (m .ks) (m .ps) (m .stood) (omega (arith, a, j, l, y)) (ap (λ (i : ℕ). drop i s) a ∙ p .rest) v k in
-      record { last = w .last; kz = w .kz; pz = w .pz; runs = Runs.more (m .same) j (w .runs); stood = w .stood }
+      let j = m .numbered in
+      let y = m .further in
+      let x = nextOf r s keys papers in
+      one-more r n e es c ls keys papers (m .said) j
+      (walk n c (eventOn e ls .store) (x .keys) (x .papers) (m .stood) (omega (arith, j, l, y)) (m .within) (m .rest) v k)
 
   pub replays : (keys papers : Words) → length keys ≡ 1536 → length papers ≡ 512 → Replays s keys papers
   unfolding replayLog HoldsFrom
   replays keys papers hk hp =
       let g = read-logged s in
       let start : Stood fresh [] keys papers = record { lots = refl; few = omega arith; holds = tt; keys-room = hk; papers-room = hp } in
-      let w = walk fresh (readAll s .close) [] keys papers start (omega arith) refl (g .events) (g .closes) in
+      let w = walk fresh (readAll s .close) [] keys papers start (omega arith) (omega arith) refl (g .events) (g .closes) in
       record { last = w .last; keys-then = w .kz; papers-then = w .pz; runs = w .runs; lots = w .stood .lots; holds = w .stood .holds }

@@ -6,30 +6,17 @@ use lib.ListN.{length}
 use Rattle.store_log.specs.Log.{Bytes, Close}
 use Rattle.store_log.specs.Store.{Told}
 use Rattle.store_log.specs.Read.{replayLog}
-use Rattle.store_replay.specs.declared.Replay.{Replay}
-use Rattle.store_replay.specs.declared.Step.{Step}
 use Rattle.store_lots.specs.Memory.{Words}
-use Rattle.store_replay.specs.Next.{fresh, after, nextOf}
 use Rattle.store_lots.specs.Holds.{Holds}
-
--- the answer that tells this of an event
-abbrev pub stepOf : Told → ℕ → Replay → Step
-stepOf (Told.received q) event r = Step.Received q r
-stepOf (Told.issued q) event r = Step.Issued q r
-stepOf (Told.counted lot paper shelf d) event r = Step.Counted event lot paper shelf d r
-stepOf Told.noted event r = Step.Day r
-stepOf (Told.skipped number) event r = Step.Skipped number event r
-
--- the answer at which a replay stops
-abbrev pub lastOf : Close → ℕ → Step
-lastOf Close.ended event = Step.End
-lastOf (Close.refused number) event = Step.Refused number event
+use Rattle.store_replay.specs.declared.Replay.{Replay}
+use Rattle.store_replay.specs.Next.{fresh, nextOf}
+use Rattle.store_replay.specs.Says.{Said, closing, Says}
 
 -- from a state and memories on: what is told of each event, how it stops, and the state and the memories then
 pub data Runs (s : Bytes) : Replay → Words → Words → List Told → Close → Replay → Words → Words → Type 0 where
-  stop : {r : Replay} {keys papers : Words} {c : Close} → nextOf r s keys papers ≡ after (lastOf c (r .events + 1)) keys papers → Runs s r keys papers [] c r keys papers
+  stop : {r : Replay} {keys papers : Words} {c : Close} → Says (nextOf r s keys papers) (closing c (r .events + 1)) keys papers → Runs s r keys papers [] c r keys papers
   more : {r m n : Replay} {keys papers ks ps kz pz : Words} {t : Told} {ts : List Told} {c : Close} →
-      nextOf r s keys papers ≡ after (stepOf t (r .events + 1) m) ks ps → m .events ≡ r .events + 1 →
+      Says (nextOf r s keys papers) (Said.tells (r .events + 1) t m) ks ps → m .events ≡ r .events + 1 →
       Runs s m ks ps ts c n kz pz → Runs s r keys papers (t ∷ ts) c n kz pz
 
 -- the steps tell what the log's replay tells, and memory holds its store

@@ -2,7 +2,8 @@
 ghost use mathlib.Core.Path.{_≡_};
 ghost use Prim.Native.Nat.{_≤_, _<_};
 ghost use lib.IntN.{pos, _-ℤ_};
-ghost use Rattle.store_replay.specs.Next.{fresh, past, after, receiptAt, issueAt, countAt, Stands, nextAt, nextOf};
+ghost use Rattle.store_replay.specs.Next.{fresh, past, after, receiptAt, issueAt, countAt, Stands, nextAt};
+ghost use Rattle.store_replay.specs.Promise.{Promise};
 use store_lots::KEYS;
 use store_lots::LOTS;
 use store_event::Key;
@@ -203,7 +204,7 @@ impl Replay {
 
     // The next event of a log, and the state past it. Nothing is left, or no replay can have come here: the end.
     pub fn next(self, log: &[u8], keys: &mut [u32; KEYS], papers: &mut [u32; LOTS]) -> Step
-        ensures { λ r. ⌜ after r (now (keys .exit)) (now (papers .exit)) ≡ nextOf self (now (log .entry)) (now (keys .entry)) (now (papers .entry)) ⌝ }
+        ensures { λ r. ⌜ Promise self (now (log .entry)) (now (keys .entry)) (now (papers .entry)) (after r (now (keys .exit)) (now (papers .exit))) ⌝ }
     {
         if log.len() <= self.at {
             return Step::End;
