@@ -86,14 +86,14 @@ body-whole t h =
 pub event-one : {e f : Event} {r q : Bytes} → Reading.event e r ≡ Reading.event f q → (e ≡ f) × (r ≡ q)
 event-one h = (cc, cc)
 
-close-one : {c d : Close} → Reading.close c ≡ Reading.close d → c ≡ d
+pub close-one : {c d : Close} → Reading.close c ≡ Reading.close d → c ≡ d
 close-one h = cc
 
-apart : {X : Type 0} {e : Event} {r : Bytes} {c : Close} → Reading.close c ≡ Reading.event e r → X
+pub apart : {X : Type 0} {e : Event} {r : Bytes} {c : Close} → Reading.close c ≡ Reading.event e r → X
 apart h = absurd (let z : _≡_ {A = ℕ} 0 1 = cc in omega arith)
 
 -- what a reading says of its bytes
-abbrev Reads : Bytes → Reading → Type 0
+abbrev pub Reads : Bytes → Reading → Type 0
 Reads s (Reading.event e r) = Begins s e r
 Reads s (Reading.close c) = Closes s c
 
