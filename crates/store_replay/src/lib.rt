@@ -4,10 +4,10 @@ ghost use Prim.Native.Nat.{_≤_, _<_};
 ghost use lib.IntN.{pos, _-ℤ_};
 ghost use Rattle.store_replay.specs.Next.{fresh, past, after, receiptAt, issueAt, countAt, Stands, nextAt};
 ghost use Rattle.store_replay.specs.Promise.{Promise};
-use store_lots::KEYS;
-use store_lots::LOTS;
 use store_event::Key;
 use store_event::Scan;
+use store_lots::KEYS;
+use store_lots::LOTS;
 
 // The most that paper may say of a lot.
 const MOST: u32 = 1000000;
