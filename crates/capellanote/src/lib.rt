@@ -1,4 +1,6 @@
 // The library for C: answers are arrays of numbers, the first 0 or that of the refusal (include/capellanote.h).
+mod replay;
+
 ghost use mathlib.Core.Path.{_≡_};
 ghost use lib.ListN.{length};
 ghost use Rattle.reader_check.specs.Promised.{numbersOf};
