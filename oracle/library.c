@@ -160,11 +160,59 @@ static void catalogue_case(void)
     print_tables(a, b);
 }
 
+/* ---- The replay of a scanner log */
+
+static unsigned int keys[CAPELLANOTE_KEYS], papers[CAPELLANOTE_LOTS];
+
+/* The digest after the lots: the key's bytes and the paper figure of each. */
+static size step_lots(size digest, size lots)
+{
+    for (size i = 0; i < lots; i++) {
+        for (size k = 0; k < 12; k++)
+            digest = step(digest, keys[CAPELLANOTE_LOTS * (k / 4) + i] >> 8 * (k % 4) & 255);
+        digest = step(digest, papers[i]);
+    }
+    return digest;
+}
+
+static size sum_papers(size lots)
+{
+    size sum = 0;
+    for (size i = 0; i < lots; i++)
+        sum += papers[i];
+    return sum;
+}
+
+static void replay_case(void)
+{
+    size state[3] = { 0, 0, 0 }, answer[6], received = 0, issued = 0, counts = 0, digest = 1, length = below(MOST);
+    long difference[1];
+    unsigned char *log = block(length);
+    for (size k = 0; k < CAPELLANOTE_KEYS; k++)
+        keys[k] = 1000003 + k;
+    for (size k = 0; k < CAPELLANOTE_LOTS; k++)
+        papers[k] = 1000003 + k;
+    do {
+        capellanote_replay(log, length, state, keys, papers, answer, difference);
+        received += answer[2] == CAPELLANOTE_RECEIVED ? answer[3] : 0;
+        issued += answer[2] == CAPELLANOTE_ISSUED ? answer[3] : 0;
+        counts += answer[2] == CAPELLANOTE_COUNTED;
+        if (answer[2] == CAPELLANOTE_COUNTED)
+            digest = step(step(step(step(step(digest, answer[1]), 0), answer[4]), answer[3]), difference[0]);
+        if (answer[2] == CAPELLANOTE_SKIPPED)
+            digest = step(step(digest, answer[1]), answer[0]);
+    } while (answer[2] != CAPELLANOTE_LOG_END && answer[2] != CAPELLANOTE_STOPPED);
+    printf("events %lu lots %lu received %lu issued %lu paper %lu counts %lu digest %lu", state[1], state[2], received, issued,
+           sum_papers(state[2]), counts, step_lots(digest, state[2]));
+    if (answer[2] == CAPELLANOTE_STOPPED)
+        printf(" refused %lu event %lu", answer[0], answer[1]);
+}
+
 static void answer_case(void)
 {
     static const struct { const char *word; size length; void (*answer)(void); } operations[] = {
         { "check ", 6, check_case }, { "read ", 5, read_case }, { "fetch ", 6, fetch_case }, { "write ", 6, write_case },
-        { "catalogue ", 10, catalogue_case } };
+        { "catalogue ", 10, catalogue_case }, { "replay ", 7, replay_case } };
     for (size k = 0; k < sizeof operations / sizeof *operations; k++)
         if (strncmp(at, operations[k].word, operations[k].length) == 0) {
             at += operations[k].length;

@@ -1,4 +1,4 @@
--- The search for a lot, place by place and by blocks of eight.
+-- The search for a lot, place by place and by blocks of sixteen.
 use Prim.Native.Nat.{ℕ, zero, suc, _+_, _-_, _≤_, _<_}
 use native.Mathlib.Omega.{arith}
 use native.Mathlib.Nat.{sub-zero, suc-add, add-zero, zero-add}
@@ -57,8 +57,8 @@ missed-next keys word i n g ne = record { none = λ m low high e. go m low high 
     go m low high e true q = ne (subst (λ (j : ℕ). getD keys j 0 ≡ word) (eqb-true m (i + n) q) e)
     go m low high e false q = let d = eqb-false m (i + n) q in g .none m low (omega arith) e
 
-pub missed-all : (keys : Words) (word i n : ℕ) → Missed keys word i (i + n) → n ≤ 8 → 8 ≤ n → Missed keys word i (i + 8)
-missed-all keys word i n g h l = let e : n ≡ 8 = omega arith in subst (λ (j : ℕ). Missed keys word i (i + j)) e g
+pub missed-all : (keys : Words) (word i n : ℕ) → Missed keys word i (i + n) → n ≤ 16 → 16 ≤ n → Missed keys word i (i + 16)
+missed-all keys word i n g h l = let e : n ≡ 16 = omega arith in subst (λ (j : ℕ). Missed keys word i (i + j)) e g
 
 module _ (keys : Words) (k : Key) where
   none-place : (i n : ℕ) → ((m : ℕ) → i ≤ m → m < i + n → sameKeyAt keys k m ≡ false) → placeFrom keys k i n ≡ i + n
@@ -99,14 +99,14 @@ module _ (keys : Words) (k : Key) where
       go true l again = absurd (omega arith)
       go false l again = let e : i + 1 + n ≡ i + suc n = omega arith in again (omega arith) ∙ ap (λ (j : ℕ). placeFrom keys k j m) e
 
-  pub second-missed : (i w : ℕ) → (w ≡ 0 → Missed keys (k .second) (1024 + i) (1024 + i + 8)) → w ≡ 0 → i + 8 ≡ placeFrom keys k i 8
-  second-missed i w g h = sym (none-place i 8 (λ m low high. second-other m (g h .none (1024 + m) (omega arith) (omega arith))))
+  pub second-missed : (i w : ℕ) → (w ≡ 0 → Missed keys (k .second) (1024 + i) (1024 + i + 16)) → w ≡ 0 → i + 16 ≡ placeFrom keys k i 16
+  second-missed i w g h = sym (none-place i 16 (λ m low high. second-other m (g h .none (1024 + m) (omega arith) (omega arith))))
 
-  pub first-missed : (i w : ℕ) → (w ≡ 0 → Missed keys (k .first) (512 + i) (512 + i + 8)) → w ≡ 0 → i + 8 ≡ placeFrom keys k i 8
-  first-missed i w g h = sym (none-place i 8 (λ m low high. first-other m (g h .none (512 + m) (omega arith) (omega arith))))
+  pub first-missed : (i w : ℕ) → (w ≡ 0 → Missed keys (k .first) (512 + i) (512 + i + 16)) → w ≡ 0 → i + 16 ≡ placeFrom keys k i 16
+  first-missed i w g h = sym (none-place i 16 (λ m low high. first-other m (g h .none (512 + m) (omega arith) (omega arith))))
 
-  pub block-in : (i lot : ℕ) → lot ≡ placeFrom keys k i (i + 8 - i) → lot ≡ placeFrom keys k i 8
-  block-in i lot h = let e : i + 8 - i ≡ 8 = omega arith in h ∙ ap (placeFrom keys k i) e
+  pub block-in : (i lot : ℕ) → lot ≡ placeFrom keys k i (i + 16 - i) → lot ≡ placeFrom keys k i 16
+  block-in i lot h = let e : i + 16 - i ≡ 16 = omega arith in h ∙ ap (placeFrom keys k i) e
 
   -- ---- All lots
 
@@ -114,18 +114,18 @@ module _ (keys : Words) (k : Key) where
     all-lots : placeFrom keys k 0 lots ≡ placeFrom keys k i (lots - i)
     all-lots = ap (placeFrom keys k 0) (sym (sub-zero lots)) ∙ g .same
 
-    module _ (is : lot ≡ placeFrom keys k i 8) (room : 8 ≤ lots - i) where
-      two : lots - i ≡ 8 + (lots - (i + 8))
+    module _ (is : lot ≡ placeFrom keys k i 16) (room : 16 ≤ lots - i) where
+      two : lots - i ≡ 16 + (lots - (i + 16))
       two = omega arith
 
-      pub block-found : lot < i + 8 → lot ≡ placeFrom keys k 0 lots
-      block-found h = sym (all-lots ∙ ap (placeFrom keys k i) two ∙ place-front i 8 (lots - (i + 8)) (omega (arith, is)) ∙ sym is)
+      pub block-found : lot < i + 16 → lot ≡ placeFrom keys k 0 lots
+      block-found h = sym (all-lots ∙ ap (placeFrom keys k i) two ∙ place-front i 16 (lots - (i + 16)) (omega (arith, is)) ∙ sym is)
 
-      pub block-next : i + 8 ≤ lot → Looking keys k 0 lots (i + 8)
+      pub block-next : i + 16 ≤ lot → Looking keys k 0 lots (i + 16)
       block-next h = record {
         low = omega arith;
         high = omega arith;
-        same = g .same ∙ ap (placeFrom keys k i) two ∙ place-back i 8 (lots - (i + 8)) (omega (arith, is));
+        same = g .same ∙ ap (placeFrom keys k i) two ∙ place-back i 16 (lots - (i + 16)) (omega (arith, is));
       }
 
     pub block-rest : lot ≡ placeFrom keys k i (lots - i) → lot ≡ placeFrom keys k 0 lots

@@ -39,14 +39,14 @@ fn find_in(keys: &[u32; KEYS], from: usize, to: usize, key: Key) -> usize
     i
 }
 
-// Not 0 where one of the eight words from `i` on is this one. A block is never left early: so it compiles to one vector test.
+// Not 0 where one of the sixteen words from `i` on is this one. A block is never left early: so it compiles to one vector test.
 fn word_in_block(keys: &[u32; KEYS], i: usize, word: u32) -> usize
-    requires { ⌜ i + 8 ≤ 1536 ⌝ }
-    ensures { λ r. ⌜ (r ≡ 0 → Missed (now (keys .entry)) word i (i + 8)) ⌝ }
+    requires { ⌜ i + 16 ≤ 1536 ⌝ }
+    ensures { λ r. ⌜ (r ≡ 0 → Missed (now (keys .entry)) word i (i + 16)) ⌝ }
 {
     let mut w: usize = 0;
     let mut k: usize = 0;
-    while k < 8 {
+    while k < 16 {
         if keys[i + k] == word {
             w = 1;
         }
@@ -55,18 +55,18 @@ fn word_in_block(keys: &[u32; KEYS], i: usize, word: u32) -> usize
     w
 }
 
-// The first place of this key among eight; the place after them where it is none of those.
+// The first place of this key among sixteen; the place after them where it is none of those.
 fn find_block(keys: &[u32; KEYS], i: usize, key: Key) -> usize
-    requires { ⌜ i + 8 ≤ 512 ⌝ }
-    ensures { λ r. ⌜ r ≡ placeFrom (now (keys .entry)) key i 8 ⌝ }
+    requires { ⌜ i + 16 ≤ 512 ⌝ }
+    ensures { λ r. ⌜ r ≡ placeFrom (now (keys .entry)) key i 16 ⌝ }
 {
     if word_in_block(keys, 1024 + i, key.second) == 0 {
-        return i + 8;
+        return i + 16;
     }
     if word_in_block(keys, 512 + i, key.first) == 0 {
-        return i + 8;
+        return i + 16;
     }
-    find_in(keys, i, i + 8, key)
+    find_in(keys, i, i + 16, key)
 }
 
 // The place of this key, by blocks; `lots` where no lot has it.
@@ -75,12 +75,12 @@ pub fn find_lot(keys: &[u32; KEYS], lots: usize, key: Key) -> usize
     ensures { λ r. ⌜ r ≡ placeFrom (now (keys .entry)) key 0 lots ⌝ }
 {
     let mut i: usize = 0;
-    while lots - i >= 8 {
+    while lots - i >= 16 {
         let lot = find_block(keys, i, key);
-        if lot < i + 8 {
+        if lot < i + 16 {
             return lot;
         }
-        i += 8;
+        i += 16;
     }
     find_in(keys, i, lots, key)
 }

@@ -12,10 +12,10 @@ use Rattle.store_lots.proofs.word_in_block.Statement.{statement}
 use Rattle.store_lots.proofs.word_in_block.Tie as tie
 
 abbrev Inv-loop : tie.InvT-loop
-Inv-loop keys i word w₀ k₀ w k = (k ≤ 8) × (w ≡ 0 → Missed keys word i (i + k))
+Inv-loop keys i word w₀ k₀ w k = (k ≤ 16) × (w ≡ 0 → Missed keys word i (i + k))
 
 abbrev μ-loop : tie.MeasureT-loop
-μ-loop keys i word w₀ k₀ w k = 8 - k
+μ-loop keys i word w₀ k₀ w k = 16 - k
 
 loop-holds : tie.Need-loop-holds Inv-loop μ-loop
 loop-holds c = (search needs, λ e. missed-start _ _ _)
