@@ -1,6 +1,7 @@
 // A scanner log of any length, replayed through one buffer: a JSON line for each count and each skipped event, then the lots and the sums.
 mod lines;
 
+use lines::SIZE;
 use lines::put_count;
 use lines::put_lots;
 use lines::put_skip;
@@ -13,9 +14,7 @@ use store_lots::LOTS;
 use store_replay::Replay;
 use store_replay::Step;
 
-// A full buffer holds the longest event, of fifteen bytes, many times over.
-const SIZE: usize = 65536;
-
+// No event has more bytes.
 const LONGEST: usize = 15;
 
 // The replay stands at a place of the buffer, of which so many bytes are filled; whether nothing follows them; sums and output so far.

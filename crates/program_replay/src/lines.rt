@@ -1,9 +1,16 @@
-// The lines of a replay, as JSON.
+// The lines of a replay, as JSON. A line is put at a plain place of the room once the room has enough left for any line;
+// the functions that put its parts answer the place behind them.
 use program_io::Out;
 use store_lots::KEYS;
 use store_lots::LOTS;
 use store_replay::Replay;
 ghost use Prim.Native.Nat.{_<_};
+
+// The room for output.
+pub const SIZE: usize = 65536;
+
+// No line is longer.
+const LINE: usize = 256;
 
 // A byte that stands in a string as it is.
 fn is_plain(b: u8) -> bool {
@@ -28,73 +35,107 @@ fn hex(digit: u8) -> u8
     b'a' - 10 + digit
 }
 
-fn put_byte(out: Out, room: &mut [u8], b: u8) -> Out {
-    if is_plain(b) {
-        return out.byte(room, b);
+fn put_byte(room: &mut [u8; SIZE], at: usize, b: u8) -> usize {
+    if at < SIZE {
+        room[at] = b;
+        return at + 1;
     }
-    let begun = out.bytes(room, b"\\u00");
-    begun.byte(room, hex(b / 16)).byte(room, hex(b % 16))
+    at
 }
 
-fn put_text(out: Out, room: &mut [u8], text: &[u8]) -> Out {
-    let mut next = out;
-    let mut i: usize = 0;
-    while i < text.len() {
-        next = put_byte(next, room, text[i]);
-        i += 1;
+fn put_bytes(room: &mut [u8; SIZE], at: usize, text: &[u8]) -> usize {
+    if program_io::has_more(SIZE, at, text.len()) {
+        let mut i: usize = 0;
+        while i < text.len() {
+            room[at + i] = text[i];
+            i += 1;
+        }
+        return at + i;
     }
-    next
-}
-
-// A name, and a text after it.
-fn put_named(out: Out, room: &mut [u8], name: &[u8], text: &[u8]) -> Out {
-    put_text(out.bytes(room, name), room, text)
+    at
 }
 
 // A name, and a number after it.
-fn put_counted(out: Out, room: &mut [u8], name: &[u8], n: u64) -> Out {
-    out.bytes(room, name).number(room, n)
+fn put_number(room: &mut [u8; SIZE], at: usize, name: &[u8], n: u64) -> usize {
+    let named = put_bytes(room, at, name);
+    let mut digits = [0u8; 20];
+    let k = io::decimal(n, &mut digits);
+    put_bytes(room, named, &digits[..k])
+}
+
+// One byte of a string.
+fn put_inner(room: &mut [u8; SIZE], at: usize, b: u8) -> usize {
+    if is_plain(b) {
+        return put_byte(room, at, b);
+    }
+    let begun = put_bytes(room, at, b"\\u00");
+    let high = put_byte(room, begun, hex(b / 16));
+    put_byte(room, high, hex(b % 16))
+}
+
+// A name, and the bytes of a string after it.
+fn put_text(room: &mut [u8; SIZE], at: usize, name: &[u8], text: &[u8]) -> usize {
+    let mut a = put_bytes(room, at, name);
+    let mut i: usize = 0;
+    while i < text.len() {
+        a = put_inner(room, a, text[i]);
+        i += 1;
+    }
+    a
 }
 
 // Supplier and lot from the twelve bytes of a key, after what opens them.
-fn put_key(out: Out, room: &mut [u8], opening: &[u8], key: &[u8]) -> Out {
-    let supplier = put_named(out, room, opening, program_io::front(key, 4));
-    let lot = put_named(supplier, room, b"\",\"lot\":\"", program_io::tail(key, 4));
-    lot.byte(room, b'"')
+fn put_key(room: &mut [u8; SIZE], at: usize, opening: &[u8], key: &[u8]) -> usize {
+    let supplier = put_text(room, at, opening, program_io::front(key, 4));
+    let lot = put_text(room, supplier, b"\",\"lot\":\"", program_io::tail(key, 4));
+    put_byte(room, lot, b'"')
 }
 
 // Paper minus shelf.
-fn put_difference(out: Out, room: &mut [u8], paper: u32, shelf: u16) -> Out {
+fn put_difference(room: &mut [u8; SIZE], at: usize, paper: u32, shelf: u16) -> usize {
     let there = shelf as u32;
     if paper < there {
-        return put_counted(out, room, b",\"difference\":-", (there - paper) as u64);
+        return put_number(room, at, b",\"difference\":-", (there - paper) as u64);
     }
-    put_counted(out, room, b",\"difference\":", (paper - there) as u64)
+    put_number(room, at, b",\"difference\":", (paper - there) as u64)
 }
 
-fn put_figures(out: Out, room: &mut [u8], paper: u32, shelf: u16) -> Out {
-    let papered = put_counted(out, room, b",\"paper\":", paper as u64);
-    let shelved = put_counted(papered, room, b",\"shelf\":", shelf as u64);
-    put_difference(shelved, room, paper, shelf)
+fn put_figures(room: &mut [u8; SIZE], at: usize, paper: u32, shelf: u16) -> usize {
+    let papered = put_number(room, at, b",\"paper\":", paper as u64);
+    let shelved = put_number(room, papered, b",\"shelf\":", shelf as u64);
+    put_difference(room, shelved, paper, shelf)
+}
+
+// The output with room for a line; it fails where there is none.
+fn ready(out: Out, room: &[u8; SIZE]) -> Out {
+    let cleared = out.clear(room, LINE);
+    if program_io::has_more(SIZE, cleared.used, LINE) {
+        return cleared;
+    }
+    cleared.failed()
 }
 
 pub fn put_count(
     out: Out,
-    room: &mut [u8],
+    room: &mut [u8; SIZE],
     event: usize,
     key: &[u8],
     paper: u32,
     shelf: u16,
 ) -> Out {
-    let numbered = put_counted(out, room, b"{\"event\":", event as u64);
-    let keyed = put_key(numbered, room, b",\"supplier\":\"", key);
-    put_figures(keyed, room, paper, shelf).bytes(room, b"}\n")
+    let begun = ready(out, room);
+    let numbered = put_number(room, begun.used, b"{\"event\":", event as u64);
+    let keyed = put_key(room, numbered, b",\"supplier\":\"", key);
+    let told = put_figures(room, keyed, paper, shelf);
+    begun.to(put_bytes(room, told, b"}\n"))
 }
 
-pub fn put_skip(out: Out, room: &mut [u8], event: usize, key: &[u8], no: u8) -> Out {
-    let numbered = put_counted(out, room, b"{\"event\":", event as u64);
-    let refused = put_counted(numbered, room, b",\"refused\":", no as u64);
-    put_key(refused, room, b",\"supplier\":\"", key).bytes(room, b"}\n")
+pub fn put_skip(out: Out, room: &mut [u8; SIZE], event: usize, key: &[u8], no: u8) -> Out {
+    let begun = ready(out, room);
+    let numbered = put_number(room, begun.used, b"{\"event\":", event as u64);
+    let refused = put_number(room, numbered, b",\"refused\":", no as u64);
+    let keyed = put_key(room, refused, b",\"supplier\":\"", key);
+    begun.to(put_bytes(room, keyed, b"}\n"))
 }
 
 fn low(w: u32) -> u8 {
@@ -119,15 +160,17 @@ fn key_of(a: u32, b: u32, c: u32) -> [u8; 12] {
     ]
 }
 
-fn put_lot(out: Out, room: &mut [u8], key: &[u8; 12], paper: u32) -> Out {
-    let keyed = put_key(out, room, b"{\"supplier\":\"", key);
-    put_counted(keyed, room, b",\"paper\":", paper as u64).bytes(room, b"}\n")
+fn put_lot(out: Out, room: &mut [u8; SIZE], key: &[u8; 12], paper: u32) -> Out {
+    let begun = ready(out, room);
+    let keyed = put_key(room, begun.used, b"{\"supplier\":\"", key);
+    let papered = put_number(room, keyed, b",\"paper\":", paper as u64);
+    begun.to(put_bytes(room, papered, b"}\n"))
 }
 
 // The lots in order of their first receipts.
 pub fn put_lots(
     out: Out,
-    room: &mut [u8],
+    room: &mut [u8; SIZE],
     keys: &[u32; KEYS],
     papers: &[u32; LOTS],
     lots: usize,
@@ -165,23 +208,31 @@ fn sum(papers: &[u32; LOTS], lots: usize) -> u64 {
     total
 }
 
-fn put_quantities(out: Out, room: &mut [u8], received: u64, issued: u64, paper: u64) -> Out {
-    let more = put_counted(out, room, b",\"received\":", received);
-    let less = put_counted(more, room, b",\"issued\":", issued);
-    put_counted(less, room, b",\"paper\":", paper)
+fn put_quantities(
+    room: &mut [u8; SIZE],
+    at: usize,
+    received: u64,
+    issued: u64,
+    paper: u64,
+) -> usize {
+    let more = put_number(room, at, b",\"received\":", received);
+    let less = put_number(room, more, b",\"issued\":", issued);
+    put_number(room, less, b",\"paper\":", paper)
 }
 
 // The last line.
 pub fn put_sums(
     out: Out,
-    room: &mut [u8],
+    room: &mut [u8; SIZE],
     papers: &[u32; LOTS],
     state: Replay,
     received: u64,
     issued: u64,
 ) -> Out {
-    let events = put_counted(out, room, b"{\"events\":", state.events as u64);
-    let lots = put_counted(events, room, b",\"lots\":", state.lots as u64);
+    let begun = ready(out, room);
+    let events = put_number(room, begun.used, b"{\"events\":", state.events as u64);
+    let lots = put_number(room, events, b",\"lots\":", state.lots as u64);
     let paper = sum(papers, state.lots);
-    put_quantities(lots, room, received, issued, paper).bytes(room, b"}\n")
+    let told = put_quantities(room, lots, received, issued, paper);
+    begun.to(put_bytes(room, told, b"}\n"))
 }

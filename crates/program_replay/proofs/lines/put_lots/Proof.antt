@@ -1,21 +1,16 @@
 use Prim.Native.Nat.{_-_}
-use mathlib.Core.Path.{_≡_}
-use lib.ListN.{length}
 use borrow.Author.Needs.{needs}
 use Rattle.program_replay.proofs.lines.put_lots.Statement.{statement}
 use Rattle.program_replay.proofs.lines.put_lots.Tie as tie
 
 abbrev Inv-loop : tie.InvT-loop
-Inv-loop room₀ keys papers lots next₀ i₀ room next i = length room ≡ length room₀
+Inv-loop room₀ keys papers lots next₀ i₀ room next i = Unit {0}
 
 abbrev μ-loop : tie.MeasureT-loop
 μ-loop room₀ keys papers lots next₀ i₀ room next i = 512 - i
 
 loop-holds : tie.Need-loop-holds Inv-loop μ-loop
 loop-holds c = search needs
-
-same-length : tie.Need-same-length Inv-loop μ-loop
-same-length c = search needs
 
 returns : tie.Need-returns Inv-loop μ-loop
 returns c = search needs
@@ -65,9 +60,6 @@ loop-less c = search needs
 loop-again : tie.Need-loop-again Inv-loop μ-loop
 loop-again c = search needs
 
-same-length-2 : tie.Need-same-length-2 Inv-loop μ-loop
-same-length-2 c = search needs
-
 returns-2 : tie.Need-returns-2 Inv-loop μ-loop
 returns-2 c = search needs
 
@@ -78,7 +70,6 @@ put-lots-spec =
     Inv-loop
     μ-loop
     loop-holds
-    same-length
     returns
     mul-key-of
     element-copy-out-key-of
@@ -95,5 +86,4 @@ put-lots-spec =
     add-i
     loop-less
     loop-again
-    same-length-2
     returns-2)

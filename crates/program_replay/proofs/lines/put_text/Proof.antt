@@ -1,24 +1,26 @@
 use Prim.Native.Nat.{_-_}
-use mathlib.Core.Path.{_≡_}
 use lib.ListN.{length}
 use borrow.Author.Needs.{needs}
 use Rattle.program_replay.proofs.lines.put_text.Statement.{statement}
 use Rattle.program_replay.proofs.lines.put_text.Tie as tie
 
 abbrev Inv-loop : tie.InvT-loop
-Inv-loop room₀ text next₀ i₀ room next i = length room ≡ length room₀
+Inv-loop room₀ at name text a₀ i₀ room a i = Unit {0}
 
 abbrev μ-loop : tie.MeasureT-loop
-μ-loop room₀ text next₀ i₀ room next i = length text - i
+μ-loop room₀ at name text a₀ i₀ room a i = length text - i
+
+put-bytes-requires : tie.Need-put-bytes-requires Inv-loop μ-loop
+put-bytes-requires c κs = search needs
 
 loop-holds : tie.Need-loop-holds Inv-loop μ-loop
 loop-holds c = search needs
 
-shared-slice-read-put-byte : tie.Need-shared-slice-read-put-byte Inv-loop μ-loop
-shared-slice-read-put-byte c = search needs
+shared-slice-read-put-inner : tie.Need-shared-slice-read-put-inner Inv-loop μ-loop
+shared-slice-read-put-inner c = search needs
 
-put-byte-requires : tie.Need-put-byte-requires Inv-loop μ-loop
-put-byte-requires c κs = search needs
+put-inner-requires : tie.Need-put-inner-requires Inv-loop μ-loop
+put-inner-requires c κs = search needs
 
 add-i : tie.Need-add-i Inv-loop μ-loop
 add-i c = search needs
@@ -29,9 +31,6 @@ loop-less c = search needs
 loop-again : tie.Need-loop-again Inv-loop μ-loop
 loop-again c = search needs
 
-same-length : tie.Need-same-length Inv-loop μ-loop
-same-length c = search needs
-
 returns : tie.Need-returns Inv-loop μ-loop
 returns c = search needs
 
@@ -41,11 +40,11 @@ put-text-spec =
     (tie.spec
     Inv-loop
     μ-loop
+    put-bytes-requires
     loop-holds
-    shared-slice-read-put-byte
-    put-byte-requires
+    shared-slice-read-put-inner
+    put-inner-requires
     add-i
     loop-less
     loop-again
-    same-length
     returns)
