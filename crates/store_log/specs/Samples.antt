@@ -44,6 +44,15 @@ samples =
       log = scan Kind.received "ABCD00417   " 7 0 ++ scan Kind.counted "ABCD417     " 2 0 ++ bytes "D1234" ++ scan Kind.issued "ABCD417     " 1 0;
       is = record { told = Told.received 7 ∷ Told.counted 1 0 2 (negsuc 1) ∷ Told.noted ∷ Told.skipped 28 ∷ []; store = lot "ABCD00417   " 7 ∷ []; close = Close.ended };
     } ∷
+    -- and at the right of its eight columns neither
+    record {
+      log = scan Kind.received "ABCD   00417" 7 0 ++ scan Kind.received "ABCD     417" 2 0 ++ scan Kind.counted "ABCD   00417" 7 0;
+      is = record {
+        told = Told.received 7 ∷ Told.received 2 ∷ Told.counted 0 7 7 (pos 0) ∷ [];
+        store = lot "ABCD   00417" 7 ∷ lot "ABCD     417" 2 ∷ [];
+        close = Close.ended;
+      };
+    } ∷
     -- a receipt of 0 makes an entry, an issue of 0 none
     record {
       log = scan Kind.issued "ABCD00000001" 0 0 ++ scan Kind.received "ABCD00000002" 0 0;

@@ -10,16 +10,16 @@ use Rattle.store_replay.specs.declared.Replay.{Replay}
 use Rattle.store_replay.specs.Says.{Said, closing}
 use Rattle.store_replay.specs.Runs.{Runs, stop, more}
 
-closing-one : (c d : Close) (event : ℕ) → closing c event ≡ closing d event → c ≡ d
+pub closing-one : (c d : Close) (event : ℕ) → closing c event ≡ closing d event → c ≡ d
 closing-one Close.ended Close.ended event h = refl
 closing-one Close.ended (Close.refused n) event h = absurd (let z : _≡_ {A = ℕ} 0 1 = cc in omega arith)
 closing-one (Close.refused n) Close.ended event h = absurd (let z : _≡_ {A = ℕ} 0 1 = cc in omega arith)
 closing-one (Close.refused n) (Close.refused m) event h = cc
 
-tells-one : {i j : ℕ} {t u : Told} {m n : Replay} → Said.tells i t m ≡ Said.tells j u n → (t ≡ u) × (m ≡ n)
+pub tells-one : {i j : ℕ} {t u : Told} {m n : Replay} → Said.tells i t m ≡ Said.tells j u n → (t ≡ u) × (m ≡ n)
 tells-one h = (cc, cc)
 
-apart : {X : Type 0} (c : Close) (event : ℕ) {i : ℕ} {t : Told} {m : Replay} → closing c event ≡ Said.tells i t m → X
+pub apart : {X : Type 0} (c : Close) (event : ℕ) {i : ℕ} {t : Told} {m : Replay} → closing c event ≡ Said.tells i t m → X
 apart Close.ended event h = absurd (let z : _≡_ {A = ℕ} 0 1 = cc in omega arith)
 apart (Close.refused n) event h = absurd (let z : _≡_ {A = ℕ} 0 1 = cc in omega arith)
 
