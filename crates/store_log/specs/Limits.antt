@@ -72,19 +72,21 @@ pub record Sound (ls : Store) : Type 0 where
   pub few : length ls ≤ mostLots
   pub within : Within ls
 
--- the store after: sound, and its keys are those before, with perhaps one more at the end
+-- the store after: sound, and its keys are those before, with one more at the end or none
 pub record Keeps (ls ms : Store) : Type 0 where
   pub sound : Sound ms
   pub new : List Bytes
+  pub one : length new ≤ 1
   pub keys : keysIn ms ≡ keysIn ls ++ new
 
 same-keeps : (ls : Store) → Sound ls → Keeps ls ls
-same-keeps ls g = record { sound = g; new = []; keys = sym (append-nil (keysIn ls)) }
+same-keeps ls g = record { sound = g; new = []; one = omega arith; keys = sym (append-nil (keysIn ls)) }
 
 with-keeps : (key : Bytes) (p : ℕ) (ls : Store) → Sound ls → p ≤ mostPaper → Keeps ls (withPaper key p ls)
 with-keeps key p ls g h = record {
   sound = record { few = (let e = with-length key p ls in let f = g .few in omega (arith, e, f)); within = within-with key p ls h (g .within) };
   new = [];
+  one = omega arith;
   keys = with-keys key p ls ∙ sym (append-nil (keysIn ls));
 }
 
@@ -92,6 +94,7 @@ more-keeps : (key : Bytes) (q : ℕ) (ls : Store) → Sound ls → q ≤ mostPap
 more-keeps key q ls g h f = record {
   sound = record { few = (let e = length-append ls (record { key = key; paper = q } ∷ []) in omega (arith, e, f)); within = within-more ls (record { key = key; paper = q }) h (g .within) };
   new = key ∷ [];
+  one = omega arith;
   keys = keys-more ls (record { key = key; paper = q });
 }
 
