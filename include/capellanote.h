@@ -10,7 +10,8 @@
 
    Answers
      answer[0] is 0, or the number of the refusal; answer[1] and answer[2] are then its line and column,
-     both counted from 1, and 0 where the refusal names no line.
+     both counted from 1, and 0 where the refusal names no line. capellanote_replay alone answers with the number of
+     an event instead of a line.
 
    Refusals
       1  kind is neither 0 nor 1
@@ -35,6 +36,11 @@
      20  the room lent is shorter than the canonical text
      21  tables not writable
      22  record good, no item of that name
+     26  an event of a scanner log is of an unknown kind
+     27  a scanner log is cut inside an event
+     28  an issue above the lot's paper figure
+     29  a receipt that would make the lot's paper figure more than 1,000,000
+     30  a receipt for a 513th lot
 
    Tables
      An atom is 16 numbers: x, y, z in ten-thousandths, symbol (1 to 118 by atomic number, 119 A, 120 Q, 121 *, 122 LP),
@@ -147,6 +153,36 @@ void capellanote_write_catalogue(const capellanote_byte *text, capellanote_size 
                                  capellanote_int *bonds, capellanote_size bonds_length,
                                  capellanote_byte *room, capellanote_size room_length,
                                  capellanote_size answer[3]);
+
+/* ---- The replay of a scanner log */
+
+typedef long capellanote_signed; /* 64 bits, signed */
+typedef char capellanote_signed_width[sizeof(capellanote_signed) == 8 ? 1 : -1];
+
+enum { CAPELLANOTE_LOTS = 512, CAPELLANOTE_KEYS = 3 * 512 };
+
+/* answer[2] of capellanote_replay. */
+enum { CAPELLANOTE_LOG_END = 0, CAPELLANOTE_RECEIVED = 1, CAPELLANOTE_ISSUED = 2, CAPELLANOTE_COUNTED = 3, CAPELLANOTE_DAY = 4,
+       CAPELLANOTE_SKIPPED = 5, CAPELLANOTE_STOPPED = 6 };
+
+/* The next event of a scanner log. state = { place in the log, events before it, lots in the store }: all 0 at first; the call leaves it
+   past the event. Keys and papers hold the store between calls and need not be cleared before the first: the paper figure of lot i, from 0 in the
+   order of first receipts, is papers[i], and the 12 bytes of its supplier and lot are keys[i], keys[512 + i] and keys[1024 + i], four bytes each,
+   the low one first.
+   answer = { 0 or the refusal, number of the event from 1, what it is, quantity, paper figure, place of the lot }:
+   CAPELLANOTE_RECEIVED, CAPELLANOTE_ISSUED: the quantity, and two zeros.
+   CAPELLANOTE_COUNTED: quantity on the shelf, paper figure, place of the lot, which is the number of lots for one never received;
+   difference[0] is paper minus shelf, and 0 in every other case.
+   CAPELLANOTE_DAY: three zeros.
+   CAPELLANOTE_SKIPPED: 28, 29 or 30; three zeros; only the state has changed.
+   CAPELLANOTE_STOPPED: 26 or 27; three zeros; nothing else has changed.
+   CAPELLANOTE_LOG_END: all numbers are 0, and nothing else has changed; also for a state that no replay can have come to (past the log,
+   above 512 lots, 2^63 events).
+   An event takes at most 15 bytes. Where fewer are left and more of the log follows, hand them over again with what follows, and state[0] = 0. */
+void capellanote_replay(const capellanote_byte *log, capellanote_size log_length,
+                        capellanote_size state[3],
+                        capellanote_count keys[CAPELLANOTE_KEYS], capellanote_count papers[CAPELLANOTE_LOTS],
+                        capellanote_size answer[6], capellanote_signed difference[1]);
 
 #ifdef __cplusplus
 }

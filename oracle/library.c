@@ -232,6 +232,55 @@ static void catalogue_case(const size *n)
     print_tables(a, b);
 }
 
+/* ---- The replay of a scanner log */
+
+static unsigned int keys[CAPELLANOTE_KEYS], papers[CAPELLANOTE_LOTS];
+
+/* The digest after the lots: the key's bytes and the paper figure of each. */
+static size step_lots(size digest, size lots)
+{
+    for (size i = 0; i < lots; i++) {
+        for (size k = 0; k < 12; k++)
+            digest = step(digest, keys[CAPELLANOTE_LOTS * (k / 4) + i] >> 8 * (k % 4) & 255);
+        digest = step(digest, papers[i]);
+    }
+    return digest;
+}
+
+static size sum_papers(size lots)
+{
+    size sum = 0;
+    for (size i = 0; i < lots; i++)
+        sum += papers[i];
+    return sum;
+}
+
+/* SIZE */
+static void replay_case(const size *n)
+{
+    size state[3] = { 0, 0, 0 }, answer[6], received = 0, issued = 0, counts = 0, digest = 1, length = n[0];
+    long difference[1];
+    unsigned char *log = block(length);
+    for (size k = 0; k < CAPELLANOTE_KEYS; k++)
+        keys[k] = 1000003 + k;
+    for (size k = 0; k < CAPELLANOTE_LOTS; k++)
+        papers[k] = 1000003 + k;
+    do {
+        capellanote_replay(log, length, state, keys, papers, answer, difference);
+        received += answer[2] == CAPELLANOTE_RECEIVED ? answer[3] : 0;
+        issued += answer[2] == CAPELLANOTE_ISSUED ? answer[3] : 0;
+        counts += answer[2] == CAPELLANOTE_COUNTED;
+        if (answer[2] == CAPELLANOTE_COUNTED)
+            digest = step(step(step(step(step(digest, answer[1]), 0), answer[4]), answer[3]), difference[0]);
+        if (answer[2] == CAPELLANOTE_SKIPPED)
+            digest = step(step(digest, answer[1]), answer[0]);
+    } while (answer[2] != CAPELLANOTE_LOG_END && answer[2] != CAPELLANOTE_STOPPED);
+    printf("events %lu lots %lu received %lu issued %lu paper %lu counts %lu digest %lu", state[1], state[2], received, issued,
+           sum_papers(state[2]), counts, step_lots(digest, state[2]));
+    if (answer[2] == CAPELLANOTE_STOPPED)
+        printf(" refused %lu event %lu", answer[0], answer[1]);
+}
+
 /* The word of a head line, how many numbers follow it, and the greatest that each may be. */
 #define ANY 18446744073709551615ul
 #define I32 2147483647
@@ -244,6 +293,7 @@ static const struct { const char *word; void (*answer)(const size *); size count
     { "write ", write_case, 10, { I32, I32, I32, ROWS, ROWS, ROWS, ROWS, MOST, MOST, ROOM - 1 } },
     { "copy ", copy_case, 5, { 255, ROWS, ROWS, ROOM - 1, MOST } },
     { "catalogue ", catalogue_case, 4, { ROWS, ROWS, ROOM - 1, MOST } },
+    { "replay ", replay_case, 1, { MOST } },
 };
 
 static void answer_case(void)

@@ -7,3 +7,4 @@ pub mod Copy
 pub mod Catalogue
 pub mod Next
 pub mod Feed
+pub mod Replay

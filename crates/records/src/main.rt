@@ -1,10 +1,11 @@
-// Reads the records of files. The first argument says what is written of them; what stands behind it is that sub-command's own.
+// Reads the records of files, or a scanner log. The first argument says what is written of them; what stands behind it is that sub-command's own.
 use program_printer::Task;
 
 enum Verb {
     Read,
     Fetch,
     Canon,
+    Replay,
     Unknown,
 }
 
@@ -17,6 +18,9 @@ fn asked() -> Verb {
     }
     if program_io::is_argument(1, b"canon") {
         return Verb::Canon;
+    }
+    if program_io::is_argument(1, b"replay") {
+        return Verb::Replay;
     }
     Verb::Unknown
 }
@@ -48,6 +52,7 @@ fn main() {
         Verb::Read => read(),
         Verb::Fetch => fetch(),
         Verb::Canon => canon(),
+        Verb::Replay => program_replay::run(2),
         Verb::Unknown => {
             io::write_all(
                 libc::STDERR_FILENO,

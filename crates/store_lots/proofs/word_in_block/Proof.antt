@@ -1,0 +1,53 @@
+-- `store_lots::word_in_block` meets its contract.
+use borrow.Author.Needs.{needs}
+use Prim.Native.Nat.{_+_, _-_, _≤_}
+use native.Mathlib.Omega.{arith}
+use mathlib.Core.Logic.{⊎-elim}
+use mathlib.Core.Path.{_≡_}
+use Rattle.store_lots.specs.Looking.{Missed}
+use Rattle.store_lots.specs.Looking.{missed-start}
+use Rattle.store_lots.specs.Looking.{missed-next}
+use Rattle.store_lots.specs.Looking.{missed-all}
+use Rattle.store_lots.proofs.word_in_block.Statement.{statement}
+use Rattle.store_lots.proofs.word_in_block.Tie as tie
+
+abbrev Inv-loop : tie.InvT-loop
+Inv-loop keys i word w₀ k₀ w k = (k ≤ 16) × (w ≡ 0 → Missed keys word i (i + k))
+
+abbrev μ-loop : tie.MeasureT-loop
+μ-loop keys i word w₀ k₀ w k = 16 - k
+
+loop-holds : tie.Need-loop-holds Inv-loop μ-loop
+loop-holds c = (search needs, λ e. missed-start _ _ _)
+
+add-if1 : tie.Need-add-if1 Inv-loop μ-loop
+add-if1 c = search needs
+
+mul-if1 : tie.Need-mul-if1 Inv-loop μ-loop
+mul-if1 c = search needs
+
+element-copy-out-if1 : tie.Need-element-copy-out-if1 Inv-loop μ-loop
+element-copy-out-if1 c = search needs
+
+add-k : tie.Need-add-k Inv-loop μ-loop
+add-k c = search needs
+
+loop-less : tie.Need-loop-less Inv-loop μ-loop
+loop-less c = search needs
+
+loop-again : tie.Need-loop-again Inv-loop μ-loop
+loop-again c =
+    let l = c .before .before .before in (
+      search needs,
+      λ e. ⊎-elim
+          (λ w. absurd (omega (arith, e, w)))
+          (λ w. missed-next _ _ _ _ (l .loop .inv .1 (omega (arith, e, w))) (w .0 .left))
+          (c .if1 .came),
+    )
+
+returns : tie.Need-returns Inv-loop μ-loop
+returns c e = missed-all _ _ _ _ (c .before .loop .inv .1 e) (search needs) (search needs)
+
+pub word-in-block-spec : {M : Type 1} → statement M
+word-in-block-spec =
+    tie.close (tie.spec Inv-loop μ-loop loop-holds add-if1 mul-if1 element-copy-out-if1 add-k loop-less loop-again returns)
