@@ -1,0 +1,56 @@
+-- Where a symbol is looked for: the first letter tells a row, the second a place in it. Computed from the names but for where the rows start.
+use Prim.Native.Nat.{ℕ, zero, suc, _+_, _*_, _/_, _%_}
+use mathlib.Core.List.{List, [], _∷_, map}
+use mathlib.Core.Bool.{cond}
+use lib.Dec.{eqb}
+use lib.ListN.{getD}
+use Rattle.field_symbols.specs.Codes.{codes}
+
+-- what a `match` answers: of the first pair that begins with s, or else d
+unfoldable pub pick : ℕ → ℕ → List (ℕ × ℕ) → ℕ
+pick d s [] = d
+pick d s (e ∷ es) = cond (eqb (e .0) s) (e .1) (pick d s es)
+
+-- where the row of each first letter starts: chosen so that no two symbols have one place
+unfoldable pub rows : List (ℕ × ℕ)
+rows =
+    (0, 0) ∷ (1, 29) ∷ (2, 93) ∷ (3, 0) ∷ (4, 53) ∷ (5, 55) ∷ (6, 123) ∷ (7, 6) ∷
+    (8, 103) ∷ (9, 57) ∷ (10, 61) ∷ (11, 2) ∷ (12, 111) ∷ (13, 110) ∷ (14, 22) ∷ (15, 9) ∷
+    (16, 66) ∷ (17, 34) ∷ (18, 38) ∷ (19, 51) ∷ (20, 87) ∷ (21, 25) ∷ (22, 3) ∷ (23, 17) ∷
+    (24, 3) ∷ (25, 33) ∷ (26, 101) ∷ (27, 0) ∷ (28, 0) ∷ (29, 0) ∷ (30, 0) ∷ (31, 0) ∷
+    []
+
+-- a first byte leaves the letter's number in the alphabet when it is divided by 32, and so does a second
+unfoldable pub placeOf : ℕ → ℕ
+placeOf x = pick 0 (x % 32) rows + x / 256 % 32
+
+unfoldable pub entriesFrom : ℕ → List ℕ → List (ℕ × ℕ)
+entriesFrom k [] = []
+entriesFrom k (x ∷ xs) = (placeOf x, x * 256 + k) ∷ entriesFrom (suc k) xs
+
+-- each code with its number, at its place
+unfoldable pub entries : List (ℕ × ℕ)
+entries = entriesFrom 1 codes
+
+abbrev pub carbonEntry : ℕ
+carbonEntry = 0x20204306
+
+-- ---- For writing: the first two bytes of four symbols as one number
+
+abbrev pub twoOf : ℕ → ℕ
+twoOf i = getD codes i 0 % 65536
+
+unfoldable pub wordOf : ℕ → ℕ
+wordOf j = twoOf (4 * j) + twoOf (4 * j + 1) * 65536 + twoOf (4 * j + 2) * 4294967296 + twoOf (4 * j + 3) * 281474976710656
+
+unfoldable pub wordsFrom : ℕ → ℕ → List (ℕ × ℕ)
+wordsFrom j zero = []
+wordsFrom j (suc n) = (j, wordOf j) ∷ wordsFrom (suc j) n
+
+unfoldable pub words : List (ℕ × ℕ)
+words = wordsFrom 0 31
+
+unfoldable pub lettersIn : ℕ → ℕ → ℕ
+lettersIn word at =
+    cond (eqb at 0) (word % 65536)
+    (cond (eqb at 1) (word / 65536 % 65536) (cond (eqb at 2) (word / 4294967296 % 65536) (word / 281474976710656 % 65536)))
