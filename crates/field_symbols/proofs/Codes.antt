@@ -1,5 +1,5 @@
 -- Laws on the codes of symbols: that a code stands for its three bytes, and that what code has by first letter is the table.
-use Prim.Native.Nat.{ℕ, zero, suc, _+_, _*_, _-_, _/_, _%_, _≤_, _<_}
+use Prim.Native.Nat.{ℕ, suc, _+_, _*_, _-_, _/_, _%_, _^_, _≤_, _<_}
 use Prim.Native.String.{String}
 use native.Mathlib.Omega.{arith}
 use mathlib.Core.Path.{_≡_, refl, sym, ap, _∙_, subst}
@@ -17,7 +17,7 @@ use Rattle.text.specs.Agree.{same-bytes}
 use Rattle.field_symbols.specs.Read.{among, symbolIn}
 use Rattle.field_symbols.specs.Write.{symbolText}
 use Rattle.field_symbols.specs.Codes.{codeOf, codes, numberOf}
-use Rattle.field_symbols.specs.Places.{pick, rows, placeOf, entries, entriesFrom, carbonEntry, words, wordsFrom, wordOf, lettersIn}
+use Rattle.field_symbols.specs.Places.{pick, rows, placeOf, entries, entriesFrom, carbonEntry, words, wordsFrom, wordOf}
 use Rattle.field_symbols.specs.Agree.{isNumber, is-number}
 use Rattle.text.specs.Laws.{and-true, getD-any}
 use Rattle.field_symbols.specs.Table.{passes, passes-at}
@@ -207,26 +207,26 @@ row-fits r s e = rw e (row-below s)
 
 -- ---- Writing: the words are the table
 
+lettersAt : ℕ → ℕ
+lettersAt i = pick 0 (i / 4) words / 2 ^ (16 * (i % 4)) % 65536
+
 spelled : ℕ → ℕ → Bool
-spelled i x = eqb (lettersIn (pick 0 (i / 4) words) (i % 4) + 0x200000) x
+spelled i x = eqb (lettersAt i + 0x200000) x
 
 all-spelled : passes spelled 0 codes ≡ true
-unfolding passes spelled lettersIn pick words wordsFrom wordOf codes columnsFor
+unfolding passes spelled lettersAt pick words wordsFrom wordOf codes columnsFor
 all-spelled = refl
 
 pub codes-length : length codes ≡ symbolsAll
 unfolding codes
 codes-length = refl
 
-pub letters-are : (k : ℕ) → 1 ≤ k → k ≤ symbolsAll → lettersIn (pick 0 ((k - 1) / 4) words) ((k - 1) % 4) + 0x200000 ≡ getD codes (k - 1) 0
-unfolding spelled
-letters-are k lo hi =
-    eqb-true (lettersIn (pick 0 ((k - 1) / 4) words) ((k - 1) % 4) + 0x200000) (getD codes (k - 1) 0)
-    (let e : 0 + (k - 1) ≡ k - 1 = omega arith in
-    subst (λ (i : ℕ). spelled i (getD codes (k - 1) 0) ≡ true) e (passes-at spelled 0 codes 0 (k - 1) all-spelled (omega (arith, codes-length))))
-
-pub letters-told : (k w r : ℕ) → 1 ≤ k → k ≤ symbolsAll → w ≡ pick 0 ((k - 1) / 4) words → r ≡ lettersIn w ((k - 1) % 4) → r + 0x200000 ≡ getD codes (k - 1) 0
-letters-told k w r lo hi p q = rw (q, p) (letters-are k lo hi)
+pub letters-told : (k w : ℕ) → 1 ≤ k → k ≤ symbolsAll → w ≡ pick 0 ((k - 1) / 4) words → w / 2 ^ (16 * ((k - 1) % 4)) % 65536 + 0x200000 ≡ getD codes (k - 1) 0
+unfolding spelled lettersAt
+letters-told k w lo hi p =
+    let e : 0 + (k - 1) ≡ k - 1 = omega arith in
+    let t = subst (λ (i : ℕ). spelled i (getD codes (k - 1) 0) ≡ true) e (passes-at spelled 0 codes 0 (k - 1) all-spelled (omega (arith, codes-length))) in
+    rw p (eqb-true (lettersAt (k - 1) + 0x200000) (getD codes (k - 1) 0) t)
 
 -- ---- A code gives its bytes back
 

@@ -49,8 +49,3 @@ wordsFrom j (suc n) = (j, wordOf j) ∷ wordsFrom (suc j) n
 
 unfoldable pub words : List (ℕ × ℕ)
 words = wordsFrom 0 31
-
-unfoldable pub lettersIn : ℕ → ℕ → ℕ
-lettersIn word at =
-    cond (eqb at 0) (word % 65536)
-    (cond (eqb at 1) (word / 65536 % 65536) (cond (eqb at 2) (word / 4294967296 % 65536) (word / 281474976710656 % 65536)))

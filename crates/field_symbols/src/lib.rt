@@ -8,7 +8,7 @@ ghost use Rattle.field_symbols.specs.Symbol.{symbolsAll};
 ghost use Rattle.field_symbols.specs.Read.{symbolIn};
 ghost use Rattle.field_symbols.specs.Write.{symbolText};
 ghost use Rattle.field_symbols.specs.Codes.{codes, numberOf};
-ghost use Rattle.field_symbols.specs.Places.{pick, rows, entries, carbonEntry, words, lettersIn};
+ghost use Rattle.field_symbols.specs.Places.{pick, rows, entries, carbonEntry, words};
 
 // How many symbols there are.
 pub const SYMBOLS: u32 = 122;
@@ -203,11 +203,11 @@ fn any_symbol(code: u32) -> SymbolRead
     SymbolRead::Unknown
 }
 
-// The number of a code. Of one letter alone, the usual ones, C, N and O, come first.
+// The number of a code. Those of one letter are the lowest, and of these C, N and O come first.
 fn symbol_of(code: u32) -> SymbolRead
     ensures { λ r. ⌜ r ≡ numberOf code 1 codes ⌝ }
 {
-    if code / 256 == 0x2020 {
+    if code < 0x202100 {
         if code == 0x202043 {
             return SymbolRead::Is(6);
         }
@@ -292,28 +292,14 @@ fn word_at(j: u32) -> u64
     }
 }
 
-// Two bytes of a word, the first two for 0.
-fn letters_in(word: u64, at: u32) -> u32
-    ensures { λ r. ⌜ r ≡ lettersIn word at ⌝ }
-{
-    if at == 0 {
-        return (word % 65536) as u32;
-    }
-    if at == 1 {
-        return (word / 65536 % 65536) as u32;
-    }
-    if at == 2 {
-        return (word / 4294967296 % 65536) as u32;
-    }
-    (word / 281474976710656 % 65536) as u32
-}
-
 // The first two bytes of symbol k.
 fn letters_of(k: u32) -> u32
     requires { ⌜ (1 ≤ k) × (k ≤ symbolsAll) ⌝ }
     ensures { λ r. ⌜ r + 0x200000 ≡ getD codes (k - 1) 0 ⌝ }
 {
-    letters_in(word_at((k - 1) / 4), (k - 1) % 4)
+    let i = k - 1;
+    let word = word_at(i / 4);
+    ((word >> (16 * (i % 4))) % 65536) as u32
 }
 
 // Writes the three columns of symbol k, the last of them a space.
