@@ -79,7 +79,7 @@ three-columns l i =
     let g : i + 2 ≡ suc (suc i) = omega arith in
     rw (e, f, g)
 
-pub symbol-found : (l : Line) (i a b c : ℕ) → a ≡ column l i → b ≡ column l (i + 1) → c ≡ column l (i + 2) → a < 256 → b < 256 → c < 256 →
+symbol-found : (l : Line) (i a b c : ℕ) → a ≡ column l i → b ≡ column l (i + 1) → c ≡ column l (i + 2) → a < 256 → b < 256 → c < 256 →
     numberOf (a + b * 256 + c * 65536) 1 codes ≡ symbolIn (columns l i (i + 2))
 symbol-found l i a b c p q r a< b< c< =
     let e : a ∷ b ∷ c ∷ [] ≡ column l i ∷ column l (i + 1) ∷ column l (i + 2) ∷ [] = cc in
@@ -108,7 +108,7 @@ pub ruleset usual-laws = (carbon, nitrogen, oxygen)
 
 -- ---- What a `match` answers
 
--- x is the first of no pair of the list, as the last arm of a `match` has it
+-- s is the first of no pair of the list, as the last arm of a `match` has it
 unfoldable pub Others : ℕ → Type 0 → List (ℕ × ℕ) → Type 0
 Others s A [] = A
 Others s A (e ∷ es) = Others s (A × (s ≡ e .0 → ⊥)) es

@@ -1,9 +1,10 @@
 -- Where a symbol is looked for: the first letter tells a row, the second a place in it. Computed from the names but for where the rows start.
 use Prim.Native.Nat.{ℕ, zero, suc, _+_, _*_, _/_, _%_}
-use mathlib.Core.List.{List, [], _∷_, map}
+use mathlib.Core.List.{List, [], _∷_}
 use mathlib.Core.Bool.{cond}
 use lib.Dec.{eqb}
 use lib.ListN.{getD}
+use Rattle.field_symbols.specs.Symbol.{symbolsAll}
 use Rattle.field_symbols.specs.Codes.{codes}
 
 -- what a `match` answers: of the first pair that begins with s, or else d
@@ -20,7 +21,7 @@ rows =
     (24, 3) ∷ (25, 33) ∷ (26, 101) ∷ (27, 0) ∷ (28, 0) ∷ (29, 0) ∷ (30, 0) ∷ (31, 0) ∷
     []
 
--- a first byte leaves the letter's number in the alphabet when it is divided by 32, and so does a second
+-- divided by 32, a letter leaves its number in the alphabet; a space leaves 0
 unfoldable pub placeOf : ℕ → ℕ
 placeOf x = pick 0 (x % 32) rows + x / 256 % 32
 
@@ -32,6 +33,7 @@ entriesFrom k (x ∷ xs) = (placeOf x, x * 256 + k) ∷ entriesFrom (suc k) xs
 unfoldable pub entries : List (ℕ × ℕ)
 entries = entriesFrom 1 codes
 
+-- what is answered where no symbol stands: an entry as good as any
 abbrev pub carbonEntry : ℕ
 carbonEntry = 0x20204306
 
@@ -48,4 +50,4 @@ wordsFrom j zero = []
 wordsFrom j (suc n) = (j, wordOf j) ∷ wordsFrom (suc j) n
 
 unfoldable pub words : List (ℕ × ℕ)
-words = wordsFrom 0 31
+words = wordsFrom 0 ((symbolsAll + 3) / 4)

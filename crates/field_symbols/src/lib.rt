@@ -60,7 +60,7 @@ fn row_at(letter: u32) -> u32
     }
 }
 
-// The symbol at a place: its three bytes, the first lowest, and below them its number. A place where none stands answers carbon.
+// The symbol at a place: its number, and above that its three bytes, the first lowest. Where none stands, carbon.
 fn entry_at(place: u32) -> u32
     ensures { λ r. ⌜ r ≡ pick carbonEntry place entries ⌝ }
 {
