@@ -9,6 +9,7 @@ use lib.ListN.{getD, length, drop, drop-of-length-le}
 use lib.Seq.{drop-cons}
 use lib.IntN.{ℤ, pos, negsuc, natAbs}
 use Rattle.field_numbers.specs.Number.{OneOf}
+use Rattle.field_symbols.specs.Symbol.{symbolsAll}
 use Rattle.rules.specs.Forms.{stereos, Kind, CHG, RAD, ISO, Entry}
 use Rattle.rules.specs.Record.{Molecule}
 use Rattle.rules.specs.Meaning.{chargeOfCode, radicalOfCode, among, has, numberIn, given, atomNumbers, atomsFrom, bondNumbers, Reading, meaning}
@@ -85,7 +86,7 @@ atom-back : (n : ℕ) (m : Molecule) (i : ℕ) (t : List ℤ) → length t ≡ 1
 unfolding atomOf
 atom-back n m i t h w g z =
     let a = atomRow t in
-    let symbol = size-back 1 122 (a .symbol) (w .symbol) in
+    let symbol = size-back 1 symbolsAll (a .symbol) (w .symbol) in
     let mass = mass-by (has ISO m) (a .mass-difference) z in
     let charge = charge-by (has CHG m) (given CHG m i) (a .charge) (a .radical) (nothing-given CHG m i) (g CHG) in
     let radical = radical-by (has RAD m) (given RAD m i) (a .charge) (a .radical) (nothing-given RAD m i) (g RAD) in
