@@ -195,6 +195,16 @@ def bonds(m):
     return record
 
 
+def atoms_of(symbols):
+    """Records of these atoms without bonds."""
+    def record(rng, number):
+        lines = header(rng, number) + [counts_line(len(symbols), 0)]
+        for symbol in symbols:
+            lines.append(atom_line(rng.uniform(-9, 9), rng.uniform(-9, 9), 0.0, symbol))
+        return lines + ["M  END"] + item("LOT", "%05d" % rng.randrange(100000)) + ["$$$$"]
+    return record
+
+
 def long_item(size, width=64):
     """`size` bytes of value lines, LF included, in lines of `width` and a last one of what is over."""
     letters = "".join(random.Random(size).choices("ACDEFGHIKLMNPQRSTVWY", k=2 * size))

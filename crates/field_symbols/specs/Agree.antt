@@ -52,11 +52,11 @@ among-sound cs k j (s ∷ ss) h = go (sameBytes cs (columns (bytes s) 1 3)) refl
 
 -- ---- A symbol is found: no name stands twice
 
-isNumber : ℕ → SymbolRead → Bool
+unfoldable pub isNumber : ℕ → SymbolRead → Bool
 isNumber k (Is j) = eqb j k
 isNumber k Unknown = false
 
-is-number : (k : ℕ) (r : SymbolRead) → isNumber k r ≡ true → r ≡ Is k
+pub is-number : (k : ℕ) (r : SymbolRead) → isNumber k r ≡ true → r ≡ Is k
 unfolding isNumber
 is-number k (Is j) h = ap Is (eqb-true j k h)
 is-number k Unknown h = absurd (let z : _≡_ {A = ℕ} 0 1 = cc in omega arith)

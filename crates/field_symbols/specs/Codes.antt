@@ -1,4 +1,4 @@
--- The names as numbers: three bytes are one number, so that the code compares them at once.
+-- The names as numbers: three bytes are one number, the first lowest, so that the code compares them at once.
 use Prim.Native.Nat.{ℕ, suc, _+_, _*_}
 use mathlib.Core.List.{List, [], _∷_, map}
 use mathlib.Core.Bool.{cond}
@@ -11,7 +11,7 @@ use Rattle.field_symbols.specs.declared.SymbolRead.{SymbolRead}
 use Rattle.field_symbols.specs.declared.SymbolRead.the-variants.{Is, Unknown}
 
 abbrev pub codeOf : Bytes → ℕ
-codeOf cs = getD cs 0 0 * 65536 + getD cs 1 0 * 256 + getD cs 2 0
+codeOf cs = getD cs 0 0 + getD cs 1 0 * 256 + getD cs 2 0 * 65536
 
 unfoldable pub codes : List ℕ
 codes = map (λ s. codeOf (columns (bytes s) 1 3)) names

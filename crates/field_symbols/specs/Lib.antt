@@ -4,3 +4,4 @@ pub mod Table
 pub mod Agree
 pub mod Write
 pub mod Codes
+pub mod Places

@@ -27,11 +27,15 @@ names =
 abbrev pub name : ℕ → String
 name k = getD names (k - 1) ""
 
+-- how many symbols there are
+abbrev pub symbolsAll : ℕ
+symbolsAll = length names
+
 -- three columns hold name k, from the first of them on, and spaces where the name is shorter
 pub record Symbol (cs : Bytes) (k : ℕ) : Type 0 where
   pub low : 1 ≤ k
-  pub high : k ≤ length names
+  pub high : k ≤ symbolsAll
   pub text : cs ≡ columns (bytes (name k)) 1 3
 
-pub names-all : length names ≡ 122
+pub names-all : symbolsAll ≡ 122
 names-all = refl

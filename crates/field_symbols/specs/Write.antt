@@ -9,7 +9,7 @@ use lib.ListN.{length, List·getD-eq-default}
 use borrow.Author.Tests.{leb-true, leb-false}
 use Rattle.text.specs.Text.{Bytes, bytes, Each}
 use Rattle.text.specs.Columns.{columns, columnsFor, Allowed}
-use Rattle.field_symbols.specs.Symbol.{names, name, Symbol}
+use Rattle.field_symbols.specs.Symbol.{names, name, symbolsAll, Symbol}
 use Rattle.field_symbols.specs.Read.{symbolIn}
 use Rattle.text.specs.Laws.{and-true}
 use Rattle.field_symbols.specs.Table.{passes, passes-at}
@@ -21,7 +21,7 @@ symbolText k = columns (bytes (name k)) 1 3
 
 -- ---- Written and read are each other's inverse
 
-pub symbol-back : (k : ℕ) → 1 ≤ k → k ≤ 122 → Symbol (symbolText k) k
+pub symbol-back : (k : ℕ) → 1 ≤ k → k ≤ symbolsAll → Symbol (symbolText k) k
 unfolding symbolText
 symbol-back k lo hi = record { low = lo; high = hi; text = refl }
 
@@ -29,7 +29,7 @@ pub symbol-is : {cs : Bytes} {k : ℕ} → Symbol cs k → cs ≡ symbolText k
 unfolding symbolText
 symbol-is s = s .text
 
-pub symbol-read : (k : ℕ) → 1 ≤ k → k ≤ 122 → symbolIn (symbolText k) ≡ Is k
+pub symbol-read : (k : ℕ) → 1 ≤ k → k ≤ symbolsAll → symbolIn (symbolText k) ≡ Is k
 symbol-read k lo hi = symbol-agrees (symbolText k) k .1 (symbol-back k lo hi)
 
 -- ---- What is written
@@ -59,8 +59,8 @@ all-allowed = refl
 
 pub symbol-allowed : (k : ℕ) → Each Allowed (symbolText k)
 unfolding symbolText writes-allowed columnsFor allowed?
-symbol-allowed k = each-allowed (columns (bytes (name k)) 1 3) (go (leb 122 (k - 1)) refl)
+symbol-allowed k = each-allowed (columns (bytes (name k)) 1 3) (go (leb symbolsAll (k - 1)) refl)
   where
-    go : (t : Bool) → leb 122 (k - 1) ≡ t → allowed? (columns (bytes (name k)) 1 3) ≡ true
-    go true e = rw (List·getD-eq-default names "" (leb-true 122 (k - 1) e))
-    go false e = passes-at writes-allowed "" names 0 (k - 1) all-allowed (leb-false 122 (k - 1) e)
+    go : (t : Bool) → leb symbolsAll (k - 1) ≡ t → allowed? (columns (bytes (name k)) 1 3) ≡ true
+    go true e = rw (List·getD-eq-default names "" (leb-true symbolsAll (k - 1) e))
+    go false e = passes-at writes-allowed "" names 0 (k - 1) all-allowed (leb-false symbolsAll (k - 1) e)

@@ -1,12 +1,17 @@
 // The symbols of atoms and their numbers.
 ghost use mathlib.Core.Path.{_≡_};
-ghost use Prim.Native.Nat.{_+_, _-_, _≤_};
+ghost use Prim.Native.Nat.{_+_, _*_, _-_, _≤_};
 ghost use lib.ListN.{length, getD};
 ghost use lib.Seq.{sets};
 ghost use Rattle.text.specs.Columns.{columns};
+ghost use Rattle.field_symbols.specs.Symbol.{symbolsAll};
 ghost use Rattle.field_symbols.specs.Read.{symbolIn};
 ghost use Rattle.field_symbols.specs.Write.{symbolText};
 ghost use Rattle.field_symbols.specs.Codes.{codes, numberOf};
+ghost use Rattle.field_symbols.specs.Places.{pick, rows, entries, carbonEntry, words};
+
+// How many symbols there are.
+pub const SYMBOLS: u32 = 122;
 
 // What three columns stand for.
 pub enum SymbolRead {
@@ -14,168 +19,227 @@ pub enum SymbolRead {
     Unknown,
 }
 
-// The three bytes of each symbol as one number, two digits a byte, in the order of the symbols' numbers.
-const CODES: [u32; 122] = [
-    0x482020, // H
-    0x486520, // He
-    0x4c6920, // Li
-    0x426520, // Be
-    0x422020, // B
-    0x432020, // C
-    0x4e2020, // N
-    0x4f2020, // O
-    0x462020, // F
-    0x4e6520, // Ne
-    0x4e6120, // Na
-    0x4d6720, // Mg
-    0x416c20, // Al
-    0x536920, // Si
-    0x502020, // P
-    0x532020, // S
-    0x436c20, // Cl
-    0x417220, // Ar
-    0x4b2020, // K
-    0x436120, // Ca
-    0x536320, // Sc
-    0x546920, // Ti
-    0x562020, // V
-    0x437220, // Cr
-    0x4d6e20, // Mn
-    0x466520, // Fe
-    0x436f20, // Co
-    0x4e6920, // Ni
-    0x437520, // Cu
-    0x5a6e20, // Zn
-    0x476120, // Ga
-    0x476520, // Ge
-    0x417320, // As
-    0x536520, // Se
-    0x427220, // Br
-    0x4b7220, // Kr
-    0x526220, // Rb
-    0x537220, // Sr
-    0x592020, // Y
-    0x5a7220, // Zr
-    0x4e6220, // Nb
-    0x4d6f20, // Mo
-    0x546320, // Tc
-    0x527520, // Ru
-    0x526820, // Rh
-    0x506420, // Pd
-    0x416720, // Ag
-    0x436420, // Cd
-    0x496e20, // In
-    0x536e20, // Sn
-    0x536220, // Sb
-    0x546520, // Te
-    0x492020, // I
-    0x586520, // Xe
-    0x437320, // Cs
-    0x426120, // Ba
-    0x4c6120, // La
-    0x436520, // Ce
-    0x507220, // Pr
-    0x4e6420, // Nd
-    0x506d20, // Pm
-    0x536d20, // Sm
-    0x457520, // Eu
-    0x476420, // Gd
-    0x546220, // Tb
-    0x447920, // Dy
-    0x486f20, // Ho
-    0x457220, // Er
-    0x546d20, // Tm
-    0x596220, // Yb
-    0x4c7520, // Lu
-    0x486620, // Hf
-    0x546120, // Ta
-    0x572020, // W
-    0x526520, // Re
-    0x4f7320, // Os
-    0x497220, // Ir
-    0x507420, // Pt
-    0x417520, // Au
-    0x486720, // Hg
-    0x546c20, // Tl
-    0x506220, // Pb
-    0x426920, // Bi
-    0x506f20, // Po
-    0x417420, // At
-    0x526e20, // Rn
-    0x467220, // Fr
-    0x526120, // Ra
-    0x416320, // Ac
-    0x546820, // Th
-    0x506120, // Pa
-    0x552020, // U
-    0x4e7020, // Np
-    0x507520, // Pu
-    0x416d20, // Am
-    0x436d20, // Cm
-    0x426b20, // Bk
-    0x436620, // Cf
-    0x457320, // Es
-    0x466d20, // Fm
-    0x4d6420, // Md
-    0x4e6f20, // No
-    0x4c7220, // Lr
-    0x526620, // Rf
-    0x446220, // Db
-    0x536720, // Sg
-    0x426820, // Bh
-    0x487320, // Hs
-    0x4d7420, // Mt
-    0x447320, // Ds
-    0x526720, // Rg
-    0x436e20, // Cn
-    0x4e6820, // Nh
-    0x466c20, // Fl
-    0x4d6320, // Mc
-    0x4c7620, // Lv
-    0x547320, // Ts
-    0x4f6720, // Og
-    0x412020, // A
-    0x512020, // Q
-    0x2a2020, // *
-    0x4c5020, // LP
-];
-
-// The number of the first entry that is the code.
-fn find_code(table: &[u32], code: u32) -> SymbolRead
-    requires { ⌜ length (now table) ≤ 1000 ⌝ }
-    ensures { λ r. ⌜ r ≡ numberOf code 1 (now (table .entry)) ⌝ }
+// Where the row of a first letter starts, by the letter's number in the alphabet; the star stands where J would.
+fn row_at(letter: u32) -> u32
+    ensures { λ r. ⌜ r ≡ pick 0 letter rows ⌝ }
 {
-    let mut i = 0;
-    while i < table.len() {
-        if table[i] == code {
-            return SymbolRead::Is((i as u32) + 1);
-        }
-        i += 1;
+    match letter {
+        0 => 0,
+        1 => 23, // A
+        2 => 100, // B
+        3 => 0, // C
+        4 => 30, // D
+        5 => 95, // E
+        6 => 69, // F
+        7 => 122, // G
+        8 => 88, // H
+        9 => 92, // I
+        10 => 51, // *
+        11 => 99, // K
+        12 => 103, // L
+        13 => 82, // M
+        14 => 75, // N
+        15 => 10, // O
+        16 => 7, // P
+        17 => 3, // Q
+        18 => 32, // R
+        19 => 45, // S
+        20 => 59, // T
+        21 => 24, // U
+        22 => 2, // V
+        23 => 31, // W
+        24 => 11, // X
+        25 => 120, // Y
+        26 => 52, // Z
+        27 => 0,
+        28 => 0,
+        29 => 0,
+        30 => 0,
+        31 => 0,
+        _ => 0,
+    }
+}
+
+// The symbol at a place: its number, and above that its three bytes, the first lowest. Where none stands, carbon.
+fn entry_at(place: u32) -> u32
+    ensures { λ r. ⌜ r ≡ pick carbonEntry place entries ⌝ }
+{
+    match place {
+        88 => 0x20204801, // H
+        93 => 0x20654802, // He
+        112 => 0x20694c03, // Li
+        105 => 0x20654204, // Be
+        100 => 0x20204205, // B
+        0 => 0x20204306, // C
+        75 => 0x20204e07, // N
+        10 => 0x20204f08, // O
+        69 => 0x20204609, // F
+        80 => 0x20654e0a, // Ne
+        76 => 0x20614e0b, // Na
+        89 => 0x20674d0c, // Mg
+        35 => 0x206c410d, // Al
+        54 => 0x2069530e, // Si
+        7 => 0x2020500f, // P
+        45 => 0x20205310, // S
+        12 => 0x206c4311, // Cl
+        41 => 0x20724112, // Ar
+        99 => 0x20204b13, // K
+        1 => 0x20614314, // Ca
+        48 => 0x20635315, // Sc
+        68 => 0x20695416, // Ti
+        2 => 0x20205617, // V
+        18 => 0x20724318, // Cr
+        96 => 0x206e4d19, // Mn
+        74 => 0x2065461a, // Fe
+        15 => 0x206f431b, // Co
+        84 => 0x20694e1c, // Ni
+        21 => 0x2075431d, // Cu
+        66 => 0x206e5a1e, // Zn
+        123 => 0x2061471f, // Ga
+        127 => 0x20654720, // Ge
+        42 => 0x20734121, // As
+        50 => 0x20655322, // Se
+        118 => 0x20724223, // Br
+        117 => 0x20724b24, // Kr
+        34 => 0x20625225, // Rb
+        63 => 0x20725326, // Sr
+        120 => 0x20205927, // Y
+        70 => 0x20725a28, // Zr
+        77 => 0x20624e29, // Nb
+        97 => 0x206f4d2a, // Mo
+        62 => 0x2063542b, // Tc
+        53 => 0x2075522c, // Ru
+        40 => 0x2068522d, // Rh
+        11 => 0x2064502e, // Pd
+        30 => 0x2067412f, // Ag
+        4 => 0x20644330, // Cd
+        106 => 0x206e4931, // In
+        59 => 0x206e5332, // Sn
+        47 => 0x20625333, // Sb
+        64 => 0x20655434, // Te
+        92 => 0x20204935, // I
+        16 => 0x20655836, // Xe
+        19 => 0x20734337, // Cs
+        101 => 0x20614238, // Ba
+        104 => 0x20614c39, // La
+        5 => 0x2065433a, // Ce
+        25 => 0x2072503b, // Pr
+        79 => 0x20644e3c, // Nd
+        20 => 0x206d503d, // Pm
+        58 => 0x206d533e, // Sm
+        116 => 0x2075453f, // Eu
+        126 => 0x20644740, // Gd
+        61 => 0x20625441, // Tb
+        55 => 0x20794442, // Dy
+        103 => 0x206f4843, // Ho
+        113 => 0x20724544, // Er
+        72 => 0x206d5445, // Tm
+        122 => 0x20625946, // Yb
+        124 => 0x20754c47, // Lu
+        94 => 0x20664848, // Hf
+        60 => 0x20615449, // Ta
+        31 => 0x2020574a, // W
+        37 => 0x2065524b, // Re
+        29 => 0x20734f4c, // Os
+        110 => 0x2072494d, // Ir
+        27 => 0x2074504e, // Pt
+        44 => 0x2075414f, // Au
+        95 => 0x20674850, // Hg
+        71 => 0x206c5451, // Tl
+        9 => 0x20625052, // Pb
+        109 => 0x20694253, // Bi
+        22 => 0x206f5054, // Po
+        43 => 0x20744155, // At
+        46 => 0x206e5256, // Rn
+        87 => 0x20724657, // Fr
+        33 => 0x20615258, // Ra
+        26 => 0x20634159, // Ac
+        67 => 0x2068545a, // Th
+        8 => 0x2061505b, // Pa
+        24 => 0x2020555c, // U
+        91 => 0x20704e5d, // Np
+        28 => 0x2075505e, // Pu
+        36 => 0x206d415f, // Am
+        13 => 0x206d4360, // Cm
+        111 => 0x206b4261, // Bk
+        6 => 0x20664362, // Cf
+        114 => 0x20734563, // Es
+        82 => 0x206d4664, // Fm
+        86 => 0x20644d65, // Md
+        90 => 0x206f4e66, // No
+        121 => 0x20724c67, // Lr
+        38 => 0x20665268, // Rf
+        32 => 0x20624469, // Db
+        52 => 0x2067536a, // Sg
+        108 => 0x2068426b, // Bh
+        107 => 0x2073486c, // Hs
+        102 => 0x20744d6d, // Mt
+        49 => 0x2073446e, // Ds
+        39 => 0x2067526f, // Rg
+        14 => 0x206e4370, // Cn
+        83 => 0x20684e71, // Nh
+        81 => 0x206c4672, // Fl
+        85 => 0x20634d73, // Mc
+        125 => 0x20764c74, // Lv
+        78 => 0x20735475, // Ts
+        17 => 0x20674f76, // Og
+        23 => 0x20204177, // A
+        3 => 0x20205178, // Q
+        51 => 0x20202a79, // *
+        119 => 0x20504c7a, // LP
+        _ => 0x20204306,
+    }
+}
+
+// The first letter tells the row, the second the place in it; what stands there has the last word.
+fn any_symbol(code: u32) -> SymbolRead
+    ensures { λ r. ⌜ r ≡ numberOf code 1 codes ⌝ }
+{
+    let row = row_at(code % 32);
+    let entry = entry_at(row + code / 256 % 32);
+    if entry / 256 == code {
+        return SymbolRead::Is(entry % 256);
     }
     SymbolRead::Unknown
 }
 
-// The number of a code. Each use lays the table out anew.
-fn any_symbol(code: u32) -> SymbolRead
-    ensures { λ r. ⌜ r ≡ numberOf code 1 codes ⌝ }
-{
-    find_code(&CODES, code)
-}
-
-// The usual ones, C, N and O, without the table.
+// The number of a code, the usual ones first.
 fn symbol_of(code: u32) -> SymbolRead
     ensures { λ r. ⌜ r ≡ numberOf code 1 codes ⌝ }
 {
-    if code == 0x432020 {
+    if code == 0x202043 {
         return SymbolRead::Is(6);
     }
-    if code == 0x4e2020 {
+    if code == 0x20204e {
         return SymbolRead::Is(7);
     }
-    if code == 0x4f2020 {
+    if code == 0x20204f {
         return SymbolRead::Is(8);
     }
     any_symbol(code)
+}
+
+fn joined(a: u8, b: u8, c: u8) -> u32
+    ensures { λ r. ⌜ r ≡ a + b * 256 + c * 65536 ⌝ }
+{
+    (a as u32) + (b as u32) * 256 + (c as u32) * 65536
+}
+
+// The code in columns i to i + 2. Where the line has all three, its length is asked once.
+fn code_in(line: &[u8], i: usize) -> u32
+    requires { ⌜ (1 ≤ i) × (i ≤ 1000) ⌝ }
+    ensures { λ r. ⌜ numberOf r 1 codes ≡ symbolIn (columns (now (line .entry)) i (i + 2)) ⌝ }
+{
+    if i + 2 <= line.len() {
+        let a = text::inner_column(line, i);
+        let b = text::inner_column(line, i + 1);
+        let c = text::inner_column(line, i + 2);
+        return joined(a, b, c);
+    }
+    let a = text::column(line, i);
+    let b = text::column(line, i + 1);
+    let c = text::column(line, i + 2);
+    joined(a, b, c)
 }
 
 // The symbol in columns i to i + 2.
@@ -183,43 +247,66 @@ pub fn symbol(line: &[u8], i: usize) -> SymbolRead
     requires { ⌜ (1 ≤ i) × (i ≤ 1000) ⌝ }
     ensures { λ r. ⌜ r ≡ symbolIn (columns (now (line .entry)) i (i + 2)) ⌝ }
 {
-    let a = text::column(line, i);
-    let b = text::column(line, i + 1);
-    let c = text::column(line, i + 2);
-    symbol_of((a as u32) * 65536 + (b as u32) * 256 + (c as u32))
+    symbol_of(code_in(line, i))
 }
 
-fn any_code(k: u32) -> u32
-    requires { ⌜ (1 ≤ k) × (k ≤ 122) ⌝ }
-    ensures { λ r. ⌜ r ≡ getD codes (k - 1) 0 ⌝ }
+// The first two bytes of four symbols in the order of their numbers, the first lowest.
+fn word_at(j: u32) -> u64
+    ensures { λ r. ⌜ r ≡ pick 0 j words ⌝ }
 {
-    CODES[(k - 1) as usize]
+    match j {
+        0 => 0x6542694c65482048, // H He Li Be
+        1 => 0x204f204e20432042, // B C N O
+        2 => 0x674d614e654e2046, // F Ne Na Mg
+        3 => 0x2053205069536c41, // Al Si P S
+        4 => 0x6143204b72416c43, // Cl Ar K Ca
+        5 => 0x7243205669546353, // Sc Ti V Cr
+        6 => 0x694e6f4365466e4d, // Mn Fe Co Ni
+        7 => 0x654761476e5a7543, // Cu Zn Ga Ge
+        8 => 0x724b724265537341, // As Se Br Kr
+        9 => 0x725a205972536252, // Rb Sr Y Zr
+        10 => 0x755263546f4d624e, // Nb Mo Tc Ru
+        11 => 0x6443674164506852, // Rh Pd Ag Cd
+        12 => 0x655462536e536e49, // In Sn Sb Te
+        13 => 0x6142734365582049, // I Xe Cs Ba
+        14 => 0x644e72506543614c, // La Ce Pr Nd
+        15 => 0x644775456d536d50, // Pm Sm Eu Gd
+        16 => 0x72456f4879446254, // Tb Dy Ho Er
+        17 => 0x6648754c62596d54, // Tm Yb Lu Hf
+        18 => 0x734f655220576154, // Ta W Re Os
+        19 => 0x6748754174507249, // Ir Pt Au Hg
+        20 => 0x6f50694262506c54, // Tl Pb Bi Po
+        21 => 0x615272466e527441, // At Rn Fr Ra
+        22 => 0x2055615068546341, // Ac Th Pa U
+        23 => 0x6d436d417550704e, // Np Pu Am Cm
+        24 => 0x6d46734566436b42, // Bk Cf Es Fm
+        25 => 0x6652724c6f4e644d, // Md No Lr Rf
+        26 => 0x7348684267536244, // Db Sg Bh Hs
+        27 => 0x6e4367527344744d, // Mt Ds Rg Cn
+        28 => 0x764c634d6c46684e, // Nh Fl Mc Lv
+        29 => 0x20512041674f7354, // Ts Og A Q
+        30 => 0x00000000504c202a, // * LP
+        _ => 0,
+    }
 }
 
-// The code of a number, the usual ones without the table.
-fn code_at(k: u32) -> u32
-    requires { ⌜ (1 ≤ k) × (k ≤ 122) ⌝ }
-    ensures { λ r. ⌜ r ≡ getD codes (k - 1) 0 ⌝ }
+// The first two bytes of symbol k.
+fn letters_of(k: u32) -> u32
+    requires { ⌜ (1 ≤ k) × (k ≤ symbolsAll) ⌝ }
+    ensures { λ r. ⌜ r + 0x200000 ≡ getD codes (k - 1) 0 ⌝ }
 {
-    if k == 6 {
-        return 0x432020;
-    }
-    if k == 7 {
-        return 0x4e2020;
-    }
-    if k == 8 {
-        return 0x4f2020;
-    }
-    any_code(k)
+    let i = k - 1;
+    let word = word_at(i / 4);
+    ((word >> (16 * (i % 4))) % 65536) as u32
 }
 
-// Writes the three columns of symbol k.
+// Writes the three columns of symbol k, the last of them a space.
 pub fn put_symbol(out: &mut [u8], at: usize, k: u32)
-    requires { ⌜ (at + 3 ≤ length (now out)) × ((1 ≤ k) × (k ≤ 122)) ⌝ }
+    requires { ⌜ (at + 3 ≤ length (now out)) × ((1 ≤ k) × (k ≤ symbolsAll)) ⌝ }
     ensures { λ _. ⌜ now (out .exit) ≡ sets (now (out .entry)) at (symbolText k) ⌝ }
 {
-    let code = code_at(k);
-    out[at] = (code / 65536) as u8;
-    out[at + 1] = (code / 256 % 256) as u8;
-    out[at + 2] = (code % 256) as u8;
+    let letters = letters_of(k);
+    out[at] = (letters % 256) as u8;
+    out[at + 1] = (letters / 256) as u8;
+    out[at + 2] = b' ';
 }

@@ -201,7 +201,7 @@ fn put_symbol(room: &mut [u8], at: usize, k: u32) -> usize
     if k < 1 {
         return at;
     }
-    if 122 < k {
+    if field_symbols::SYMBOLS < k {
         return at;
     }
     field_symbols::put_symbol(room, at, k);

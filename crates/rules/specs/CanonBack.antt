@@ -10,6 +10,7 @@ use lib.Seq.{drop-cons}
 use lib.IntN.{ℤ, pos, negsuc, natAbs}
 use Rattle.text.specs.Laws.{or-false}
 use Rattle.field_numbers.specs.Number.{OneOf}
+use Rattle.field_symbols.specs.Symbol.{symbolsAll}
 use Rattle.rules.specs.Forms.{stereos, Kind, CHG, RAD, ISO, Entry}
 use Rattle.rules.specs.Record.{Molecule}
 use Rattle.rules.specs.Meaning.{chargeOfCode, radicalOfCode, among, has, codesVoid, numberIn, given, atomNumbers, atomsFrom, bondNumbers, Reading, meaning}
@@ -86,7 +87,7 @@ atom-back : (n : ℕ) (m : Molecule) (i : ℕ) (t : List ℤ) → length t ≡ 1
 unfolding atomOf
 atom-back n m i t h w g z =
     let a = atomRow t in
-    let symbol = size-back 1 122 (a .symbol) (w .symbol) in
+    let symbol = size-back 1 symbolsAll (a .symbol) (w .symbol) in
     let mass = mass-by (has ISO m) (a .mass-difference) z in
     let charge = charge-by (codesVoid m) (given CHG m i) (a .charge) (a .radical) (λ e. nothing-given CHG m i (or-false (has CHG m) (has RAD m) e .0)) (g CHG) in
     let radical = radical-by (codesVoid m) (given RAD m i) (a .charge) (a .radical) (λ e. nothing-given RAD m i (or-false (has CHG m) (has RAD m) e .1)) (g RAD) in

@@ -17,6 +17,7 @@ use Rattle.field_numbers.specs.Write.{numberText, signedText}
 use Rattle.field_numbers.specs.Written.{text-length, number-length, signed-length}
 use Rattle.field_coordinates.specs.Write.{coordinateText}
 use Rattle.field_coordinates.specs.Written.{coordinate-length}
+use Rattle.field_symbols.specs.Symbol.{symbolsAll}
 use Rattle.field_symbols.specs.Write.{symbolText, symbol-length}
 use Rattle.rules.specs.Write.{joined, countsText, atomText, bondText}
 use Rattle.rules.specs.Canon.{atomOf, bondOf, chargeCode}
@@ -93,7 +94,7 @@ module _ (z : ℤ) (k : ℕ) (m : mag z < 2 ^ 31) (s : k ≡ natAbs (toZ w32 (of
   pub size-low : 1 ≤ natAbs z → 1 ≤ k
   size-low h = rw size-is h
 
-  pub size-high : natAbs z ≤ 122 → k ≤ 122
+  pub size-high : natAbs z ≤ symbolsAll → k ≤ symbolsAll
   size-high h = rw size-is h
 
 pub ruleset put-laws = (number-put, signed-put, coordinate-put, symbol-put, code-put, size-low, size-high)

@@ -11,6 +11,7 @@ use Rattle.text.specs.Text.{Bytes, Line, LF}
 use Rattle.text.specs.Written.{text}
 use Rattle.field_numbers.specs.Written.{signed-length, text-length}
 use Rattle.field_coordinates.specs.Written.{coordinate-length}
+use Rattle.field_symbols.specs.Symbol.{symbolsAll}
 use Rattle.field_symbols.specs.Write.{symbol-length}
 use Rattle.rules.specs.Write.{joined, atomText, bondText}
 use Rattle.rules.specs.Canon.{atomRow, atomOf, bondOf, FromTo, WritableAtom}
@@ -126,9 +127,9 @@ module _ (n : ℕ) (t : List ℤ) (w : WritableAtoms n t) (i : ℕ) (h : i < n) 
       (rows-each 16 (λ (x : List ℤ). WritableAtom n (atomRow x)) (rowsOf 16 n t) w i (omega (arith, rows-length 16 n t)))
 
   pub symbol-least : 1 ≤ natAbs (getD (part 16 t i) 3 (pos 0))
-  symbol-least = from-to 1 122 (getD (part 16 t i) 3 (pos 0)) (row-good .symbol) .0
+  symbol-least = from-to 1 symbolsAll (getD (part 16 t i) 3 (pos 0)) (row-good .symbol) .0
 
-  pub symbol-most : natAbs (getD (part 16 t i) 3 (pos 0)) ≤ 122
-  symbol-most = from-to 1 122 (getD (part 16 t i) 3 (pos 0)) (row-good .symbol) .1
+  pub symbol-most : natAbs (getD (part 16 t i) 3 (pos 0)) ≤ symbolsAll
+  symbol-most = from-to 1 symbolsAll (getD (part 16 t i) 3 (pos 0)) (row-good .symbol) .1
 
 pub ruleset laying-laws = (atom-long, bond-long, laying-start, laying-next, laying-end, laying-size, part-long, symbol-least, symbol-most)

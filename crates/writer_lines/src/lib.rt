@@ -7,6 +7,7 @@ ghost use lib.IntN.{pos, natAbs};
 ghost use Rattle.text.specs.Written.{text};
 ghost use Rattle.field_numbers.specs.Write.{numberText, signedText};
 ghost use Rattle.field_coordinates.specs.Write.{coordinateText};
+ghost use Rattle.field_symbols.specs.Symbol.{symbolsAll};
 ghost use Rattle.field_symbols.specs.Write.{symbolText};
 ghost use Rattle.rules.specs.Write.{countsText};
 ghost use Rattle.rules.specs.Canon.{codeOfCharge, chargeCode};
@@ -84,7 +85,7 @@ fn put_coordinate(room: &mut [u8], at: usize, row: &[i32], k: usize) -> usize
 // Number 3 of an atom's row as a symbol.
 fn put_symbol(room: &mut [u8], at: usize, row: &[i32]) -> usize
     requires { ⌜ (at + 3 ≤ length (now room)) × (3 < length (now row)) ⌝ }
-    requires { ⌜ (1 ≤ natAbs (getD (now row) 3 (pos 0))) × (natAbs (getD (now row) 3 (pos 0)) ≤ 122) ⌝ }
+    requires { ⌜ (1 ≤ natAbs (getD (now row) 3 (pos 0))) × (natAbs (getD (now row) 3 (pos 0)) ≤ symbolsAll) ⌝ }
     ensures { λ r. ⌜ Field (now (room .entry)) (now (room .exit)) at 3 (symbolText (natAbs (getD (now (row .entry)) 3 (pos 0)))) r ⌝ }
 {
     let v = row[3];
@@ -210,7 +211,7 @@ fn put_values(room: &mut [u8], at: usize, row: &[i32]) -> usize
 // xxxxx.xxxxyyyyy.yyyyzzzzz.zzzz aaaddcccssshhhbbbvvvHHHrrriiimmmnnneee
 fn put_atom(room: &mut [u8], at: usize, row: &[i32]) -> usize
     requires { ⌜ (at + 70 ≤ length (now room)) × (length (now row) ≡ 16) ⌝ }
-    requires { ⌜ (1 ≤ natAbs (getD (now row) 3 (pos 0))) × (natAbs (getD (now row) 3 (pos 0)) ≤ 122) ⌝ }
+    requires { ⌜ (1 ≤ natAbs (getD (now row) 3 (pos 0))) × (natAbs (getD (now row) 3 (pos 0)) ≤ symbolsAll) ⌝ }
     ensures { λ r. ⌜ Field (now (room .entry)) (now (room .exit)) at 70 (text (atomLine (now (row .entry)) ∷ [])) r ⌝ }
 {
     let a = put_position(room, at, row);

@@ -35,7 +35,7 @@ fn place_holds(row: &[i32]) -> bool
     if !in_range(row, 2, -99999999, 999999999) {
         return false;
     }
-    if !in_range(row, 3, 1, 122) {
+    if !in_range(row, 3, 1, field_symbols::SYMBOLS) {
         return false;
     }
     in_range(row, 4, -3, 4)

@@ -2,32 +2,29 @@
 use borrow.Author.Needs.{needs}
 use native.Mathlib.Omega.{arith}
 use lib.ListN.{length-set}
-use Rattle.field_symbols.proofs.Codes.{code-below, code-written}
+use Rattle.field_symbols.proofs.Codes.{letters-below, letters-written}
 use Rattle.field_symbols.proofs.put_symbol.Statement.{statement}
 use Rattle.field_symbols.proofs.put_symbol.Tie as tie
 
-code-at-requires : tie.Need-code-at-requires
-code-at-requires c κs = search needs
+letters-of-requires : tie.Need-letters-of-requires
+letters-of-requires c κs = search needs
 
 cast-out : tie.Need-cast-out
-cast-out c =
-    let a = c .before .before .args in
-    omega (arith, code-below (c .code-at .result) (a .k) (search needs) (search needs) (c .code-at .ensures))
+cast-out c = search needs
 
 slice-write-out : tie.Need-slice-write-out
 slice-write-out c = search needs
 
 cast-out-2 : tie.Need-cast-out-2
-cast-out-2 c = search needs
+cast-out-2 c =
+    let a = c .before .before .args in
+    omega (arith, letters-below (c .letters-of .result) (a .k) (search needs) (search needs) (c .letters-of .ensures))
 
 add-out : tie.Need-add-out
 add-out c = search needs
 
 slice-write-out-2 : tie.Need-slice-write-out-2
 slice-write-out-2 c = simp length-set (omega arith)
-
-cast-out-3 : tie.Need-cast-out-3
-cast-out-3 c = search needs
 
 add-out-2 : tie.Need-add-out-2
 add-out-2 c = search needs
@@ -41,19 +38,18 @@ same-length c = search needs
 returns : tie.Need-returns
 returns c =
     let a = c .before .before .args in
-    code-written (a .out .now) (a .at) (c .code-at .result) (a .k) (search needs) (search needs) (c .code-at .ensures)
+    letters-written (c .letters-of .result) (a .k) (search needs) (search needs) (c .letters-of .ensures) (a .out .now) (a .at)
 
 pub put-symbol-spec : {M : Type 1} → statement M
 put-symbol-spec =
     tie.close
     (tie.spec
-    code-at-requires
+    letters-of-requires
     cast-out
     slice-write-out
     cast-out-2
     add-out
     slice-write-out-2
-    cast-out-3
     add-out-2
     slice-write-out-3
     same-length
