@@ -11,13 +11,9 @@ ghost use Rattle.line_property.specs.Answer.{kindIs, plainAt, notedAt, p
 ghost use Rattle.line_property.specs.Kept.{Kept, KeptBy};
 use line_fields::Field;
 use line_fields::SignedField;
+use rules::LISTED;
+use rules::PLACES;
 use text::Found;
-
-// Places of one kind: atoms 0 to the limit.
-const PLACES: usize = 256;
-
-// Places of the table: three kinds.
-pub const LISTED: usize = 768;
 
 pub enum Kind {
     Charge,

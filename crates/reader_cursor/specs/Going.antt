@@ -9,7 +9,7 @@ use borrow.Author.Tests.{eq-eqb, ne-eqb}
 use mir.Syntax.{w64}
 use mir.Val.{Fits}
 use Rattle.text.specs.Text.{Bytes}
-use Rattle.rules.specs.Record.{Raw}
+use Rattle.rules.specs.Record.{Raw, atomPlaces, bondPlaces}
 use Rattle.line_property.specs.Listed.{places}
 use Rattle.line_counts_bonds.specs.declared.Counts.{Counts}
 use Rattle.judge_file.specs.Place.{sdfile}
@@ -44,13 +44,13 @@ pub record Going (s : Bytes) (ta₀ tb₀ ta tb : List ℤ) (t : List ℕ) (c : 
   pub xs : List Raw
   pub after : After s xs c
   pub bytes : length s * 1 < 2 ^ 63
-  pub atoms : 4080 ≤ length ta
-  pub bonds : 1530 ≤ length tb
+  pub atoms : atomPlaces ≤ length ta
+  pub bonds : bondPlaces ≤ length tb
   pub listed : length t ≡ 3 * places
   pub atoms-size : length ta ≡ length ta₀
   pub bonds-size : length tb ≡ length tb₀
 
-pub going-start : (s : Bytes) (ta tb : List ℤ) (t : List ℕ) (c : Cursor) → length s * 1 < 2 ^ 63 → 4080 ≤ length ta → 1530 ≤ length tb → length t ≡ 3 * places → c ≡ fresh →
+pub going-start : (s : Bytes) (ta tb : List ℤ) (t : List ℕ) (c : Cursor) → length s * 1 < 2 ^ 63 → atomPlaces ≤ length ta → bondPlaces ≤ length tb → length t ≡ 3 * places → c ≡ fresh →
     Going s ta tb ta tb t c
 going-start s ta tb t c few ra rb rt e =
     record { xs = []; after = rw e (after-start s); bytes = few; atoms = ra; bonds = rb; listed = rt; atoms-size = refl; bonds-size = refl }

@@ -2,14 +2,17 @@
 ghost use mathlib.Core.Path.{_≡_};
 ghost use Prim.Native.Nat.{_*_, _≤_};
 ghost use lib.ListN.{length};
+ghost use Rattle.rules.specs.Record.{atomPlaces, bondPlaces};
 ghost use Rattle.judge_line.specs.Judge.{itemOf};
 ghost use Rattle.line_property.specs.Listed.{places};
 ghost use Rattle.reader_item.specs.Find.{titledAs, titleBy, valuesAt, numbersOf, foundOf, stretchOf, ItemsStart};
 ghost use Rattle.reader_item.specs.Promise.{Promised, Handed};
-use line_property::LISTED;
 use line_text::ItemRead;
 use line_text::ValueRead;
 use reader_walk::Walked;
+use rules::ATOMS;
+use rules::BONDS;
+use rules::LISTED;
 use text::LineAt;
 
 // What a fetch finds: the bytes from the first value line's start up to the last one's end; both 0 where the item has no value lines.
@@ -134,7 +137,7 @@ fn find_with(
     bonds: &mut [i32],
     listed: &mut [u32; LISTED],
 ) -> Found
-    requires { ⌜ (4080 ≤ length (now atoms)) × (1530 ≤ length (now bonds)) × (length (now listed) ≡ 3 * places) ⌝ }
+    requires { ⌜ (atomPlaces ≤ length (now atoms)) × (bondPlaces ≤ length (now bonds)) × (length (now listed) ≡ 3 * places) ⌝ }
     ensures { λ r. ⌜ numbersOf r ≡ foundOf (now (s .entry)) (now (name .entry)) ⌝ }
 {
     match reader_walk::walk_record(true, s, atoms, bonds, listed) {
@@ -154,8 +157,8 @@ fn find_with(
 pub fn find_item(s: &[u8], name: &[u8]) -> Found
     ensures { λ r. ⌜ Promised (now (s .entry)) (now (name .entry)) (numbersOf r) ⌝ }
 {
-    let mut atoms = [0i32; 4080];
-    let mut bonds = [0i32; 1530];
+    let mut atoms = [0i32; ATOMS];
+    let mut bonds = [0i32; BONDS];
     let mut listed = [0u32; LISTED];
     find_with(s, name, &mut atoms, &mut bonds, &mut listed)
 }

@@ -10,7 +10,7 @@ use lib.IntN.{ℤ}
 use borrow.Author.Tests.{ltb-true, ltb-false}
 use Rattle.text.specs.Text.{Bytes, Line}
 use Rattle.text.specs.Cut.{lines-same}
-use Rattle.rules.specs.Record.{Raw, limit}
+use Rattle.rules.specs.Record.{Raw, limit, atomPlaces, bondPlaces}
 use Rattle.rules.specs.Viable.{Viable, FirstDead, ARecord, first-dead}
 use Rattle.judge_file.specs.Place.{FileKind, molfile, sdfile}
 use Rattle.judge_file.specs.One.{One, oneRecord}
@@ -70,7 +70,7 @@ reads kind s ta tb =
     to w (refused e i c) h q = said-apart (sym q)
 
     off : (e i column : ℕ) (o : Outcome) → outcomeOf kind s ≡ o → numbersOf (answered (walkedBy kind s o)) ≡ P.refused e i column →
-        Refusal kind s e i column × (atomsBy ta o ≡ rowsIn 4080 ta []) × (bondsBy tb o ≡ rowsIn 1530 tb [])
+        Refusal kind s e i column × (atomsBy ta o ≡ rowsIn atomPlaces ta []) × (bondsBy tb o ≡ rowsIn bondPlaces tb [])
     off e i column (whole x k) h q = said-apart q
     off e i column (refused n j c) h q =
         let v : refused n j c ≡ refused e i column = cc in
@@ -85,13 +85,13 @@ module _ (s : Bytes) (ta tb : List ℤ) where
   abbrev lb : ℕ
   lb = length tb
 
-  by-room : (X : Type 0) → (Roomy ta tb → X) → (la < 4080 → X) → (4080 ≤ la → lb < 1530 → X) → X
-  by-room X y a b = go (ltb la 4080) refl (ltb lb 1530) refl
+  by-room : (X : Type 0) → (Roomy ta tb → X) → (la < atomPlaces → X) → (atomPlaces ≤ la → lb < bondPlaces → X) → X
+  by-room X y a b = go (ltb la atomPlaces) refl (ltb lb bondPlaces) refl
     where
-      go : (t : Bool) → ltb la 4080 ≡ t → (u : Bool) → ltb lb 1530 ≡ u → X
-      go true p u q = a (ltb-true la 4080 p)
-      go false p true q = b (ltb-false la 4080 p) (ltb-true lb 1530 q)
-      go false p false q = y (record { atoms = ltb-false la 4080 p; bonds = ltb-false lb 1530 q })
+      go : (t : Bool) → ltb la atomPlaces ≡ t → (u : Bool) → ltb lb bondPlaces ≡ u → X
+      go true p u q = a (ltb-true la atomPlaces p)
+      go false p true q = b (ltb-false la atomPlaces p) (ltb-true lb bondPlaces q)
+      go false p false q = y (record { atoms = ltb-false la atomPlaces p; bonds = ltb-false lb bondPlaces q })
 
   by-kind : (k : FileKind) → (readOf (kindNumber k) la lb s ≡ readAs k la lb s) × (atomsAfter (kindNumber k) lb s ta ≡ atomsAs k lb s ta) ×
       (bondsAfter (kindNumber k) la s tb ≡ bondsAs k la s tb)

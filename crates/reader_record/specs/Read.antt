@@ -6,7 +6,7 @@ use lib.Dec.{ltb}
 use lib.ListN.{length}
 use lib.IntN.{ℤ}
 use Rattle.text.specs.Text.{Bytes}
-use Rattle.rules.specs.Record.{limit}
+use Rattle.rules.specs.Record.{limit, atomPlaces, bondPlaces}
 use Rattle.rules.specs.Meaning.{meaning}
 use Rattle.line_counts_bonds.specs.declared.Counts.{Counts}
 use Rattle.reader_tables.specs.Row.{flat}
@@ -42,16 +42,16 @@ bondRowsOf (refused e i column) = []
 
 -- rows, zeros up to the limit, and what stood there before
 unfoldable pub atomsBy : List ℤ → Outcome → List ℤ
-atomsBy t o = rowsIn 4080 t (atomRows o)
+atomsBy t o = rowsIn atomPlaces t (atomRows o)
 
 unfoldable pub bondsBy : List ℤ → Outcome → List ℤ
-bondsBy t o = rowsIn 1530 t (bondRowsOf o)
+bondsBy t o = rowsIn bondPlaces t (bondRowsOf o)
 
 -- ---- Tables of any length
 
--- room for 255 atoms of 16 numbers, and for 255 bonds of 6
+-- room for as many atoms and bonds as a record may have
 abbrev pub byRoom : {A : Type 0} → ℕ → ℕ → A → A → A
-byRoom la lb short enough = cond (ltb la 4080) short (cond (ltb lb 1530) short enough)
+byRoom la lb short enough = cond (ltb la atomPlaces) short (cond (ltb lb bondPlaces) short enough)
 
 unfoldable pub readAs : FileKind → ℕ → ℕ → Bytes → RecordRead
 readAs kind la lb s = byRoom la lb (RecordRead.Refused 2 0 0) (answered (walkOf kind s))
@@ -86,6 +86,6 @@ bondsAfter kind la s t = byKind kind t (λ (k : FileKind). bondsAs k la s t)
 pub record Settling (c : Counts) (ta tb : List ℤ) (t : List ℕ) : Type 0 where
   pub few-atoms : c .atoms ≤ limit
   pub few-bonds : c .bonds ≤ limit
-  pub atom-room : 4080 ≤ length ta
-  pub bond-room : 1530 ≤ length tb
+  pub atom-room : atomPlaces ≤ length ta
+  pub bond-room : bondPlaces ≤ length tb
   pub kept : Kept (c .atoms) t

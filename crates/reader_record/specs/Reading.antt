@@ -9,7 +9,7 @@ use lib.IntN.{ℤ}
 use borrow.Author.Tests.{lt-ltb, le-ltb}
 use Rattle.text.specs.Text.{Bytes, Line}
 use Rattle.rules.specs.Forms.{Atom, Bond}
-use Rattle.rules.specs.Record.{Molecule, Raw, limit, Atoms, Bonds, Parts1to5, Molfile, Record}
+use Rattle.rules.specs.Record.{Molecule, Raw, limit, Atoms, Bonds, Parts1to5, Molfile, Record, atomPlaces, bondPlaces}
 use Rattle.rules.specs.Meaning.{meaning, atomsFrom}
 use Rattle.line_counts_bonds.specs.declared.Counts.{Counts}
 use Rattle.reader_tables.specs.Row.{rawRows, bondRows, flat, Holds}
@@ -100,10 +100,10 @@ refused-rows kind s e i column h = go (outcomeOf kind s) h
 
 module _ (sd : Bool) (s : Bytes) (ta₀ tb₀ ta tb : List ℤ) (t : List ℕ) (w : Walked) (ew : w ≡ walkOf (kindOf sd) s)
     (left : Left ta₀ ta tb₀ tb t (outcomeOf (kindOf sd) s)) where
-  pub walked-atoms : 4080 ≤ length ta
+  pub walked-atoms : atomPlaces ≤ length ta
   walked-atoms = omega (arith, left .atoms .room, left .atoms .size)
 
-  pub walked-bonds : 1530 ≤ length tb
+  pub walked-bonds : bondPlaces ≤ length tb
   walked-bonds = omega (arith, left .bonds .room, left .bonds .size)
 
   module _ (c : Counts) (len k h a b : ℕ) (q : w ≡ Walked.Whole c len k h a b) where
@@ -136,37 +136,37 @@ module _ (sd : Bool) (s : Bytes) (ta₀ tb₀ ta tb : List ℤ) (t : List ℕ) (
     unfolding answered
     whole-answer = ap answered (sym q ∙ ew)
 
-    pub whole-atoms : (u : List ℤ) → u ≡ zeroed (meant (c .atoms) ta t) (16 * (c .atoms)) 4080 → u ≡ atomsBy ta₀ (outcomeOf (kindOf sd) s)
+    pub whole-atoms : (u : List ℤ) → u ≡ zeroed (meant (c .atoms) ta t) (16 * (c .atoms)) atomPlaces → u ≡ atomsBy ta₀ (outcomeOf (kindOf sd) s)
     unfolding atomsBy meaning
     whole-atoms u e =
         let m = it .x .molecule in
-        e ∙ ap (λ (n : ℕ). zeroed (meant n ta t) (16 * n) 4080) n-is
-        ∙ zeroed-atoms 4080 ta₀ ta (left .atoms .past) t m size (omega (arith, size .few-atoms)) (held .listed) (held .atom-rows)
-        ∙ ap (λ (o : Outcome). rowsIn 4080 ta₀ (atomRows o)) (sym (it .is))
+        e ∙ ap (λ (n : ℕ). zeroed (meant n ta t) (16 * n) atomPlaces) n-is
+        ∙ zeroed-atoms atomPlaces ta₀ ta (left .atoms .past) t m size (omega (arith, size .few-atoms)) (held .listed) (held .atom-rows)
+        ∙ ap (λ (o : Outcome). rowsIn atomPlaces ta₀ (atomRows o)) (sym (it .is))
 
-    pub whole-bonds : (u : List ℤ) → u ≡ zeroed tb (6 * (c .bonds)) 1530 → u ≡ bondsBy tb₀ (outcomeOf (kindOf sd) s)
+    pub whole-bonds : (u : List ℤ) → u ≡ zeroed tb (6 * (c .bonds)) bondPlaces → u ≡ bondsBy tb₀ (outcomeOf (kindOf sd) s)
     unfolding bondsBy meaning
     whole-bonds u e =
         let m = it .x .molecule in
-        e ∙ ap (λ (n : ℕ). zeroed tb (6 * n) 1530) m-is
-        ∙ zeroed-bonds 1530 tb₀ tb (left .bonds .past) m size (held .bond-rows)
-        ∙ ap (rowsIn 1530 tb₀) (sym (bond-rows-flat (m .bonds)))
-        ∙ ap (λ (o : Outcome). rowsIn 1530 tb₀ (bondRowsOf o)) (sym (it .is))
+        e ∙ ap (λ (n : ℕ). zeroed tb (6 * n) bondPlaces) m-is
+        ∙ zeroed-bonds bondPlaces tb₀ tb (left .bonds .past) m size (held .bond-rows)
+        ∙ ap (rowsIn bondPlaces tb₀) (sym (bond-rows-flat (m .bonds)))
+        ∙ ap (λ (o : Outcome). rowsIn bondPlaces tb₀ (bondRowsOf o)) (sym (it .is))
 
   module _ (e i column : ℕ) (q : w ≡ Walked.Refused e i column) where
     pub refused-answer : RecordRead.Refused e i column ≡ answered (walkOf (kindOf sd) s)
     unfolding answered
     refused-answer = ap answered (sym q ∙ ew)
 
-    pub refused-atoms : (u : List ℤ) → u ≡ zeroed ta 0 4080 → u ≡ atomsBy ta₀ (outcomeOf (kindOf sd) s)
+    pub refused-atoms : (u : List ℤ) → u ≡ zeroed ta 0 atomPlaces → u ≡ atomsBy ta₀ (outcomeOf (kindOf sd) s)
     unfolding atomsBy
     refused-atoms u h =
-        h ∙ zeroed-none 4080 ta₀ ta (left .atoms .past) ∙ ap (rowsIn 4080 ta₀) (sym (refused-rows (kindOf sd) s e i column (sym ew ∙ q) .0))
+        h ∙ zeroed-none atomPlaces ta₀ ta (left .atoms .past) ∙ ap (rowsIn atomPlaces ta₀) (sym (refused-rows (kindOf sd) s e i column (sym ew ∙ q) .0))
 
-    pub refused-bonds : (u : List ℤ) → u ≡ zeroed tb 0 1530 → u ≡ bondsBy tb₀ (outcomeOf (kindOf sd) s)
+    pub refused-bonds : (u : List ℤ) → u ≡ zeroed tb 0 bondPlaces → u ≡ bondsBy tb₀ (outcomeOf (kindOf sd) s)
     unfolding bondsBy
     refused-bonds u h =
-        h ∙ zeroed-none 1530 tb₀ tb (left .bonds .past) ∙ ap (rowsIn 1530 tb₀) (sym (refused-rows (kindOf sd) s e i column (sym ew ∙ q) .1))
+        h ∙ zeroed-none bondPlaces tb₀ tb (left .bonds .past) ∙ ap (rowsIn bondPlaces tb₀) (sym (refused-rows (kindOf sd) s e i column (sym ew ∙ q) .1))
 
 pub zeroed-is : (t u : List ℤ) (i k : ℕ) → u ≡ cleared t i k → u ≡ zeroed t i k
 unfolding zeroed
@@ -177,41 +177,41 @@ pub ruleset walked-laws = (walked-atoms, walked-bonds, walked-settling, whole-an
 -- ---- Tables without room, and with
 
 module _ (kind : FileKind) (s : Bytes) where
-  pub short-atoms : (la lb : ℕ) → la < 4080 → RecordRead.Refused 2 0 0 ≡ readAs kind la lb s
+  pub short-atoms : (la lb : ℕ) → la < atomPlaces → RecordRead.Refused 2 0 0 ≡ readAs kind la lb s
   unfolding readAs
-  short-atoms la lb h = rw (lt-ltb la 4080 h)
+  short-atoms la lb h = rw (lt-ltb la atomPlaces h)
 
-  pub short-bonds : (la lb : ℕ) → 4080 ≤ la → lb < 1530 → RecordRead.Refused 2 0 0 ≡ readAs kind la lb s
+  pub short-bonds : (la lb : ℕ) → atomPlaces ≤ la → lb < bondPlaces → RecordRead.Refused 2 0 0 ≡ readAs kind la lb s
   unfolding readAs
-  short-bonds la lb h k = rw (le-ltb la 4080 h, lt-ltb lb 1530 k)
+  short-bonds la lb h k = rw (le-ltb la atomPlaces h, lt-ltb lb bondPlaces k)
 
-  pub enough : (la lb : ℕ) (r : RecordRead) → 4080 ≤ la → 1530 ≤ lb → r ≡ answered (walkOf kind s) → r ≡ readAs kind la lb s
+  pub enough : (la lb : ℕ) (r : RecordRead) → atomPlaces ≤ la → bondPlaces ≤ lb → r ≡ answered (walkOf kind s) → r ≡ readAs kind la lb s
   unfolding readAs
-  enough la lb r h k e = rw (le-ltb la 4080 h, le-ltb lb 1530 k) e
+  enough la lb r h k e = rw (le-ltb la atomPlaces h, le-ltb lb bondPlaces k) e
 
-  pub atoms-short : (lb : ℕ) (t : List ℤ) → length t < 4080 → t ≡ atomsAs kind lb s t
+  pub atoms-short : (lb : ℕ) (t : List ℤ) → length t < atomPlaces → t ≡ atomsAs kind lb s t
   unfolding atomsAs
-  atoms-short lb t h = rw (lt-ltb (length t) 4080 h)
+  atoms-short lb t h = rw (lt-ltb (length t) atomPlaces h)
 
-  pub atoms-beside : (lb : ℕ) (t : List ℤ) → 4080 ≤ length t → lb < 1530 → t ≡ atomsAs kind lb s t
+  pub atoms-beside : (lb : ℕ) (t : List ℤ) → atomPlaces ≤ length t → lb < bondPlaces → t ≡ atomsAs kind lb s t
   unfolding atomsAs
-  atoms-beside lb t h k = rw (le-ltb (length t) 4080 h, lt-ltb lb 1530 k)
+  atoms-beside lb t h k = rw (le-ltb (length t) atomPlaces h, lt-ltb lb bondPlaces k)
 
-  pub atoms-enough : (lb : ℕ) (t u : List ℤ) → 4080 ≤ length t → 1530 ≤ lb → u ≡ atomsBy t (outcomeOf kind s) → u ≡ atomsAs kind lb s t
+  pub atoms-enough : (lb : ℕ) (t u : List ℤ) → atomPlaces ≤ length t → bondPlaces ≤ lb → u ≡ atomsBy t (outcomeOf kind s) → u ≡ atomsAs kind lb s t
   unfolding atomsAs
-  atoms-enough lb t u h k e = rw (le-ltb (length t) 4080 h, le-ltb lb 1530 k) e
+  atoms-enough lb t u h k e = rw (le-ltb (length t) atomPlaces h, le-ltb lb bondPlaces k) e
 
-  pub bonds-beside : (la : ℕ) (t : List ℤ) → la < 4080 → t ≡ bondsAs kind la s t
+  pub bonds-beside : (la : ℕ) (t : List ℤ) → la < atomPlaces → t ≡ bondsAs kind la s t
   unfolding bondsAs
-  bonds-beside la t h = rw (lt-ltb la 4080 h)
+  bonds-beside la t h = rw (lt-ltb la atomPlaces h)
 
-  pub bonds-short : (la : ℕ) (t : List ℤ) → 4080 ≤ la → length t < 1530 → t ≡ bondsAs kind la s t
+  pub bonds-short : (la : ℕ) (t : List ℤ) → atomPlaces ≤ la → length t < bondPlaces → t ≡ bondsAs kind la s t
   unfolding bondsAs
-  bonds-short la t h k = rw (le-ltb la 4080 h, lt-ltb (length t) 1530 k)
+  bonds-short la t h k = rw (le-ltb la atomPlaces h, lt-ltb (length t) bondPlaces k)
 
-  pub bonds-enough : (la : ℕ) (t u : List ℤ) → 4080 ≤ la → 1530 ≤ length t → u ≡ bondsBy t (outcomeOf kind s) → u ≡ bondsAs kind la s t
+  pub bonds-enough : (la : ℕ) (t u : List ℤ) → atomPlaces ≤ la → bondPlaces ≤ length t → u ≡ bondsBy t (outcomeOf kind s) → u ≡ bondsAs kind la s t
   unfolding bondsAs
-  bonds-enough la t u h k e = rw (le-ltb la 4080 h, le-ltb (length t) 1530 k) e
+  bonds-enough la t u h k e = rw (le-ltb la atomPlaces h, le-ltb (length t) bondPlaces k) e
 
 pub ruleset room-laws = (short-atoms, short-bonds, enough, atoms-short, atoms-beside, atoms-enough, bonds-beside, bonds-short, bonds-enough)
 
@@ -263,8 +263,8 @@ pub ruleset kind-laws = (kind-mol, kind-sd, atoms-mol, atoms-sd, bonds-mol, bond
 
 -- ---- Rows settled
 
-pub settled : (n : ℕ) (t u v : List ℤ) (kept : List ℕ) → u ≡ meant n t kept → v ≡ zeroed u (16 * n) 4080 → v ≡ zeroed (meant n t kept) (16 * n) 4080
-settled n t u v kept e h = h ∙ ap (λ (x : List ℤ). zeroed x (16 * n) 4080) e
+pub settled : (n : ℕ) (t u v : List ℤ) (kept : List ℕ) → u ≡ meant n t kept → v ≡ zeroed u (16 * n) atomPlaces → v ≡ zeroed (meant n t kept) (16 * n) atomPlaces
+settled n t u v kept e h = h ∙ ap (λ (x : List ℤ). zeroed x (16 * n) atomPlaces) e
 
 pub ruleset settle-laws = (settled, zeroed-is)
 

@@ -2,6 +2,7 @@
 ghost use mathlib.Core.Path.{_≡_};
 ghost use Prim.Native.Nat.{_*_, _≤_};
 ghost use lib.ListN.{length};
+ghost use Rattle.rules.specs.Record.{atomPlaces, bondPlaces};
 ghost use Rattle.reader_tables.specs.Mean.{meant};
 ghost use Rattle.reader_walk.specs.Stands.{kindOf};
 ghost use Rattle.reader_walk.specs.Walked.{walkOf};
@@ -9,8 +10,10 @@ ghost use Rattle.reader_walk.specs.Outcome.{outcomeOf};
 ghost use Rattle.reader_record.specs.Promise.{ReadPromise};
 ghost use Rattle.reader_record.specs.Read.{zeroed, answered, atomsBy, bondsBy, readAs, atomsAs, bondsAs, readOf, atomsAfter, bondsAfter, Settling};
 use line_counts_bonds::Counts;
-use line_property::LISTED;
 use reader_walk::Walked;
+use rules::ATOMS;
+use rules::BONDS;
+use rules::LISTED;
 
 // What a reading answers; the rows stand in the tables.
 pub enum RecordRead {
@@ -31,11 +34,6 @@ pub enum RecordRead {
     },
 }
 
-// Numbers of 255 atoms, and of 255 bonds.
-const ATOMS: usize = 4080;
-
-const BONDS: usize = 1530;
-
 // Zeros from place `from` to before place `to`.
 fn zero_rows(table: &mut [i32], from: usize, to: usize)
     requires { ⌜ (from ≤ to) × (to ≤ length (now table)) ⌝ }
@@ -47,8 +45,8 @@ fn zero_rows(table: &mut [i32], from: usize, to: usize)
 // After an accepted record: its rows get their meaning, the others are cleared.
 fn settle(counts: Counts, atoms: &mut [i32], bonds: &mut [i32], listed: &[u32; LISTED])
     requires { ⌜ Settling counts (now atoms) (now bonds) (now listed) ⌝ }
-    ensures { λ r. ⌜ now (atoms .exit) ≡ zeroed (meant (counts .atoms) (now (atoms .entry)) (now (listed .entry))) (16 * (counts .atoms)) 4080 ⌝ }
-    ensures { λ r. ⌜ now (bonds .exit) ≡ zeroed (now (bonds .entry)) (6 * (counts .bonds)) 1530 ⌝ }
+    ensures { λ r. ⌜ now (atoms .exit) ≡ zeroed (meant (counts .atoms) (now (atoms .entry)) (now (listed .entry))) (16 * (counts .atoms)) atomPlaces ⌝ }
+    ensures { λ r. ⌜ now (bonds .exit) ≡ zeroed (now (bonds .entry)) (6 * (counts .bonds)) bondPlaces ⌝ }
 {
     let n = counts.atoms as usize;
     let m = counts.bonds as usize;
@@ -59,9 +57,9 @@ fn settle(counts: Counts, atoms: &mut [i32], bonds: &mut [i32], listed: &[u32; L
 
 // After a refusal: no row is left.
 fn clear_all(atoms: &mut [i32], bonds: &mut [i32])
-    requires { ⌜ (4080 ≤ length (now atoms)) × (1530 ≤ length (now bonds)) ⌝ }
-    ensures { λ r. ⌜ now (atoms .exit) ≡ zeroed (now (atoms .entry)) 0 4080 ⌝ }
-    ensures { λ r. ⌜ now (bonds .exit) ≡ zeroed (now (bonds .entry)) 0 1530 ⌝ }
+    requires { ⌜ (atomPlaces ≤ length (now atoms)) × (bondPlaces ≤ length (now bonds)) ⌝ }
+    ensures { λ r. ⌜ now (atoms .exit) ≡ zeroed (now (atoms .entry)) 0 atomPlaces ⌝ }
+    ensures { λ r. ⌜ now (bonds .exit) ≡ zeroed (now (bonds .entry)) 0 bondPlaces ⌝ }
 {
     zero_rows(atoms, 0, ATOMS);
     zero_rows(bonds, 0, BONDS);
@@ -69,7 +67,7 @@ fn clear_all(atoms: &mut [i32], bonds: &mut [i32])
 
 // One record from the front of a text, into tables that have room.
 fn read_front(sd: bool, s: &[u8], atoms: &mut [i32], bonds: &mut [i32]) -> RecordRead
-    requires { ⌜ (4080 ≤ length (now atoms)) × (1530 ≤ length (now bonds)) ⌝ }
+    requires { ⌜ (atomPlaces ≤ length (now atoms)) × (bondPlaces ≤ length (now bonds)) ⌝ }
     ensures { λ r. ⌜ r ≡ answered (walkOf (kindOf sd) (now (s .entry))) ⌝ }
     ensures { λ r. ⌜ now (atoms .exit) ≡ atomsBy (now (atoms .entry)) (outcomeOf (kindOf sd) (now (s .entry))) ⌝ }
     ensures { λ r. ⌜ now (bonds .exit) ≡ bondsBy (now (bonds .entry)) (outcomeOf (kindOf sd) (now (s .entry))) ⌝ }

@@ -122,14 +122,14 @@ module _ (r : Reader) (t : List ℕ) (l : Line) (v : CountsRead) (e : countsGot 
   unfolding lineIn then
   counts-stop number column h = rw (← e, h)
 
-  pub counts-cleared : KeptAt r P.Counts t l (replicate 768 0)
+  pub counts-cleared : KeptAt r P.Counts t l (replicate (3 * places) 0)
   counts-cleared = record { kept = λ w q. refl }
 
   pub counts-refused : (number column : ℕ) (t′ : List ℕ) → v ≡ CountsRead.Bad number column → KeptAt r P.Counts t l t′
   counts-refused number column t′ h = record { kept = λ w q. bad-got (counts-stop number column h ∙ q) }
 
-pub cleared-size : length {A = ℕ} (replicate 768 0) ≡ 3 * places
-cleared-size = length-replicate {A = ℕ} 768 0
+pub cleared-size : length {A = ℕ} (replicate (3 * places) 0) ≡ 3 * places
+cleared-size = length-replicate {A = ℕ} (3 * places) 0
 
 pub ruleset counts-laws = (counts-next, counts-stop, counts-cleared, counts-refused, cleared-size)
 

@@ -100,7 +100,7 @@ enteredBy t (bad e column) = t
 
 abbrev pub tableAt : Reader → Place → List ℕ → Line → List ℕ
 tableAt r (P.Header owed) t l = t
-tableAt r P.Counts t l = replicate 768 0
+tableAt r P.Counts t l = replicate (3 * places) 0
 tableAt r (P.Atoms owed) t l = t
 tableAt r (P.Bonds owed) t l = t
 tableAt r P.Properties t l = enteredBy t (J.propertyOf (r .counts .atoms) (seenOf (r .counts .atoms) t) l)

@@ -14,7 +14,6 @@ use line_counts_bonds::BondRead;
 use line_counts_bonds::Counts;
 use line_counts_bonds::CountsRead;
 use line_counts_bonds::LIMIT;
-use line_property::LISTED;
 use line_property::PropertyRead;
 use line_text::HeaderJudged;
 use line_text::ItemRead;
@@ -22,6 +21,7 @@ use line_text::ValueRead;
 use reader_places::Finish;
 use reader_places::LineJudged;
 use reader_places::Place;
+use rules::LISTED;
 
 pub struct Reader {
     // An SDfile, or else a molfile.

@@ -14,7 +14,7 @@ use Rattle.text.specs.Columns.{Within}
 use Rattle.text.specs.Find.{badColumn}
 use Rattle.text.specs.declared.Found.{Found}
 use Rattle.rules.specs.Forms.{Atom, Bond, Property}
-use Rattle.rules.specs.Record.{Headers, Molecule, Item, Raw, listed, limit}
+use Rattle.rules.specs.Record.{Headers, Molecule, Item, Raw, listed, limit, atomPlaces, bondPlaces}
 use Rattle.rules.specs.Meaning.{bondNumbers}
 use Rattle.judge_pairs.specs.Taken.{pairTaken}
 use Rattle.judge_line.specs.Got.{Got, got, bad, then, need}
@@ -170,7 +170,7 @@ module _ (kind : FileKind) (s : Bytes) (hs : Headers) (d : Counts) (m : Notes) (
 
 -- ---- The table of listed numbers
 
-none-listed : (n : ℕ) → Listing n (replicate 768 0) []
+none-listed : (n : ℕ) → Listing n (replicate (3 * places) 0) []
 unfolding Proper
 none-listed n = record { shows = shows-none n; proper = tt }
 
@@ -196,7 +196,7 @@ module _ (kind : FileKind) (s : Bytes) (m : Notes) (t keys : List ℕ) (ta tb : 
 
   abbrev Statement : J.Place → Counts → Type 0
   Statement p d =
-      4080 ≤ length ta → 1530 ≤ length tb → length keys ≡ 256 → n ≡ afterLines s 0 i →
+      atomPlaces ≤ length ta → bondPlaces ≤ length tb → length keys ≡ limit → n ≡ afterLines s 0 i →
       d .atoms ≤ limit → d .bonds ≤ limit → Counted d t p → Rows m keys ta tb (atomsIn p) (bondsIn p) → Marks s m i p →
       G p d (wentOf (readerAt p d) t l) (turnOf kind limit p l)
 
@@ -241,7 +241,7 @@ module _ (kind : FileKind) (s : Bytes) (m : Notes) (t keys : List ℕ) (ta tb : 
       let d′ : Counts = record { atoms = c .atoms; bonds = c .bonds; chiral = c .chiral } in (
         toAtoms hs c (c .atoms) [],
         refl,
-        to-atoms kind s hs d′ m (replicate 768 0) keys ta tb (suc i) (c .atoms) [] (good .atoms .high) (good .bonds .high) (none-listed (c .atoms)) (omega arith) rows
+        to-atoms kind s hs d′ m (replicate (3 * places) 0) keys ta tb (suc i) (c .atoms) [] (good .atoms .high) (good .bonds .high) (none-listed (c .atoms)) (omega arith) rows
             (omega (arith, line .0)) (line .1),
       ))
 
@@ -470,7 +470,7 @@ module _ (kind : FileKind) (s : Bytes) (m : Notes) (t keys : List ℕ) (ta tb : 
   follow-at (values mol is name vs) d = follow-values mol is name vs d
 
   -- from where a state stands for a place
-  pub follow : (r : Reader) (p : J.Place) → Stands kind s r m t keys ta tb i p → 4080 ≤ length ta → 1530 ≤ length tb → length keys ≡ 256 → n ≡ afterLines s 0 i →
+  pub follow : (r : Reader) (p : J.Place) → Stands kind s r m t keys ta tb i p → atomPlaces ≤ length ta → bondPlaces ≤ length tb → length keys ≡ limit → n ≡ afterLines s 0 i →
       Goes kind s i n r m (tableAt r (r .place) t l) keys ta tb (wentOf r t l) (turnOf kind limit p l)
   follow r p st ra rb rk after =
       let e : readerAt p (r .counts) ≡ r = ap₂ (made (r .counts)) (sym (st .sd)) (sym (st .place)) in

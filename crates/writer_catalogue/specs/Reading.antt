@@ -6,6 +6,7 @@ use lib.ListN.{length}
 use lib.IntN.{ℤ}
 use borrow.Author.Tests.{le-ltb}
 use Rattle.text.specs.Text.{Bytes}
+use Rattle.rules.specs.Record.{atomPlaces, bondPlaces}
 use Rattle.judge_file.specs.Place.{sdfile}
 use Rattle.reader_walk.specs.Outcome.{refused, outcomeOf}
 use Rattle.reader_walk.specs.Walked.{walkedBy, walkOf, Beside}
@@ -16,17 +17,17 @@ use Rattle.reader_record.specs.Promised.{promise}
 use Rattle.writer_copy.specs.Bridge as B
 use Rattle.writer_copy.specs.Bridge.{Front, read-beside, walked-refused}
 
-module _ (t : Bytes) (ta tb ta′ tb′ : List ℤ) (ra : 4080 ≤ length ta) (rb : 1530 ≤ length tb) (ea : ta′ ≡ atomsAfter 1 (length tb) t ta) (eb : tb′ ≡ bondsAfter 1 (length ta) t tb) where
+module _ (t : Bytes) (ta tb ta′ tb′ : List ℤ) (ra : atomPlaces ≤ length ta) (rb : bondPlaces ≤ length tb) (ea : ta′ ≡ atomsAfter 1 (length tb) t ta) (eb : tb′ ≡ bondsAfter 1 (length ta) t tb) where
   roomy : Roomy ta tb
   roomy = record { atoms = ra; bonds = rb }
 
   reads : Reads sdfile t ta tb (numbersOf (readOf 1 (length ta) (length tb) t)) ta′ tb′
   reads = promise t ta tb 1 (readOf 1 (length ta) (length tb) t) ta′ tb′ refl ea eb .reads sdfile refl roomy
 
-  pub read-atoms : Beside 4080 ta ta′
+  pub read-atoms : Beside atomPlaces ta ta′
   read-atoms = read-beside sdfile t ta tb ta′ tb′ roomy _ reads .0
 
-  pub read-bonds : Beside 1530 tb tb′
+  pub read-bonds : Beside bondPlaces tb tb′
   read-bonds = read-beside sdfile t ta tb ta′ tb′ roomy _ reads .1
 
   module _ (r : RecordRead) (er : r ≡ readOf 1 (length ta) (length tb) t) where
@@ -36,7 +37,7 @@ module _ (t : Bytes) (ta tb ta′ tb′ : List ℤ) (ra : 4080 ≤ length ta) (r
 
     walked : readOf 1 (length ta) (length tb) t ≡ answered (walkedBy sdfile t (outcomeOf sdfile t))
     unfolding readOf readAs walkOf
-    walked = rw (le-ltb (length ta) 4080 ra, le-ltb (length tb) 1530 rb)
+    walked = rw (le-ltb (length ta) atomPlaces ra, le-ltb (length tb) bondPlaces rb)
 
     pub read-refused : (e i c : ℕ) → r ≡ RecordRead.Refused e i c → outcomeOf sdfile t ≡ refused e i c
     read-refused e i c q = walked-refused sdfile t e i c (outcomeOf sdfile t) (sym (er ∙ walked) ∙ q)

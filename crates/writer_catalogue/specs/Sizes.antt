@@ -12,7 +12,7 @@ use mir.Val.{Fits}
 use borrow.Author.Tests.{leb-true, leb-false, le-leb, lt-leb}
 use Rattle.text.specs.Text.{Bytes}
 use Rattle.text.specs.Written.{text, text-append}
-use Rattle.rules.specs.Record.{Raw, limit}
+use Rattle.rules.specs.Record.{Raw, limit, atomPlaces, bondPlaces}
 use Rattle.rules.specs.Meaning.{Reading, meaning}
 use Rattle.rules.specs.Write.{fileLines}
 use Rattle.rules.specs.Canon.{canonLines, canonFile}
@@ -173,7 +173,7 @@ module _ (t : Bytes) (ta tb : List ℤ) (n m chiral len j h a b : ℕ) (f : Fron
       (text-length (record { atoms = ta; bonds = tb; n = n; m = m; chiral = chiral; headers = take (h - 0) (drop 0 t); items = take (b - a) (drop a t) }) (meaning (f .x) .headers) (meaning (f .x) .items)
       ∙ ap (λ (y : Reading). length (canonText y)) (sym (f .accepted .tables)))
 
-module _ (t : Bytes) (ta tb ta′ tb′ : List ℤ) (ra : 4080 ≤ length ta) (rb : 1530 ≤ length tb) (ea : ta′ ≡ atomsAfter 1 (length tb) t ta) (eb : tb′ ≡ bondsAfter 1 (length ta) t tb)
+module _ (t : Bytes) (ta tb ta′ tb′ : List ℤ) (ra : atomPlaces ≤ length ta) (rb : bondPlaces ≤ length tb) (ea : ta′ ≡ atomsAfter 1 (length tb) t ta) (eb : tb′ ≡ bondsAfter 1 (length ta) t tb)
     (r : RecordRead) (er : r ≡ readOf 1 (length ta) (length tb) t) where
   module _ (n m chiral len j h a b : ℕ) (q : r ≡ RecordRead.Read n m chiral len j h a b) where
     it : Front sdfile t ta′ tb′ n m chiral len j h a b

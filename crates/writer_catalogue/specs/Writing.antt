@@ -10,7 +10,7 @@ use borrow.Rule.Slice.PartMut.{putMid}
 use mir.Syntax.{w64}
 use mir.Val.{Fits}
 use Rattle.text.specs.Text.{Bytes}
-use Rattle.rules.specs.Record.{Raw}
+use Rattle.rules.specs.Record.{Raw, atomPlaces, bondPlaces}
 use Rattle.rules.specs.Meaning.{Reading, meaning}
 use Rattle.judge_file.specs.Place.{sdfile}
 use Rattle.judge_file.specs.WalkText.{afterLines}
@@ -106,8 +106,8 @@ module _ (g : Given) (r : Bytes) (to : ℕ) (h : Handed g r to) where
 
 -- the text begins with a record whose canonical text has room
 pub record Next (t : Bytes) (ta tb : List ℤ) (r : Bytes) (to : ℕ) : Type 0 where
-  pub atoms : 4080 ≤ length ta
-  pub bonds : 1530 ≤ length tb
+  pub atoms : atomPlaces ≤ length ta
+  pub bonds : bondPlaces ≤ length tb
   pub x : Raw
   pub k : ℕ
   pub is : outcomeOf sdfile t ≡ whole x k
@@ -124,10 +124,10 @@ same-whole {o} {x} {y} {k} {j} p q = let e : whole x k ≡ whole y j = sym p ∙
 
 module _ (t : Bytes) (ta tb ta′ tb′ : List ℤ) (r : Bytes) (to : ℕ) (g : Next t ta tb r to) (ea : ta′ ≡ atomsAfter 1 (length tb) t ta) (eb : tb′ ≡ bondsAfter 1 (length ta) t tb)
     (a : RecordRead) (er : a ≡ readOf 1 (length ta) (length tb) t) where
-  pub wrote-atoms : Beside 4080 ta ta′
+  pub wrote-atoms : Beside atomPlaces ta ta′
   wrote-atoms = read-atoms t ta tb ta′ tb′ (g .atoms) (g .bonds) ea eb
 
-  pub wrote-bonds : Beside 1530 tb tb′
+  pub wrote-bonds : Beside bondPlaces tb tb′
   wrote-bonds = read-bonds t ta tb ta′ tb′ (g .atoms) (g .bonds) ea eb
 
   module _ (n m chiral len k h i j : ℕ) (q : a ≡ RecordRead.Read n m chiral len k h i j) where

@@ -7,7 +7,7 @@ use lib.ListN.{length, take, drop, replicate, length-append}
 use lib.Seq.{take-at, drop-at}
 use lib.IntN.{ℤ, pos}
 use Rattle.text.specs.Text.{Bytes, Line}
-use Rattle.rules.specs.Record.{Raw, Molecule, Parts1to5, Record, limit}
+use Rattle.rules.specs.Record.{Raw, Molecule, Parts1to5, Record, limit, atomPlaces, bondPlaces}
 use Rattle.rules.specs.Meaning.{meaning}
 use Rattle.rules.specs.Canon.{Rows, Good, HeaderPart}
 use Rattle.rules.specs.Handed.{closed-items}
@@ -71,7 +71,7 @@ module _ {f : FileKind} {s : Bytes} {x : Raw} {w : Reply} (d : Told f s x w) whe
   told-good : Good limit (meaning x)
   told-good = record-good (Record.record-of {r = []} (parts-front (d .molecule .2) .any (d .items .0 ++ (_ ∷ []))) (closed-items (d .items .2) record-end))
 
-  few : (length (flat (meaning x .atoms)) ≤ 4080) × (length (flat (meaning x .bonds)) ≤ 1530)
+  few : (length (flat (meaning x .atoms)) ≤ atomPlaces) × (length (flat (meaning x .bonds)) ≤ bondPlaces)
   few =
       let w = told-good .writable in
       (omega (arith, flat-length 16 _ (meaning x .atoms) (w .atoms), w .n-atoms, w .n), omega (arith, flat-length 6 _ (meaning x .bonds) (w .bonds), w .m-bonds, w .m))
@@ -107,17 +107,17 @@ pub record Front (f : FileKind) (t : Bytes) (ta tb : List ℤ) (n m chiral len k
   pub items-end : b ≤ length t
 
 module _ (f : FileKind) (t : Bytes) (ta tb ta′ tb′ : List ℤ) (y : Roomy ta tb) where
-  pub read-beside : (r : Said) → Reads f t ta tb r ta′ tb′ → Beside 4080 ta ta′ × Beside 1530 tb tb′
+  pub read-beside : (r : Said) → Reads f t ta tb r ta′ tb′ → Beside atomPlaces ta ta′ × Beside bondPlaces tb tb′
   read-beside (accepted w) p =
       let g = p .accepts w .0 refl in
       let r = p .rows (g .0) (g .1) in
       let n = few (g .2) in (
-        subst (Beside 4080 ta) (sym (r .0)) (rows-beside 4080 ta (flat (meaning (g .0) .atoms)) (y .atoms) (n .0)),
-        subst (Beside 1530 tb) (sym (r .1)) (rows-beside 1530 tb (flat (meaning (g .0) .bonds)) (y .bonds) (n .1)),
+        subst (Beside atomPlaces ta) (sym (r .0)) (rows-beside atomPlaces ta (flat (meaning (g .0) .atoms)) (y .atoms) (n .0)),
+        subst (Beside bondPlaces tb) (sym (r .1)) (rows-beside bondPlaces tb (flat (meaning (g .0) .bonds)) (y .bonds) (n .1)),
       )
   read-beside (refused e i c) p =
       let r = p .refuses e i c refl in
-      (subst (Beside 4080 ta) (sym (r .1)) (rows-beside 4080 ta [] (y .atoms) (omega arith)), subst (Beside 1530 tb) (sym (r .2)) (rows-beside 1530 tb [] (y .bonds) (omega arith)))
+      (subst (Beside atomPlaces ta) (sym (r .1)) (rows-beside atomPlaces ta [] (y .atoms) (omega arith)), subst (Beside bondPlaces tb) (sym (r .2)) (rows-beside bondPlaces tb [] (y .bonds) (omega arith)))
 
   module _ (n m chiral len k h a b : ℕ)
       (p : Reads f t ta tb (accepted (record { n = n; m = m; chiral = chiral; bytes = len; lines = k; header-end = h; items-start = a; items-end = b })) ta′ tb′) where
@@ -137,8 +137,8 @@ module _ (f : FileKind) (t : Bytes) (ta tb ta′ tb′ : List ℤ) (y : Roomy ta
         let s = read-beside (accepted reply) p in
         let na : length (meaning x .atoms) ≡ n = g .writable .n-atoms ∙ sym (d .n) in
         let mb : length (meaning x .bonds) ≡ m = g .writable .m-bonds ∙ sym (d .m) in
-        let ra : rowsOf 16 n ta′ ≡ meaning x .atoms = ap (rowsOf 16 n) (r .0) ∙ rows-in 16 n 4080 _ (meaning x .atoms) ta (g .writable .atoms) na in
-        let rb : rowsOf 6 m tb′ ≡ meaning x .bonds = ap (rowsOf 6 m) (r .1) ∙ rows-in 6 m 1530 _ (meaning x .bonds) tb (g .writable .bonds) mb in
+        let ra : rowsOf 16 n ta′ ≡ meaning x .atoms = ap (rowsOf 16 n) (r .0) ∙ rows-in 16 n atomPlaces _ (meaning x .atoms) ta (g .writable .atoms) na in
+        let rb : rowsOf 6 m tb′ ≡ meaning x .bonds = ap (rowsOf 6 m) (r .1) ∙ rows-in 6 m bondPlaces _ (meaning x .bonds) tb (g .writable .bonds) mb in
         record {
           roomy = record { atoms = omega (arith, s .0 .room, s .0 .size); bonds = omega (arith, s .1 .room, s .1 .size) };
           tables = λ i. record {

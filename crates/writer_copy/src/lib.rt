@@ -1,5 +1,6 @@
 // A record read into lent tables and written in its canonical form. What was read can be written, so it is laid, and not judged again.
 use reader_record::RecordRead;
+use rules::LIMIT;
 use writer_record::Written;
 ghost use mathlib.Core.Path.{_≡_};
 ghost use Rattle.writer_copy.specs.Most.{surely};
@@ -20,8 +21,11 @@ pub enum Copied {
     },
 }
 
-// The lines of 255 atoms and 255 bonds with the longest property lines, `M  END`, and the line that ends the record.
-const MOST: usize = 30592;
+// The most bytes that the entries of one kind take: eight to a line.
+const ENTRIES: usize = 10 * ((LIMIT + 7) / 8) + 8 * LIMIT;
+
+// The counts line, as many atoms and bonds as a record has, the longest property lines, `M  END`, and the line that ends the record.
+const MOST: usize = 40 + 70 * LIMIT + 22 * LIMIT + 3 * ENTRIES + 12;
 
 // Whether room surely suffices for good header lines and items of so many bytes: items are written in at most twice their bytes.
 fn suffices(headers: usize, items: usize, room: usize) -> bool
