@@ -130,7 +130,7 @@ pub data SDfile (limit : ℕ) : List Line → List Raw → Type 0 where
 
 -- the most atoms and the most bonds of a record; theorems hold for any limit that three columns can hold
 abbrev pub limit : ℕ
-limit = 255
+limit = 999
 
 -- the places of tables that hold so many: sixteen numbers to an atom, six to a bond
 abbrev pub atomPlaces : ℕ

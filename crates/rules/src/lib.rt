@@ -5,7 +5,7 @@ ghost use Prim.Native.Nat.{suc, _*_};
 ghost use Rattle.rules.specs.Record.{limit, atomPlaces, bondPlaces};
 
 // The most atoms, and the most bonds, of a record.
-pub const LIMIT: usize = 255;
+pub const LIMIT: usize = 999;
 
 // Numbers of the tables that hold so many: sixteen to an atom, six to a bond.
 pub const ATOMS: usize = 16 * LIMIT;
