@@ -25,7 +25,7 @@ use Rattle.judge_line.specs.Judge.{firstHeaderOf, countsOf, atomOf, bondOf, pro
 use Rattle.judge_line.specs.Judge as L
 use Rattle.line_counts_bonds.specs.Answer.{countsIs}
 use Rattle.line_counts_bonds.specs.declared.Counts.{Counts}
-use Rattle.line_property.specs.Listed.{enter, seenOf}
+use Rattle.line_property.specs.Listed.{places, enter, seenOf}
 use Rattle.line_property.specs.Proper.{Proper}
 use Rattle.line_property.specs.Shown.{shows-none, shows-line, proper-line, seen-same}
 use Rattle.reader_tables.specs.Row.{rawRow, rawRows, bondRows, Holds, SmallAtom, SmallBond}
