@@ -3,7 +3,7 @@
    Build: `rt staticlib capellanote` writes target/staticlib/libcapellanote.a for x86-64 Linux. It needs memset and nothing else.
 
    Memory
-     The library keeps nothing between calls and asks for no memory of its own but about 30 kB of stack.
+     The library keeps nothing between calls and asks for no memory of its own but about 105 kB of stack.
      Memory that is lent to one call must not overlap, and nothing else may write it until the call returns.
      A pointer is never null, also where its length is 0, and points to memory that is aligned for its type.
      Lengths count elements: bytes for text, numbers for tables. No length may pass 2^63 - 1 bytes.
