@@ -61,6 +61,11 @@ key-turned x y true false p q = refl
 key-turned x y false true p q = refl
 key-turned x y false false p q = let e : x ≡ y = omega (arith, ltb-false x y p, ltb-false y x q) in omega arith
 
+-- the same key in either direction
+pub key-either : (x y : ℕ) → pairKey x y ≡ pairKey y x
+unfolding pairKey
+key-either x y = key-turned x y (ltb x y) (ltb y x) refl refl
+
 key-complete : (b c : Bond) → SamePair b c → keyOf b ≡ keyOf c
 unfolding pairKey
 key-complete b c (along e f) = rw (e, f)
@@ -86,10 +91,11 @@ taken-keys b (c ∷ bs) hb hs = rw (key-agrees b c hb (hs .0), taken-keys b bs h
 pub record Searching (keys : List ℕ) (key count j : ℕ) : Type 0 where
   pub within : j ≤ count
   pub room : count ≤ length keys
+  pub none : (k : ℕ) → k < j → getD keys k 0 ≡ key → ⊥
   pub same : elem key (take count keys) ≡ elem key (drop j (take count keys))
 
 pub searching-start : (keys : List ℕ) (key count : ℕ) → count ≤ length keys → Searching keys key count 0
-searching-start keys key count h = record { within = omega arith; room = h; same = refl }
+searching-start keys key count h = record { within = omega arith; room = h; none = λ k l e. omega arith; same = refl }
 
 module _ (keys : List ℕ) (key count j : ℕ) (g : Searching keys key count j) where
   here : j < count → drop j (take count keys) ≡ getD keys j 0 ∷ drop (j + 1) (take count keys)
@@ -100,7 +106,16 @@ module _ (keys : List ℕ) (key count j : ℕ) (g : Searching keys key count j) 
   pub searching-next : j < count → (getD keys j 0 ≡ key → ⊥) → Searching keys key count (j + 1)
   unfolding elem
   searching-next h ne =
-      record { within = omega arith; room = g .room; same = g .same ∙ rw (here h, ne-eqb key (getD keys j 0) (λ e. ne (sym e))) }
+      record {
+        within = omega arith;
+        room = g .room;
+        none = λ k l e. go k l e (eqb k j) refl;
+        same = g .same ∙ rw (here h, ne-eqb key (getD keys j 0) (λ e. ne (sym e)));
+      }
+    where
+      go : (k : ℕ) → k < j + 1 → getD keys k 0 ≡ key → (t : Bool) → eqb k j ≡ t → ⊥
+      go k l e true q = ne (subst (λ (i : ℕ). getD keys i 0 ≡ key) (eqb-true k j q) e)
+      go k l e false q = let d = eqb-false k j q in g .none k (omega arith) e
 
   pub searching-found : j < count → getD keys j 0 ≡ key → elem key (take count keys) ≡ true
   unfolding elem
