@@ -110,7 +110,7 @@ pub ruleset key-laws = (key-is, end-few)
 
 -- the keys of the bonds before bond i stand in their places
 pub record Keyed (t : List ℤ) (keys : List ℕ) (i : ℕ) : Type 0 where
-  pub size : length keys ≡ 256
+  pub size : length keys ≡ limit
   pub held : (k : ℕ) → k < i → getD keys k 0 ≡ keyAt t k
 
 pub record Walk (t : List ℤ) (m : ℕ) (keys : List ℕ) (i : ℕ) : Type 0 where
@@ -128,7 +128,7 @@ pub record Search (t : List ℤ) (m : ℕ) (keys : List ℕ) (key i j : ℕ) : T
   pub same : firstRepeat t m ≡ against t i j (i - j) (walkFrom t (i + 1) (m - (i + 1)))
 
 module _ (t : List ℤ) (m : ℕ) where
-  pub walk-start : m ≤ limit → (keys : List ℕ) → length keys ≡ 256 → Walk t m keys 0
+  pub walk-start : m ≤ limit → (keys : List ℕ) → length keys ≡ limit → Walk t m keys 0
   walk-start few keys size =
       let e : m - 0 ≡ m = omega arith in
       record { within = omega arith; few = few; keyed = record { size = size; held = λ k h. absurd (omega arith) }; same = rw e }
@@ -149,7 +149,7 @@ module _ (t : List ℤ) (m : ℕ) where
       unfolding against
       search-found b h e k = let n : i - j ≡ suc (i - (j + 1)) = omega arith in rw (s .same, n, ← e, k, add-one j, add-one i)
 
-      pub search-within : i < 256
+      pub search-within : i < limit
       search-within = omega (arith, s .within, s .few)
 
       pub search-end : i ≤ j → Walk t m (set keys i key) (i + 1)
@@ -173,7 +173,7 @@ module _ (t : List ℤ) (m : ℕ) where
     -- ---- The bonds before place j of the keys have other pairs
 
     module _ (w : Walk t m keys i) (h : i < m) where
-      pub walk-few : i ≤ 255
+      pub walk-few : i ≤ limit
       walk-few = omega (arith, w .few)
 
       module _ (key : ℕ) (e : key ≡ keyAt t i) where
