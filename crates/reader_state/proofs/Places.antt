@@ -5,16 +5,17 @@ use mathlib.Core.Path.{_≡_, refl, sym, ap, _∙_, subst}
 use mathlib.Core.List.{List, []}
 use mathlib.Core.Bool.{Bool, true, false}
 use lib.Dec.{eqb, leb}
-use lib.ListN.{length, take, drop, replicate, length-replicate}
+use lib.ListN.{length, take, drop}
 use borrow.Author.Tests.{eq-eqb, ne-eqb, le-leb, lt-leb}
 use Rattle.text.specs.Text.{Line}
 use Rattle.text.specs.Find.{badColumn}
 use Rattle.text.specs.declared.Found.{Found}
+use Rattle.rules.specs.Forms as R
 use Rattle.rules.specs.Record.{limit}
 use Rattle.judge_line.specs.Got.{Got, got, bad, then, need}
-use Rattle.judge_line.specs.GotLaws.{bad-got, then-got}
+use Rattle.judge_line.specs.GotLaws.{got-inj, bad-got, then-got}
 use Rattle.judge_line.specs.Field.{within, noneFound}
-use Rattle.judge_line.specs.AgreeField.{within-got}
+use Rattle.judge_line.specs.AgreeField.{within-got, on, after, number-got, spaces-got}
 use Rattle.judge_line.specs.Judge as J
 use Rattle.line_atom.specs.Answer.{atomIs, atomGot}
 use Rattle.line_counts_bonds.specs.Answer.{countsIs, countsGot, bondIs, bondGot}
@@ -24,7 +25,8 @@ use Rattle.line_atom.specs.declared.Atom.{Atom}
 use Rattle.line_atom.specs.declared.AtomRead.{AtomRead}
 use Rattle.line_counts_bonds.specs.declared.Bond.{Bond}
 use Rattle.line_counts_bonds.specs.declared.BondRead.{BondRead}
-use Rattle.line_property.specs.Listed.{seenOf, places}
+use Rattle.line_property.specs.Listed.{seenOf, places, emptied}
+use Rattle.line_property.specs.Emptied.{emptied-size}
 use Rattle.line_property.specs.Answer.{propertyRead}
 use Rattle.line_property.specs.Kept as E
 use Rattle.line_property.specs.declared.PropertyRead.{PropertyRead}
@@ -39,7 +41,7 @@ use Rattle.reader_state.specs.declared.Reader.{Reader}
 use Rattle.reader_state.specs.declared.Step.{Step}
 use Rattle.reader_places.specs.declared.LineJudged.{LineJudged}
 use Rattle.reader_places.specs.Places.{bondsOwed, atomsOwed, afterEnd, longestIn, lineGot}
-use Rattle.reader_state.specs.Went.{Went, on, headed, atom, bond, ended, title, value, blank, done, moved, counted, afterProperty, enteredBy, headerIn, lineIn, wentOf, tableAt, Kept, Owing, Sane}
+use Rattle.reader_state.specs.Went.{emptiedBy, Went, on, headed, atom, bond, ended, title, value, blank, done, moved, counted, afterProperty, enteredBy, headerIn, lineIn, wentOf, tableAt, Kept, Owing, Sane}
 use Rattle.reader_state.specs.Parts.{titleIn, KeptAt}
 
 -- ---- a step that is no title
@@ -113,6 +115,20 @@ pub ruleset header-laws = (first-next, first-stop, header-first, header-second, 
 pub counted-is : (r : Reader) (c : Counts) (p : Place) → p ≡ atomsOwed (c .atoms) (c .bonds) → _≡_ {A = Reader} (record { sd = r .sd; place = p; counts = c }) (counted r (countsIs c))
 counted-is r c p e = rw e
 
+-- a counts line that is taken counts no more atoms than the limit
+atoms-few : (l : Line) (c : R.Counts) → J.countsOf limit l ≡ got c → c .atoms ≤ limit
+unfolding J.countsOf
+atoms-few l c h =
+    on _ _ c h (number-got l _ _ _ _) λ n n-is h.
+    on _ _ c h (number-got l _ _ _ _) λ m m-is h.
+    after _ _ _ _ c h λ pairs h.
+    on _ _ c h (number-got l _ _ _ _) λ lists lists-is h.
+    on _ _ c h (number-got l _ _ _ _) λ chiral chiral-is h.
+    on _ _ c h (number-got l _ _ _ _) λ stext stext-is h.
+    after _ _ _ _ c h λ version h.
+    spaces-got l _ _ c h λ rest h.
+    subst (λ (d : R.Counts). d .atoms ≤ limit) (got-inj h) (n-is .high)
+
 module _ (r : Reader) (t : List ℕ) (l : Line) (v : CountsRead) (e : countsGot v ≡ J.countsOf limit l) where
   pub counts-next : (c : Counts) (m : Reader) → v ≡ CountsRead.Is c → m ≡ counted r (countsIs c) → got (on m) ≡ lineIn r P.Counts t l
   unfolding lineIn then
@@ -122,16 +138,22 @@ module _ (r : Reader) (t : List ℕ) (l : Line) (v : CountsRead) (e : countsGot 
   unfolding lineIn then
   counts-stop number column h = rw (← e, h)
 
-  pub counts-cleared : KeptAt r P.Counts t l (replicate (3 * places) 0)
-  counts-cleared = record { kept = λ w q. refl }
+  counts-are : (c : Counts) → v ≡ CountsRead.Is c → J.countsOf limit l ≡ got (countsIs c)
+  counts-are c h = sym e ∙ ap countsGot h
+
+  pub counts-few : (c : Counts) → v ≡ CountsRead.Is c → c .atoms ≤ limit
+  counts-few c h = atoms-few l (countsIs c) (counts-are c h)
+
+  pub counts-emptied : (c : Counts) (t′ : List ℕ) → v ≡ CountsRead.Is c → t′ ≡ emptied (c .atoms + 1) t → KeptAt r P.Counts t l t′
+  counts-emptied c t′ h k = record { kept = λ w q. k ∙ ap (emptiedBy t) (sym (counts-are c h)) }
 
   pub counts-refused : (number column : ℕ) (t′ : List ℕ) → v ≡ CountsRead.Bad number column → KeptAt r P.Counts t l t′
   counts-refused number column t′ h = record { kept = λ w q. bad-got (counts-stop number column h ∙ q) }
 
-pub cleared-size : length {A = ℕ} (replicate (3 * places) 0) ≡ 3 * places
-cleared-size = length-replicate {A = ℕ} (3 * places) 0
+pub table-size : (k : ℕ) (t t′ : List ℕ) → t′ ≡ emptied k t → length t ≡ 3 * places → length t′ ≡ 3 * places
+table-size k t t′ e h = rw e (emptied-size k t ∙ h)
 
-pub ruleset counts-laws = (counts-next, counts-stop, counts-cleared, counts-refused, cleared-size)
+pub ruleset counts-laws = (counts-next, counts-stop, counts-few, counts-emptied, counts-refused, table-size)
 
 -- ---- atom and bond lines
 

@@ -172,7 +172,7 @@ module _ (sd : Bool) (s : Bytes) (ta₀ tb₀ : List ℤ) (r : Reader) (m : Note
       (wentOf r t (part s at e)) (turnOf (kindOf sd) limit (g .p) (part s at e))
   goes =
       follow (kindOf sd) s m t keys ta tb i n (part s at e) r (g .p) (g .stands)
-      (omega (arith, g .atoms-beside .room, g .atoms-beside .size)) (omega (arith, g .bonds-beside .room, g .bonds-beside .size)) (g .key-room) after
+      (omega (arith, g .atoms-beside .room, g .atoms-beside .size)) (omega (arith, g .bonds-beside .room, g .bonds-beside .size)) (g .key-room) (g .listed-size) after
 
   -- the line is taken, and another follows
   onto : (ta₁ tb₁ : List ℤ) (r′ : Reader) (m′ : Notes) (t′ keys′ : List ℕ) (ta′ tb′ : List ℤ) (q : J.Place) →
