@@ -10,12 +10,11 @@ use borrow.Author.Tests.{eq-eqb, ne-eqb, le-leb, lt-leb}
 use Rattle.text.specs.Text.{Line}
 use Rattle.text.specs.Find.{badColumn}
 use Rattle.text.specs.declared.Found.{Found}
-use Rattle.rules.specs.Forms as R
 use Rattle.rules.specs.Record.{limit}
 use Rattle.judge_line.specs.Got.{Got, got, bad, then, need}
-use Rattle.judge_line.specs.GotLaws.{got-inj, bad-got, then-got}
+use Rattle.judge_line.specs.GotLaws.{bad-got, then-got}
 use Rattle.judge_line.specs.Field.{within, noneFound}
-use Rattle.judge_line.specs.AgreeField.{within-got, on, after, number-got, spaces-got}
+use Rattle.judge_line.specs.AgreeField.{within-got}
 use Rattle.judge_line.specs.Judge as J
 use Rattle.line_atom.specs.Answer.{atomIs, atomGot}
 use Rattle.line_counts_bonds.specs.Answer.{countsIs, countsGot, bondIs, bondGot}
@@ -27,6 +26,7 @@ use Rattle.line_counts_bonds.specs.declared.Bond.{Bond}
 use Rattle.line_counts_bonds.specs.declared.BondRead.{BondRead}
 use Rattle.line_property.specs.Listed.{seenOf, places, emptied}
 use Rattle.line_property.specs.Emptied.{emptied-size}
+use Rattle.reader_state.proofs.Few.{atoms-few}
 use Rattle.line_property.specs.Answer.{propertyRead}
 use Rattle.line_property.specs.Kept as E
 use Rattle.line_property.specs.declared.PropertyRead.{PropertyRead}
@@ -114,20 +114,6 @@ pub ruleset header-laws = (first-next, first-stop, header-first, header-second, 
 
 pub counted-is : (r : Reader) (c : Counts) (p : Place) → p ≡ atomsOwed (c .atoms) (c .bonds) → _≡_ {A = Reader} (record { sd = r .sd; place = p; counts = c }) (counted r (countsIs c))
 counted-is r c p e = rw e
-
--- a counts line that is taken counts no more atoms than the limit
-atoms-few : (l : Line) (c : R.Counts) → J.countsOf limit l ≡ got c → c .atoms ≤ limit
-unfolding J.countsOf
-atoms-few l c h =
-    on _ _ c h (number-got l _ _ _ _) λ n n-is h.
-    on _ _ c h (number-got l _ _ _ _) λ m m-is h.
-    after _ _ _ _ c h λ pairs h.
-    on _ _ c h (number-got l _ _ _ _) λ lists lists-is h.
-    on _ _ c h (number-got l _ _ _ _) λ chiral chiral-is h.
-    on _ _ c h (number-got l _ _ _ _) λ stext stext-is h.
-    after _ _ _ _ c h λ version h.
-    spaces-got l _ _ c h λ rest h.
-    subst (λ (d : R.Counts). d .atoms ≤ limit) (got-inj h) (n-is .high)
 
 module _ (r : Reader) (t : List ℕ) (l : Line) (v : CountsRead) (e : countsGot v ≡ J.countsOf limit l) where
   pub counts-next : (c : Counts) (m : Reader) → v ≡ CountsRead.Is c → m ≡ counted r (countsIs c) → got (on m) ≡ lineIn r P.Counts t l

@@ -446,6 +446,9 @@ module _ (sd : Bool) (s : Bytes) (ta₀ tb₀ : List ℤ) (r : Reader) (m : Note
   pub bonds-size : length tb ≡ length tb₀
   bonds-size = g .bonds-beside .size
 
+  pub keys-size : length keys ≡ limit
+  keys-size = g .key-room
+
   pub took-size : (n : ℕ) (l : Line) (x : Taken) (t′ : List ℕ) (ta′ : List ℤ) → Took r m n t ta l x t′ ta′ → length ta′ ≡ length ta₀
   took-size n l x t′ ta′ k = ap length (k .rows) ∙ atoms-length m (wentOf r t l) ta ∙ g .atoms-beside .size
 
@@ -468,6 +471,7 @@ pub ruleset line-laws = (
   atoms-size,
   bonds-room,
   bonds-size,
+  keys-size,
   took-size,
   fits-next,
 )

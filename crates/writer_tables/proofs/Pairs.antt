@@ -200,6 +200,6 @@ module _ (t : List ℤ) (m : ℕ) where
                 let one : k + 1 ≡ suc k = add-one k in
                 let inside : k < i = omega (arith, g .within) in
                 subst (Search t m keys key i) one
-                (search-next key k (passed k (omega arith)) (sameAt t i k) inside refl (other k inside (g .none k (omega arith))))
+                (search-next key k (passed k (omega arith)) (sameAt t i k) inside refl (other k inside (g .missed .none k (omega arith) (omega arith))))
 
 pub ruleset walking = (walk-start, walk-end, walk-few, search-start, search-next, search-found, search-within, search-end)
