@@ -95,7 +95,7 @@ fn end_walk(left: usize, reader: Reader, notes: Notes, at: usize, line: usize) -
     }
 }
 
-// The same with lent room for the keys of pairs. The walk over the lines is left by its label where a bond joins a pair that an earlier bond joins.
+// The lines of one record, with lent room for the keys of pairs. The walk over them is left by its label where a bond joins a pair that an earlier bond joins.
 pub fn walk_lines(
     sd: bool,
     s: &[u8],

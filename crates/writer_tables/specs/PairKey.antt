@@ -1,13 +1,13 @@
 -- The pair of a bond in a table as one number: bonds of the same pair have the same, so that earlier bonds can be passed by their numbers.
 use Prim.Native.Nat.{ℕ, _≤_}
 use native.Mathlib.Omega.{arith}
-use mathlib.Core.Path.{_≡_, refl, sym, ap₂, _∙_}
+use mathlib.Core.Path.{_≡_, refl, ap₂, _∙_}
 use mathlib.Core.List.{List}
 use mathlib.Core.Bool.{Bool, true, false, cond, _&&_, _||_}
 use lib.Dec.{leb}
 use lib.IntN.{ℤ, pos, negsuc}
 use borrow.Author.Tests.{leb-true}
-use Rattle.rules.specs.Canon.{BondRow, bondRow}
+use Rattle.rules.specs.Canon.{bondRow}
 use Rattle.rules.specs.Rows.{rowAt}
 use Rattle.judge_line.specs.Field.{sameInteger}
 use Rattle.reader_pairs.specs.Keys.{pairKey, key-either}
