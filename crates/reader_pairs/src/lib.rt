@@ -35,12 +35,43 @@ fn key_in_block(keys: &[u32; KEYS], at: usize, key: u32) -> usize
     w
 }
 
-// A place before which the key is none of the first `count`: whole blocks without it are passed.
-pub fn near_key(keys: &[u32; KEYS], count: usize, key: u32) -> usize
+// The same of thirty-two keys.
+fn key_in_wide(keys: &[u32; KEYS], at: usize, key: u32) -> usize
+    requires { ⌜ (at + 32 ≤ limit) × (length (now keys) ≡ limit) ⌝ }
+    ensures { λ r. ⌜ (r ≡ 0 → Missed (now (keys .entry)) key at (at + 32)) ⌝ }
+{
+    let mut w: usize = 0;
+    let mut k: usize = 0;
+    while k < 32 {
+        if keys[at + k] == key {
+            w = 1;
+        }
+        k += 1;
+    }
+    w
+}
+
+// A place before which the key is none of the first `count`: wide blocks without it are passed.
+fn far_key(keys: &[u32; KEYS], count: usize, key: u32) -> usize
     requires { ⌜ (count ≤ limit) × (length (now keys) ≡ limit) ⌝ }
     ensures { λ r. ⌜ Searching (now (keys .entry)) key count r ⌝ }
 {
     let mut i: usize = 0;
+    while count - i >= 32 {
+        if key_in_wide(keys, i, key) != 0 {
+            return i;
+        }
+        i += 32;
+    }
+    i
+}
+
+// A place before which the key is none of the first `count`: wide blocks and then blocks without it are passed.
+pub fn near_key(keys: &[u32; KEYS], count: usize, key: u32) -> usize
+    requires { ⌜ (count ≤ limit) × (length (now keys) ≡ limit) ⌝ }
+    ensures { λ r. ⌜ Searching (now (keys .entry)) key count r ⌝ }
+{
+    let mut i = far_key(keys, count, key);
     while count - i >= 8 {
         if key_in_block(keys, i, key) != 0 {
             return i;

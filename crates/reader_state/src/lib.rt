@@ -172,7 +172,7 @@ fn at_counts(reader: Reader, line: &[u8], listed: &mut [u32; LISTED]) -> Step
 {
     match line_counts_bonds::counts_line(line, LIMIT) {
         CountsRead::Is(counts) => {
-            *listed = [0u32; LISTED];
+            line_property::empty(counts.atoms, listed);
             Step::Next(counted(reader, counts))
         }
         CountsRead::Bad { no, column } => Step::Refused { no, column },

@@ -172,7 +172,7 @@ module _ (sd : Bool) (s : Bytes) (ta₀ tb₀ : List ℤ) (r : Reader) (m : Note
       (wentOf r t (part s at e)) (turnOf (kindOf sd) limit (g .p) (part s at e))
   goes =
       follow (kindOf sd) s m t keys ta tb i n (part s at e) r (g .p) (g .stands)
-      (omega (arith, g .atoms-beside .room, g .atoms-beside .size)) (omega (arith, g .bonds-beside .room, g .bonds-beside .size)) (g .key-room) after
+      (omega (arith, g .atoms-beside .room, g .atoms-beside .size)) (omega (arith, g .bonds-beside .room, g .bonds-beside .size)) (g .key-room) (g .listed-size) after
 
   -- the line is taken, and another follows
   onto : (ta₁ tb₁ : List ℤ) (r′ : Reader) (m′ : Notes) (t′ keys′ : List ℕ) (ta′ tb′ : List ℤ) (q : J.Place) →
@@ -446,6 +446,9 @@ module _ (sd : Bool) (s : Bytes) (ta₀ tb₀ : List ℤ) (r : Reader) (m : Note
   pub bonds-size : length tb ≡ length tb₀
   bonds-size = g .bonds-beside .size
 
+  pub keys-size : length keys ≡ limit
+  keys-size = g .key-room
+
   pub took-size : (n : ℕ) (l : Line) (x : Taken) (t′ : List ℕ) (ta′ : List ℤ) → Took r m n t ta l x t′ ta′ → length ta′ ≡ length ta₀
   took-size n l x t′ ta′ k = ap length (k .rows) ∙ atoms-length m (wentOf r t l) ta ∙ g .atoms-beside .size
 
@@ -468,6 +471,7 @@ pub ruleset line-laws = (
   atoms-size,
   bonds-room,
   bonds-size,
+  keys-size,
   took-size,
   fits-next,
 )

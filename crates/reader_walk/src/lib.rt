@@ -95,8 +95,8 @@ fn end_walk(left: usize, reader: Reader, notes: Notes, at: usize, line: usize) -
     }
 }
 
-// The lines of one record. The walk over them is left by its label where a bond joins a pair that an earlier bond joins.
-fn walk_lines(
+// The lines of one record, with lent room for the keys of pairs. The walk over them is left by its label where a bond joins a pair that an earlier bond joins.
+pub fn walk_lines(
     sd: bool,
     s: &[u8],
     atoms: &mut [i32],
@@ -107,6 +107,7 @@ fn walk_lines(
     requires { ⌜ (atomPlaces ≤ length (now atoms)) × (bondPlaces ≤ length (now bonds)) × (length (now listed) ≡ 3 * places) × (length (now keys) ≡ limit) ⌝ }
     ensures { λ r. ⌜ r ≡ walkOf (kindOf sd) (now (s .entry)) ⌝ }
     ensures { λ r. ⌜ Left (now (atoms .entry)) (now (atoms .exit)) (now (bonds .entry)) (now (bonds .exit)) (now (listed .exit)) (outcomeOf (kindOf sd) (now (s .entry))) ⌝ }
+    ensures { λ r. ⌜ length (now (keys .exit)) ≡ limit ⌝ }
 {
     let mut reader = Reader::new(sd);
     let mut notes = Notes::new();
