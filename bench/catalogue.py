@@ -2,7 +2,7 @@
 
     python3 bench/catalogue.py SEED BYTES OUT              a realistic catalogue of at least BYTES bytes
     python3 bench/catalogue.py SEED BYTES OUT --ring N     every record one ring of N atoms and N bonds, two items
-    python3 bench/catalogue.py SEED BYTES OUT --bonds M    every record 60 atoms and M bonds (59 to 255)
+    python3 bench/catalogue.py SEED BYTES OUT --bonds M    every record 60 atoms and M bonds (59 to 999)
     python3 bench/catalogue.py SEED BYTES OUT --item L     every record 20 atoms and one item with L bytes of value lines
     ... --crlf                                             lines end in CR LF
 
@@ -235,8 +235,8 @@ def main():
     words.add_argument("bytes", type=int)
     words.add_argument("out")
     shape = words.add_mutually_exclusive_group()
-    shape.add_argument("--ring", type=int, choices=range(3, 256), metavar="N")
-    shape.add_argument("--bonds", type=int, choices=range(59, 256), metavar="M")
+    shape.add_argument("--ring", type=int, choices=range(3, 1000), metavar="N")
+    shape.add_argument("--bonds", type=int, choices=range(59, 1000), metavar="M")
     shape.add_argument("--item", type=int, metavar="L")
     words.add_argument("--crlf", action="store_true")
     given = words.parse_args()

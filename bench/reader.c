@@ -12,7 +12,7 @@
 #include <string.h>
 #include <unistd.h>
 
-enum { PLACES = 255, COLUMNS = 80, VALUE_COLUMNS = 200, ROW = (PLACES + 8) / 8 };
+enum { PLACES = 999, COLUMNS = 80, VALUE_COLUMNS = 200, ROW = (PLACES + 8) / 8 };
 
 enum place { TITLE, HEADER, COUNTS, ATOM, BOND, PROPERTY, ITEM, VALUE, AFTER_END };
 

@@ -3,7 +3,7 @@
    Build: `rt staticlib capellanote` writes target/staticlib/libcapellanote.a for x86-64 Linux. It needs memset and nothing else.
 
    Memory
-     The library keeps nothing between calls and asks for no memory of its own but about 30 kB of stack.
+     The library keeps nothing between calls and asks for no memory of its own but about 105 kB of stack.
      Memory that is lent to one call must not overlap, and nothing else may write it until the call returns.
      A pointer is never null, also where its length is 0, and points to memory that is aligned for its type.
      Lengths count elements: bytes for text, numbers for tables. No length may pass 2^63 - 1 bytes.
@@ -15,7 +15,7 @@
 
    Refusals
       1  kind is neither 0 nor 1
-      2  the atom or bond table has room for fewer than 255
+      2  the atom or bond table has room for fewer than CAPELLANOTE_LIMIT
       3  line too long (column 81, or 201 where a value line may stand)
       4  byte not allowed (allowed are 32 to 126)
       5  reserved tag in the first header line
@@ -46,7 +46,7 @@
      An atom is 16 numbers: x, y, z in ten-thousandths, symbol (1 to 118 by atomic number, 119 A, 120 Q, 121 *, 122 LP),
      mass difference, charge, radical, isotope, parity, hydrogen count, stereo care, valence, H0, map, inversion, exact change.
      A bond is 6: first atom, second atom (counted from 1), type, stereo, topology, reacting centre.
-     Tables need room for 255 atoms and 255 bonds, whatever the record has. */
+     Tables need room for CAPELLANOTE_LIMIT atoms and CAPELLANOTE_LIMIT bonds, whatever the record has. */
 
 #ifndef CAPELLANOTE_H
 #define CAPELLANOTE_H
@@ -66,8 +66,12 @@ enum { CAPELLANOTE_MOLFILE = 0, CAPELLANOTE_SDFILE = 1 };
 /* answer[1] of capellanote_feed where nothing is refused. */
 enum { CAPELLANOTE_MORE = 0, CAPELLANOTE_ACCEPTED = 1, CAPELLANOTE_TOO_LONG = 2 };
 
-/* Places in an atom's and in a bond's row, and what 255 rows take. */
-enum { CAPELLANOTE_ATOM = 16, CAPELLANOTE_BOND = 6, CAPELLANOTE_ATOMS = 255 * 16, CAPELLANOTE_BONDS = 255 * 6 };
+/* The most atoms, and the most bonds, of a record. */
+#define CAPELLANOTE_LIMIT 999
+
+/* Places in an atom's and in a bond's row, and what as many rows take as a record may have. */
+enum { CAPELLANOTE_ATOM = 16, CAPELLANOTE_BOND = 6,
+       CAPELLANOTE_ATOMS = CAPELLANOTE_LIMIT * CAPELLANOTE_ATOM, CAPELLANOTE_BONDS = CAPELLANOTE_LIMIT * CAPELLANOTE_BOND };
 
 /* A whole file.
    Accepted: answer = { 0, number of records, 0 }. Nothing else is written. */
@@ -79,8 +83,8 @@ void capellanote_check(capellanote_byte kind,
    a molfile's record is the whole text.
    Accepted: answer = { 0, atoms, bonds, chiral, bytes of the record, lines of the record,
    end of the header lines, start of the items, end of the items }: header lines begin at 0, ends are just past the last byte.
-   The tables hold the rows, and zeros up to 255. Refused: answer[3] to answer[8] are 0; after 1 and 2 the tables are as they were,
-   after any other number their first 255 rows are zeros. Table memory past 255 rows is never written. */
+   The tables hold the rows, and zeros up to CAPELLANOTE_LIMIT rows. Refused: answer[3] to answer[8] are 0; after 1 and 2 the tables are
+   as they were, after any other number their first CAPELLANOTE_LIMIT rows are zeros. Table memory past those is never written. */
 void capellanote_read(capellanote_byte kind,
                       const capellanote_byte *text, capellanote_size text_length,
                       capellanote_int *atoms, capellanote_size atoms_length,
@@ -94,7 +98,7 @@ void capellanote_read(capellanote_byte kind,
    The end of the file, also for a cursor that no walk over this file gives (past its bytes, more lines than bytes, more records than lines):
    answer[9] to answer[11] are the cursor handed in, all other numbers are 0, and the tables are as they were.
    Refused: the line counts from the file's start, answer[9] to answer[11] are the cursor handed in, answer[3] to answer[8] and answer[12]
-   are 0; after 2 the tables are as they were, after any other number their first 255 rows are zeros. */
+   are 0; after 2 the tables are as they were, after any other number their first CAPELLANOTE_LIMIT rows are zeros. */
 void capellanote_next(const capellanote_byte *text, capellanote_size text_length,
                       capellanote_size at, capellanote_size lines, capellanote_size records,
                       capellanote_int *atoms, capellanote_size atoms_length,
@@ -147,7 +151,7 @@ void capellanote_copy(capellanote_byte kind,
 /* The canonical text of a whole SDfile; the tables are for the work in between.
    Judged in this order: 2, the file, 20 on the whole text.
    Accepted: answer = { 0, length of the text, number of records }: the text stands at the front of the room, and the rest of it is as it was.
-   Refused: nothing is written to the room. Except after 2, the first 255 rows of both tables end as zeros. */
+   Refused: nothing is written to the room. Except after 2, the first CAPELLANOTE_LIMIT rows of both tables end as zeros. */
 void capellanote_write_catalogue(const capellanote_byte *text, capellanote_size text_length,
                                  capellanote_int *atoms, capellanote_size atoms_length,
                                  capellanote_int *bonds, capellanote_size bonds_length,

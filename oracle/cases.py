@@ -2,6 +2,7 @@
 
 from counter import feed
 from ctfile import check, fetch, next_record, read_record
+from limit import LIMIT
 from scanner import replay
 from writer import copy_record, write_catalogue, write_record
 
@@ -9,20 +10,24 @@ MODULUS = 4294967291        # the greatest prime below 2**32
 FACTOR = 65599
 OFFSET = 2147483649         # makes every i32 positive, and never 0
 MOST_BYTES = 2_000_000      # of a block
-SPLIT_ATOMS, SPLIT_BONDS = 255 * 16, 255 * 6
+MOST_ROOM = 131071          # bytes of lent room
+SPLIT_ATOMS, SPLIT_BONDS = LIMIT * 16, LIMIT * 6
 
 
 def digest(numbers):
     """A polynomial hash of numbers in the i32 range; bytes are numbers from 0 to 255."""
-    value = 1
-    for number in numbers:
+    value, used = 1, len(numbers)
+    while used and numbers[used - 1] == 0:
+        used -= 1
+    for number in numbers[:used]:
         value = (value * FACTOR + number + OFFSET) % MODULUS
-    return value
+    power = pow(FACTOR, len(numbers) - used, MODULUS)       # the zeros that are left, all at once
+    return (value * power + OFFSET * (power - 1) * pow(FACTOR - 1, -1, MODULUS)) % MODULUS
 
 
 def table(room, width):
     """A table before a case: place i holds 1000003 + i."""
-    return [1000003 + i for i in range(room * width)]
+    return list(range(1000003, 1000003 + room * width))
 
 
 def lent_room(size):

@@ -11,7 +11,8 @@ import sys
 
 from counter import BUFFER, counter_line
 from damage import damaged
-from generate import file_rows, good_drafts, sized_record, to_bytes
+from generate import draft_record, file_rows, good_drafts, plain_bytes, record_rows, sized_record, to_bytes
+from limit import LIMIT
 
 
 def around_the_buffer(rng):
@@ -42,6 +43,11 @@ def around_the_buffer(rng):
     crlf = sized_record(rng, BUFFER - 1)[:-1] + b"\r\n"
     yield crlf + small
     yield sized_record(rng, BUFFER)[:-1] + b"\r\n"      # CR inside the buffer, LF outside
+    large = plain_bytes(record_rows(rng, draft_record(rng, LIMIT, LIMIT, 0), 1))
+    yield large                                         # good, and too long by its atoms and bonds
+    yield small + large + small
+    yield large[:BUFFER]
+    yield large.replace(b" V2000", b" V3000")
 
 
 def inputs(rng, count):

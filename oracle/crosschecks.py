@@ -12,6 +12,7 @@ from expect import expect
 from field_tests import PLAIN
 from generate import (all_symbols, draft_record, file_rows, good_drafts, plain_bytes, record_rows,
                       sized_record, to_bytes)
+from limit import LIMIT
 from lines import Refusal, Sheet
 from writer import catalogue_text, write_record
 
@@ -50,7 +51,7 @@ def writing_what_was_read():
     """Tables and stretches of the record reader, handed to the writer, give the canonical text."""
     for k, rng in rngs(200, 3):
         data = to_bytes(rng, record_rows(rng, draft_record(rng), 1))
-        atoms, bonds = [5] * 4080, [5] * 1530
+        atoms, bonds = [5] * (16 * LIMIT), [5] * (6 * LIMIT)
         _, n, m, chiral, _, h0, h1, i0, i1 = read_record(1, data + b"\xff", atoms, bonds)
         text = catalogue_text(data)
         room = bytearray(len(text) + 3)
@@ -174,6 +175,11 @@ def vector_cases():
     expect("digest of nothing", digest([]), 1)
     expect("digest of 0", digest([0]), 2147549248)
     expect("digest of -1, 2", digest([-1, 2]), (2147549247 * 65599 + 2147483651) % 4294967291)
+    for row in ([0] * 3, [0, 5, 0, 0], [7, 0, -1], [0] * 1000):
+        plain = 1
+        for number in row:
+            plain = (plain * 65599 + number + 2147483649) % 4294967291
+        expect("digest of %d numbers" % len(row), digest(row), plain)
 
 
 ALL = [good_files_read_as_drafted, canonical_round_trips, writing_what_was_read,

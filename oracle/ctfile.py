@@ -6,10 +6,10 @@ slices are, and every slice has a whole-line pattern (forms.py). A bad line rais
 
 from forms import (ATOM, BLANK, BOND, COUNTS, Complaint, END, ENTRY_COUNT, PROPERTY_TAG,
                    RECORD_END, RESERVED, header_name, property_form)
+from limit import LIMIT
 from lines import Refusal, Sheet
 
 MOLFILE, SDFILE = 0, 1
-PLACES = 255                        # atoms and bonds a table must have room for
 CODE_CHARGE = {1: 3, 2: 2, 3: 1, 5: -1, 6: -2, 7: -3}
 
 
@@ -217,10 +217,10 @@ def table_rooms(atom_table, bond_table):
 
 
 def fill_table(table, width, rows):
-    """Rows, then zeros up to 255 places; memory beyond stays."""
+    """Rows, then zeros up to the limit; memory beyond stays."""
     flat = [number for row in rows for number in row]
-    flat += [0] * (PLACES * width - len(flat))
-    table[:PLACES * width] = flat
+    flat += [0] * (LIMIT * width - len(flat))
+    table[:LIMIT * width] = flat
 
 
 def read_into(kind, data, atom_table, bond_table):
@@ -228,7 +228,7 @@ def read_into(kind, data, atom_table, bond_table):
     place. A refusal leaves no rows there; 1 and 2 leave the tables alone."""
     if kind not in (MOLFILE, SDFILE):
         raise Refusal(1)
-    if min(table_rooms(atom_table, bond_table)) < PLACES:
+    if min(table_rooms(atom_table, bond_table)) < LIMIT:
         raise Refusal(2)
     record = Record()
     try:
@@ -253,7 +253,7 @@ def next_record(cursor, data, atom_table, bond_table):
     chiral, length, lines, header end, items start, items end, the cursor past it), the refusal with
     its line in the file, or ("end",) where nothing is left or no file has such a cursor."""
     at, lines, records = cursor
-    if min(table_rooms(atom_table, bond_table)) < PLACES:
+    if min(table_rooms(atom_table, bond_table)) < LIMIT:
         return Refusal(2).answer()
     if not records <= lines <= at < len(data):
         return ("end",)

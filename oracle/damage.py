@@ -5,11 +5,12 @@ below are copied from the layout of the lines by hand, apart from forms.py, so e
 """
 
 from generate import Row, draft_record, file_rows, good_drafts, to_bytes
+from limit import LIMIT
 
 # first column, last column, good numbers; the top of an atom number is n
 N = "n"
 FIELDS = {
-    "counts": [(1, 3, range(256)), (4, 6, range(256)), (7, 9, [0]), (13, 15, [0, 1]),
+    "counts": [(1, 3, range(LIMIT + 1)), (4, 6, range(LIMIT + 1)), (7, 9, [0]), (13, 15, [0, 1]),
                (16, 18, [0])],
     "atom": [(35, 36, range(-3, 5)), (37, 39, range(8)), (40, 42, range(4)), (43, 45, range(6)),
              (46, 48, range(2)), (49, 51, range(16)), (52, 54, range(2)), (61, 63, (0, N)),
@@ -110,7 +111,7 @@ def spoil_version(rng, row):
 def spoil_bond_total(rng, row):
     """m above n(n-1)/2 but good by itself."""
     least = row.draft.n * (row.draft.n - 1) // 2 + 1
-    row.text = put(row.text, 4, "%3d" % rng.choice([least, rng.randrange(least, 256), 255]))
+    row.text = put(row.text, 4, "%3d" % rng.choice([least, rng.randrange(least, LIMIT + 1), LIMIT]))
     return 12, 4
 
 

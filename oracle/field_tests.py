@@ -4,6 +4,7 @@ from ctfile import Context
 from damage import FIELDS, limits, put
 from expect import expect
 from forms import ATOM, BOND, COUNTS, Complaint, property_form
+from limit import LIMIT
 
 PLAIN = {"counts": b"  2  1  0  0  0  0  0  0  0  0999 V2000",
          "atom": b"    0.0000    0.0000    0.0000 C   0  0  0  0  0  0  0  0  0  0  0  0",
@@ -22,7 +23,7 @@ def every_number_of_every_field():
                 got = judged(forms[place], put(line, first, str(value).rjust(width)))
                 # stereo is 0 here, which goes with every bond type; m is held down by n = 2 too
                 want = None if value in good else (8, first)
-                want = (12, 4) if (place, first) == ("counts", 4) and value in range(2, 256) else want
+                want = (12, 4) if (place, first) == ("counts", 4) and value in range(2, LIMIT + 1) else want
                 expect("%s column %d, %d" % (place, first, value), got, want)
 
 

@@ -9,6 +9,8 @@ import re
 from functools import lru_cache
 from typing import NamedTuple, Tuple
 
+from limit import LIMIT
+
 SYMBOLS = """
 H He Li Be B C N O F Ne Na Mg Al Si P S Cl Ar K Ca Sc Ti V Cr Mn Fe Co Ni Cu Zn Ga Ge As Se Br Kr
 Rb Sr Y Zr Nb Mo Tc Ru Rh Pd Ag Cd In Sn Sb Te I Xe Cs Ba La Ce Pr Nd Pm Sm Eu Gd Tb Dy Ho Er Tm
@@ -132,8 +134,8 @@ UP_TO_N = (False, lambda v, seen, ctx: 1 <= v <= ctx.n)
 ZERO_TO_N = (False, lambda v, seen, ctx: v <= ctx.n)
 
 COUNTS = Form(
-    integer("n", 1, 3, range(256)),
-    integer("m", 4, 6, range(256),
+    integer("n", 1, 3, range(LIMIT + 1)),
+    integer("m", 4, 6, range(LIMIT + 1),
             (12, lambda m, seen, ctx: 2 * m <= seen["n"] * (seen["n"] - 1))),
     integer("lists", 7, 9, [0]), skipped(10, 12),
     integer("chiral", 13, 15, [0, 1]),

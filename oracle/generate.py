@@ -10,6 +10,8 @@ import os
 import random
 import sys
 
+from limit import LIMIT
+
 ELEMENTS = (
     "H He Li Be B C N O F Ne Na Mg Al Si P S Cl Ar K Ca Sc Ti V Cr Mn Fe Co Ni Cu Zn Ga Ge As Se Br "
     "Kr Rb Sr Y Zr Nb Mo Tc Ru Rh Pd Ag Cd In Sn Sb Te I Xe Cs Ba La Ce Pr Nd Pm Sm Eu Gd Tb Dy Ho "
@@ -134,7 +136,7 @@ def codes_beside_one_kind(rng, draft):
 def draft_record(rng, n=None, m=None, items=None):
     draft = Draft()
     n = rng.choice([0, 1, 1, 2, 2, 3, 4]) if n is None else n
-    most = min(255, n * (n - 1) // 2)
+    most = min(LIMIT, n * (n - 1) // 2)
     draft.header = [rng.choice(TITLES), rng.choice(OTHERS), rng.choice(OTHERS)]
     draft.chiral = rng.randrange(2)
     draft.atoms = [draft_atom(rng, n) for _ in range(n)]
@@ -258,7 +260,7 @@ def plain_bytes(rows):
 
 def good_drafts(rng, kind, large=False):
     if large:
-        return [draft_record(rng, 255, 255)]
+        return [draft_record(rng, LIMIT, LIMIT)]
     return [draft_record(rng) for _ in range(1 if kind == 0 else rng.choice([0, 1, 1, 1, 2, 3]))]
 
 

@@ -11,7 +11,7 @@ void exit(int status);
 
 typedef unsigned long size;
 typedef unsigned char byte;
-enum { MOST = 4 << 20, ROWS = 260, ROOM = 65536 };
+enum { MOST = 4 << 20, ROWS = CAPELLANOTE_LIMIT + 5, ROOM = 131072 };
 static char file[MOST + 1];
 static char *at = file, *start = file, *end = file;
 static int atoms[ROWS * CAPELLANOTE_ATOM], bonds[ROWS * CAPELLANOTE_BOND];

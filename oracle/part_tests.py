@@ -8,14 +8,15 @@ from ctfile import check, next_record, read_record, sdfile
 from damage import damaged
 from expect import expect
 from generate import file_rows, good_drafts, to_bytes
+from limit import LIMIT
 from lines import Sheet
-from samples import MOLFILE, SAMPLE, edit, read, tables
+from samples import MOLFILE, SAMPLE, bare, edit, read, ring, tables
 from writer import catalogue_text, copy_record, text_of
 
-EMPTY = [0] * 4080, [0] * 1530
+EMPTY = [0] * (16 * LIMIT), [0] * (6 * LIMIT)
 
 
-def copied(kind, data, size, atoms=255, bonds=255):
+def copied(kind, data, size, atoms=LIMIT, bonds=LIMIT):
     a, b = tables(atoms, bonds)
     room = bytearray(b"\xa5" * size)
     return copy_record(kind, data, a, b, room), bytes(room), (a, b)
@@ -31,15 +32,35 @@ def copies_by_hand():
     answer, room, left = copied(1, SAMPLE, 264)
     expect("20 keeps the tables' rows", (answer, room, list(left)), (("refused", 20, 0, 0), b"\xa5" * 264, rows))
     expect("a molfile's room", copied(0, MOLFILE, 248)[0], ("refused", 20, 0, 0))
-    for kind, atoms, number in ((2, 0, 1), (1, 254, 2), (0, 254, 2)):
-        expect("1 and 2", copied(kind, b"", 9, atoms), (("refused", number, 0, 0), b"\xa5" * 9, tables(atoms, 255)))
+    for kind, atoms, number in ((2, 0, 1), (1, LIMIT - 1, 2), (0, LIMIT - 1, 2)):
+        expect("1 and 2", copied(kind, b"", 9, atoms), (("refused", number, 0, 0), b"\xa5" * 9, tables(atoms, LIMIT)))
     expect("a refused record before 20", copied(1, edit(drop=12), 0), (("refused", 17, 12, 1), b"", EMPTY))
     expect("18", copied(0, SAMPLE, 999), (("refused", 18, 10, 1), b"\xa5" * 999, EMPTY))
     expect("no bytes", copied(1, b"", 0)[0], ("refused", 19, 1, 1))
 
 
+def large_molecules():
+    """As many atoms and bonds as may be: read, copied, and for the counter too long by its buffer alone."""
+    circle = bare(LIMIT, ring(LIMIT))
+    answer, atoms, bonds = read(circle)
+    expect("a full record", (answer[:3], atoms[-16:-12], bonds[-6:]),
+           (("accepted", LIMIT, LIMIT), [0, 0, 0, 6], [LIMIT, 1, 1, 0, 0, 0]))
+    text = catalogue_text(circle)
+    expect("a full copy", copied(1, circle, len(text)),
+           (("accepted", len(circle), circle.count(b"\n"), len(text)), text, (atoms, bonds)))
+    expect("a full copy read again", read(text)[1:], (atoms, bonds))
+    expect("an atom that is not there", read(circle.replace(b"%3d  1  1" % LIMIT, b"%3d  0  1" % LIMIT))[0],
+           ("refused", 8, 4 + 2 * LIMIT, 4))
+    twice = ring(LIMIT)[:-1] + [(2, 1)]
+    expect("the last pair again", read(bare(LIMIT, twice))[0], ("refused", 11, 4 + 2 * LIMIT, 1))
+    long = text.replace(b"M  END\n", b"M  END\n>  <A>\n" + b"v\n" * (BUFFER // 2) + b"\n")
+    expect("good and too long", (check(1, long), counter_line(long)), (("accepted", 1), "record 1 too long"))
+    line = "record 1 too long" if len(text) > BUFFER else "accepted 1"
+    expect("a full record counted", (check(1, text), counter_line(text)), (("accepted", 1), line))
+
+
 def cursors_by_hand():
-    def step(cursor, data=SAMPLE + edit(drop=12), atoms=255, bonds=255):
+    def step(cursor, data=SAMPLE + edit(drop=12), atoms=LIMIT, bonds=LIMIT):
         a, b = tables(atoms, bonds)
         return next_record(cursor, data, a, b), (a, b)
     _, *rows = read(SAMPLE)
@@ -50,7 +71,7 @@ def cursors_by_hand():
     for cursor in ((265, 13, 1), (266, 13, 1), (0, 1, 0), (0, 0, 1), (12, 13, 1), (12, 5, 6), (MOST, MOST, MOST)):
         expect("the end", step(cursor, SAMPLE), (("end",), tables()))
     for cursor in ((0, 0, 0), (9999, 0, 0), (0, 1, 0)):
-        expect("2 first", step(cursor, SAMPLE, 255, 254), (("refused", 2, 0, 0), tables(255, 254)))
+        expect("2 first", step(cursor, SAMPLE, LIMIT, LIMIT - 1), (("refused", 2, 0, 0), tables(LIMIT, LIMIT - 1)))
     expect("unfinished bytes", step((265, 13, 1), SAMPLE + b"x")[0], ("refused", 19, 14, 1))
     expect("an empty file", step((0, 0, 0), b"")[0], ("end",))
 
@@ -132,5 +153,5 @@ def copies_make_the_catalogue():
         expect("copies %d" % k, (at, text), (len(data), catalogue_text(data)))
 
 
-ALL = [copies_by_hand, cursors_by_hand, parts_by_hand, parts_make_the_counter, cursor_makes_the_check,
+ALL = [copies_by_hand, large_molecules, cursors_by_hand, parts_by_hand, parts_make_the_counter, cursor_makes_the_check,
        copies_make_the_catalogue]

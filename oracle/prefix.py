@@ -7,6 +7,9 @@ run is finished in a few plain ways, and the pattern judges whether any of them 
 
 import re
 from functools import lru_cache
+from itertools import islice
+
+from limit import LIMIT
 
 SYMBOLS = (
     "H|He|Li|Be|B|C|N|O|F|Ne|Na|Mg|Al|Si|P|S|Cl|Ar|K|Ca|Sc|Ti|V|Cr|Mn|Fe|Co|Ni|Cu|Zn|Ga|Ge|As|Se|"
@@ -32,7 +35,7 @@ def spellings(values, width=3):
 ANY = "[ -~]"
 LINE = ANY + "{80}\n"
 TITLE = "(?![ -~]*(?:[$]{4}|[$]MDL|[$]RXN|[$]RDFILE))" + LINE
-COUNT = spellings(range(256))
+COUNT = spellings(range(LIMIT + 1))
 COUNTS = ("(" + COUNT + ")(" + COUNT + ")" + spellings([0]) + ANY * 3 + spellings([0, 1])
           + spellings([0]) + ANY * 15 + " V2000 {41}\n")
 XYZ = "(?: {10}|(?:%s)[.][0-9]{4})" % "|".join(
@@ -139,9 +142,9 @@ def endings(lines, kind):
         owed = m - max(0, len(lines) - 4 - n)
         taken = {frozenset((line[:3].strip().lstrip("0"), line[3:6].strip().lstrip("0")))
                  for line in lines[4 + n:]}
-        free = ["%3d%3d  1" % (a, b) for a in range(1, n + 1) for b in range(1, a)
-                if frozenset((str(a), str(b))) not in taken][:max(0, owed)]
-        yield [PLAIN_ATOM] * atoms + free + ["M  END"] + last
+        free = ("%3d%3d  1" % (a, b) for a in range(1, n + 1) for b in range(1, a)
+                if frozenset((str(a), str(b))) not in taken)
+        yield [PLAIN_ATOM] * atoms + list(islice(free, max(0, owed))) + ["M  END"] + last
 
 
 def finishable(lines, kind):

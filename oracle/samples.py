@@ -1,6 +1,7 @@
-"""A sample record with a line of every kind, small edits of it, and a record with every charge code."""
+"""A sample record with a line of every kind, small edits of it, a record with every charge code, and records of short lines."""
 
 from ctfile import read_record
+from limit import LIMIT
 
 SAMPLE = b"""AB-00417
 
@@ -41,7 +42,19 @@ def coded(*properties):
     return b"".join(row + b"\n" for row in rows + [*properties, b"M  END", b"$$$$"])
 
 
-def tables(atoms=255, bonds=255, fill=FILL):
+def bare(atoms, pairs):
+    """A record of short lines: so many carbons, and single bonds between these pairs."""
+    rows = [b"", b"", b"", b"%3d%3d".ljust(33) % (atoms, len(pairs)) + b" V2000"]
+    rows += [b" " * 31 + b"C"] * atoms + [b"%3d%3d  1" % tuple(pair) for pair in pairs]
+    return b"".join(row + b"\n" for row in rows + [b"M  END", b"$$$$"])
+
+
+def ring(size):
+    """The pairs of a ring of atoms 1 to that size."""
+    return [(k, k % size + 1) for k in range(1, size + 1)]
+
+
+def tables(atoms=LIMIT, bonds=LIMIT, fill=FILL):
     return [fill] * (16 * atoms), [fill] * (6 * bonds)
 
 

@@ -14,6 +14,7 @@ import writer_tests
 from counter import counter_line
 from ctfile import check, fetch, read_record
 from expect import FAILURES, expect
+from limit import LIMIT, WIDEST
 from samples import FILL, LINES, MOLFILE, SAMPLE, edit, read, tables
 from writer import write_record
 
@@ -22,10 +23,10 @@ def refused(name, data, number, line, column, kind=1):
     """check and read_record must agree on a refusal of the only record."""
     want = ("refused", number, line, column)
     expect(name + ", check", check(kind, data), want)
-    atoms, bonds = tables(256, 257)
+    atoms, bonds = tables(LIMIT + 1, LIMIT + 2)
     expect(name + ", read", read_record(kind, data, atoms, bonds), want)
     expect(name + ", tables", (atoms, bonds),
-           ([0] * 4080 + [FILL] * 16, [0] * 1530 + [FILL] * 12))
+           ([0] * (16 * LIMIT) + [FILL] * 16, [0] * (6 * LIMIT) + [FILL] * 12))
     if kind == 1:
         expect(name + ", fetch", fetch(data, b"LOT"), want)
 
@@ -107,8 +108,9 @@ def refusals_by_hand():
     refused("7 by a minus", edit(4, b" -0", 4), 7, 4, 4)
     refused("7 by the line's end", edit(7, b"  1  2 1"), 7, 7, 7)
     refused("7 in y", edit(5, b"    0.000 ", 11), 7, 5, 11)
-    refused("8 in n", edit(4, b"256", 1), 8, 4, 1)
-    refused("8 in m before 12", edit(4, b"256", 4), 8, 4, 4)
+    for above in range(LIMIT + 1, WIDEST + 1)[:1]:      # no such number where three columns cannot hold it
+        refused("8 in n", edit(4, b"%3d" % above, 1), 8, 4, 1)
+        refused("8 in m before 12", edit(4, b"%3d" % above, 4), 8, 4, 4)
     refused("8 in atom lists", edit(4, b"  1", 7), 8, 4, 7)
     refused("8 in chiral", edit(4, b"  2", 13), 8, 4, 13)
     refused("8 in stext", edit(4, b"  1", 16), 8, 4, 16)

@@ -13,25 +13,27 @@ import re
 import sys
 from collections import Counter
 
-from cases import (OPERATIONS, Reader, answers, catalogue_case, check_case, copy_case, feed_case, fetch_case,
+from cases import (MOST_ROOM, OPERATIONS, Reader, answers, catalogue_case, check_case, copy_case, feed_case, fetch_case,
                    next_case, read_case, replay_case, write_case)
 from counter import BUFFER, MOST
 from ctfile import SDFILE, one_record, record_at
 from damage import AIMED_NUMBERS, aimed, blind, damaged, surplus, truncated
 from generate import (NAMES, all_symbols, draft_record, file_rows, good_drafts, plain_bytes,
                       record_rows, to_bytes)
+from limit import LIMIT
 from lines import Refusal, Sheet
 from logs import any_log, fixed_logs
-from samples import MOLFILE, SAMPLE, coded, edit
+from samples import MOLFILE, SAMPLE, bare, coded, edit, ring
 from scanner import replay
 from writer import catalogue_text, text_of
 
 MOST_STORED = 3_000_000     # bytes of all stored files together
+MOST_ROWS = LIMIT + 5       # that a table is lent room for
 LEAST_OF_EACH = 10          # stored cases for every refusal number that an operation can give
 BASE = ("check", "read", "fetch", "write", "catalogue")
 STORED = {                  # seed, cases, operations
-    "base": (1, 2400, BASE), "copy": (2, 540, ("copy",)), "feed": (1, 460, ("feed",)),
-    "next": (21, 420, ("next",)), "replay": (5, 700, ("replay",))}
+    "base": (1, 2400, BASE), "copy": (4, 540, ("copy",)), "feed": (3, 460, ("feed",)),
+    "next": (18, 420, ("next",)), "replay": (11, 700, ("replay",))}
 LINES = {*range(3, 18), 19}  # refusals that a record of an SDfile can meet
 NUMBERS = {
     "check": {1, 18} | LINES, "read": {1, 2, 18} | LINES, "fetch": {22} | LINES,
@@ -88,8 +90,9 @@ def any_file(rng, kind):
 def table_rooms(rng):
     """Mostly enough; at times more, so that memory beyond is seen, or too little."""
     if rng.random() < 0.1:
-        return rng.choice([(254, 255), (255, 254), (0, 255), (255, 0), (254, 260), (1, 1), (0, 0)])
-    return rng.choice([255, 255, 256, 260]), rng.choice([255, 255, 257, 260])
+        return rng.choice([(LIMIT - 1, LIMIT), (LIMIT, LIMIT - 1), (0, LIMIT), (LIMIT, 0), (LIMIT - 1, MOST_ROWS),
+                           (1, 1), (0, 0)])
+    return rng.choice([LIMIT, LIMIT, LIMIT + 1, MOST_ROWS]), rng.choice([LIMIT, LIMIT, LIMIT + 2, MOST_ROWS])
 
 
 def any_kind(rng):
@@ -132,9 +135,9 @@ def spoil_tables(rng, truth):
     most = n * (n - 1) // 2
     choice = rng.randrange(8)
     if choice == 0:
-        n = rng.choice([256, 257, 999, 65536, 2147483647])
+        n = rng.choice([LIMIT + 1, LIMIT + 2, 1000, 65536, 2147483647])
     elif choice == 1:
-        m = rng.choice([most + 1, 256, 1000, 2147483647])
+        m = rng.choice([most + 1, LIMIT + 1, 1000, 2147483647])
     elif choice == 2:
         chiral = rng.choice([2, 3, 255, 2147483647])
     elif choice == 3 and m:
@@ -158,7 +161,7 @@ def spoil_tables(rng, truth):
         place = rng.randrange(16)
         rng.choice(atoms)[place] = rng.choice(wrong[place])
     else:
-        n = 300
+        n = LIMIT + 1
     return n, m, chiral, atoms, bonds
 
 
@@ -190,7 +193,7 @@ def make_write(rng):
     items = to_bytes(rng, rows[places.index("end") + 1:-1])
     header, length = to_bytes(rng, rows[:3]), len(catalogue_text(plain_bytes(rows)))
     n, m, chiral, atoms, bonds = truth[1:6]
-    room, rooms = length + rng.choice([0, 0, 1, 40]), (rng.choice([255, 255, 259]), 255)
+    room, rooms = length + rng.choice([0, 0, 1, 40]), (rng.choice([LIMIT, LIMIT, LIMIT + 4]), LIMIT)
     for _ in range(rng.choice([0, 0, 1, 1, 1, 2])):
         wrong = rng.randrange(9)
         if wrong < 3:
@@ -202,7 +205,7 @@ def make_write(rng):
         elif wrong == 7:
             room = rng.choice([length - 1, length - 2, 0, rng.randrange(length)])
         else:
-            rooms = rng.choice([(254, 255), (255, 254), (64, 260)])
+            rooms = rng.choice([(LIMIT - 1, LIMIT), (LIMIT, LIMIT - 1), (64, MOST_ROWS)])
     return write_case(n, m, chiral, rooms, atoms, bonds, header, items, room)
 
 
@@ -296,10 +299,10 @@ def make_replay(rng):
 def sample_cases():
     """The sample of the rules and small edits of it, where room, part and cursor lie on either side of a limit."""
     for room in (0, 264, 265, 266):
-        yield copy_case(1, 255, 256, room, SAMPLE + b"x")
+        yield copy_case(1, LIMIT, LIMIT + 1, room, SAMPLE + b"x")
     for room in (248, 249):
-        yield copy_case(0, 256, 255, room, MOLFILE)
-    yield copy_case(0, 255, 255, 999, SAMPLE)
+        yield copy_case(0, LIMIT + 1, LIMIT, room, MOLFILE)
+    yield copy_case(0, LIMIT, LIMIT, 999, SAMPLE)
     yield copy_case(2, 0, 0, 0, b"")
     for part in (b"", b"x", b"\n", SAMPLE, SAMPLE * 2, SAMPLE[:-1], SAMPLE * 2 + b"x", SAMPLE + edit(drop=12)):
         for ended in (0, 1):
@@ -308,9 +311,9 @@ def sample_cases():
                 yield feed_case(MOST, MOST - 1, ended, room, part)
     for cursor in ((0, 0, 0), (265, 13, 1), (530, 26, 2), (265, 265, 265), (265, 266, 1), (265, 13, 14), (531, 26, 2),
                    (12, 12, 12), (12, 13, 12), (529, 25, 1)):
-        yield next_case(cursor, 255, 255, SAMPLE * 2)
-        yield next_case(cursor, 255, 254, SAMPLE + edit(drop=12))
-        yield next_case(cursor, 256, 257, SAMPLE + edit(drop=12))
+        yield next_case(cursor, LIMIT, LIMIT, SAMPLE * 2)
+        yield next_case(cursor, LIMIT, LIMIT - 1, SAMPLE + edit(drop=12))
+        yield next_case(cursor, LIMIT + 1, LIMIT + 2, SAMPLE + edit(drop=12))
     for log in fixed_logs():
         yield replay_case(log)
 
@@ -321,35 +324,47 @@ def coded_cases():
     for lines in ([], [isotope], [charge], [radical], [radical, charge], [isotope, radical],
                   [b"M  CHG  1   1   0"], [b"M  RAD  1   1   0"]):
         data = coded(*lines)
-        yield read_case(1, 255, 255, data)
-        yield catalogue_case(255, 255, 999, data)
-        yield copy_case(1, 255, 255, 999, data)
-        yield next_case((0, 0, 0), 255, 255, data)
+        yield read_case(1, LIMIT, LIMIT, data)
+        yield catalogue_case(LIMIT, LIMIT, 999, data)
+        yield copy_case(1, LIMIT, LIMIT, 999, data)
+        yield next_case((0, 0, 0), LIMIT, LIMIT, data)
+
+
+def written(atoms, pairs, rooms=(LIMIT, LIMIT)):
+    """Carbons and single bonds to be written."""
+    rows = [(0, 0, 0, 6) + (0,) * 12] * atoms, [(a, b, 1, 0, 0, 0) for a, b in pairs]
+    return write_case(atoms, len(pairs), 0, rooms, *rows, b"\n\n\n", b"", MOST_ROOM)
+
+
+def full_cases(rng):
+    """As many atoms and bonds as may be, and one more; a pair that comes again last."""
+    circle = bare(LIMIT, ring(LIMIT))
+    yield catalogue_case(LIMIT + 1, LIMIT + 1, len(catalogue_text(circle)), circle)
+    yield written(LIMIT, ring(LIMIT))
+    yield written(LIMIT + 1, [], (MOST_ROWS, LIMIT))
+    atoms = next(n for n in range(LIMIT) if n * (n - 1) // 2 > LIMIT)
+    pairs = rng.sample([(a, b) for a in range(1, atoms + 1) for b in range(1, a)], LIMIT + 1)
+    yield written(atoms, pairs, (LIMIT, MOST_ROWS))
+    again = pairs[:LIMIT - 1] + [pairs[LIMIT // 2][::-1]]
+    yield written(atoms, again)
+    yield read_case(1, LIMIT, LIMIT, bare(atoms, again))
+    yield read_case(1, LIMIT, LIMIT, bare(atoms, pairs[:LIMIT]))
 
 
 def fixed_cases(rng):
     """Large and small extremes that chance would not bring."""
     yield check_case(0, b"")
     yield check_case(1, b"")
-    yield read_case(1, 255, 255, b"")
-    yield read_case(0, 255, 255, b"")
-    yield catalogue_case(255, 255, 0, b"")
+    yield read_case(1, LIMIT, LIMIT, b"")
+    yield read_case(0, LIMIT, LIMIT, b"")
+    yield catalogue_case(LIMIT, LIMIT, 0, b"")
     yield fetch_case(b"", b"")
-    full = plain_bytes(record_rows(rng, draft_record(rng, 255, 255, 1), 1))
-    text = catalogue_text(full)
-    yield check_case(1, full * 2)
-    yield read_case(1, 255, 255, full)
-    yield catalogue_case(256, 256, len(text), full)
-    yield catalogue_case(255, 255, len(text) - 1, full)
-    symbols = all_symbols(rng)
-    yield read_case(1, 255, 255, plain_bytes(record_rows(rng, symbols, 1)))
-    header, n, m, chiral, atoms, bonds, _ = draft_record(rng, 255, 255, 0).truth()
-    yield write_case(n, m, chiral, (255, 255), atoms, bonds, b"\n\n\n", b"", 40000)
-    bonds = bonds[:-1] + ((bonds[0][1], bonds[0][0]) + tuple(bonds[-1][2:]),)
-    yield write_case(n, m, chiral, (255, 255), atoms, bonds, b"\n\n\n", b"", 40000)
+    yield read_case(1, LIMIT, LIMIT, plain_bytes(record_rows(rng, draft_record(rng, LIMIT, LIMIT, 1), 1)))
+    yield read_case(1, LIMIT, LIMIT, plain_bytes(record_rows(rng, all_symbols(rng), 1)))
+    yield from full_cases(rng)
     many = plain_bytes(file_rows(rng, [draft_record(rng, 1, 0, 0) for _ in range(60)], 1))
     yield check_case(1, many)
-    yield catalogue_case(255, 255, len(catalogue_text(many)) + 9, many)
+    yield catalogue_case(LIMIT, LIMIT, len(catalogue_text(many)) + 9, many)
 
 
 def operation_of(case):
@@ -366,6 +381,7 @@ def case_list(seed, count, operations):
     cases += [*sample_cases(), *coded_cases()]
     cases = [case for case in cases if operation_of(case) in operations]
     makers = [make for make in MAKERS if make.__name__[5:] in operations]
+    rng = random.Random(seed)           # anew, so that what stands before does not change what is drawn
     while len(cases) < count:
         cases.append(rng.choice(makers)(rng))
     return cases[:count]

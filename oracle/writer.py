@@ -1,9 +1,10 @@
 """Canonical writing: one SDfile record from tables, a record as it stands in a file, and a whole
 SDfile anew."""
 
-from ctfile import (CODE_CHARGE, PLACES, fill_table, header_lines, items_until_end, read_into,
-                    sdfile, table_rooms)
+from ctfile import (CODE_CHARGE, fill_table, header_lines, items_until_end, read_into, sdfile,
+                    table_rooms)
 from forms import CENTRES, STEREO, SYMBOLS
+from limit import LIMIT
 from lines import Refusal, Sheet
 
 CHARGE_CODE = {charge: code for code, charge in CODE_CHARGE.items()}
@@ -32,7 +33,7 @@ def bond_good(bond, n):
 
 def writable(atom_table, bond_table, n, m, chiral):
     """All ranges and bond rules for the first n atoms and m bonds; later places don't matter."""
-    if n not in range(256) or m not in range(256) or 2 * m > n * (n - 1):
+    if n not in range(LIMIT + 1) or m not in range(LIMIT + 1) or 2 * m > n * (n - 1):
         return False
     if chiral not in (0, 1):
         return False
@@ -120,7 +121,7 @@ def put(room, text):
 def write_record(atom_table, bond_table, n, m, chiral, header, items, room):
     """("accepted", length) with the text in `room` (a bytearray), or the refusal."""
     try:
-        if min(table_rooms(atom_table, bond_table)) < PLACES:
+        if min(table_rooms(atom_table, bond_table)) < LIMIT:
             raise Refusal(2)
         if not writable(atom_table, bond_table, n, m, chiral):
             raise Refusal(21)
@@ -155,7 +156,7 @@ def catalogue_text(data):
 
 def write_catalogue(data, atom_table, bond_table, room):
     """("accepted", length) or the refusal; the work tables end zero, except after 2."""
-    if min(table_rooms(atom_table, bond_table)) < PLACES:
+    if min(table_rooms(atom_table, bond_table)) < LIMIT:
         return Refusal(2).answer()
     fill_table(atom_table, 16, [])
     fill_table(bond_table, 6, [])

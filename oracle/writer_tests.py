@@ -2,16 +2,17 @@
 
 from ctfile import read_record
 from expect import expect
+from limit import LIMIT
 from samples import FILL, SAMPLE, read, tables
 from writer import write_catalogue, write_record
 
 
 def rooms():
-    for atoms, bonds in ((254, 255), (255, 254), (0, 0)):
+    for atoms, bonds in ((LIMIT - 1, LIMIT), (LIMIT, LIMIT - 1), (0, 0)):
         a, b = tables(atoms, bonds)
         expect("2", read_record(1, SAMPLE, a, b), ("refused", 2, 0, 0))
         expect("1 before 2", read_record(7, SAMPLE, a, b), ("refused", 1, 0, 0))
-        expect("2 on writing", write_record(a, b, 999, 0, 0, b"", b"", bytearray()),
+        expect("2 on writing", write_record(a, b, LIMIT + 1, 0, 0, b"", b"", bytearray()),
                ("refused", 2, 0, 0))
         expect("2 on a catalogue", write_catalogue(b"\x00\n", a, b, bytearray()),
                ("refused", 2, 0, 0))
@@ -34,7 +35,7 @@ def writing():
 
     expect("room past the text", write(("accepted", 265), size=300)[265:], b"\xa5" * 35)
     write(("refused", 20, 0, 0), size=264)
-    for wrong in (dict(n=256), dict(m=2), dict(n=1, m=1), dict(chiral=2), dict(n=0)):
+    for wrong in (dict(n=LIMIT + 1), dict(m=2), dict(n=1, m=1), dict(chiral=2), dict(n=0)):
         write(("refused", 21, 0, 0), **wrong)
     for place, value in ((0, 10 ** 9), (1, -10 ** 8), (3, 0), (3, 123), (4, 5), (5, 16), (6, 4),
                          (7, 1000), (7, -1), (8, 4), (9, 6), (10, 2), (11, 16), (12, 2), (13, 3),
@@ -45,7 +46,7 @@ def writing():
     write(("refused", 21, 0, 0), change=[("a", 4, 1), ("a", 23, 18)])
     write(("accepted", 283), change=[("a", 23, 18)], size=283)
     write(("accepted", 265), change=[("a", 40, -5), ("b", 6, 9)])
-    write(("refused", 21, 0, 0), header=b"", data=b"x", size=0, n=256)
+    write(("refused", 21, 0, 0), header=b"", data=b"x", size=0, n=LIMIT + 1)
     for header, number, line, column in (
             (b"", 19, 1, 1), (b"a\n\n", 19, 3, 1), (b"a\n\nx", 19, 3, 1), (head + b"x", 19, 4, 1),
             (head + b"\n", 18, 4, 1), (head + b"\t\n", 4, 4, 1), (head + b"x" * 81 + b"\n", 3, 4, 81),
@@ -66,11 +67,11 @@ def catalogues():
     for data, size, want in ((b"", 0, ("accepted", 0)), (SAMPLE * 2, 530, ("accepted", 530)),
                              (SAMPLE * 2, 529, ("refused", 20, 0, 0)),
                              (SAMPLE + b"\n", 0, ("refused", 19, 15, 1))):
-        atoms, bonds = tables(256, 255)
+        atoms, bonds = tables(LIMIT + 1, LIMIT)
         room = bytearray(b"\xa5" * size)
         expect("catalogue", write_catalogue(data, atoms, bonds, room), want)
         expect("catalogue's room", bytes(room), data if want[0] == "accepted" else b"\xa5" * size)
-        expect("work tables", (atoms, bonds), ([0] * 4080 + [FILL] * 16, [0] * 1530))
+        expect("work tables", (atoms, bonds), ([0] * (16 * LIMIT) + [FILL] * 16, [0] * (6 * LIMIT)))
 
 
 CANONICAL = b"""t

@@ -80,7 +80,7 @@ grep -q "no sentence" "$room/sentences" && bad "sentences" "one is missing" || o
 got says "refused 23 7 9"
 is "sentence 23" 1 "examples/sample.sdf:7:9: refused 23: no sentence for this number" ""
 got says "refused 2 0 0"
-is "a refusal without a place" 1 "examples/sample.sdf: refused 2: the tables lent have room for fewer than 255 atoms or 255 bonds" ""
+is "a refusal without a place" 1 "examples/sample.sdf: refused 2: the tables lent have room for fewer atoms or bonds than a record may have" ""
 got says ""
 is "no verdict" 2 "" "the program ended without a verdict"
 

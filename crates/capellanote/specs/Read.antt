@@ -10,7 +10,7 @@ use lib.ListN.{length}
 use lib.IntN.{ℤ}
 use borrow.Author.Tests.{ltb-true, ltb-false}
 use Rattle.text.specs.Text.{Bytes}
-use Rattle.rules.specs.Record.{Raw}
+use Rattle.rules.specs.Record.{Raw, atomPlaces, bondPlaces}
 use Rattle.judge_file.specs.Place.{FileKind, molfile, sdfile}
 use Rattle.judge_refusals.specs.NoRecord.{NoRecord}
 use Rattle.reader_record.specs.declared.RecordRead.{RecordRead}
@@ -53,12 +53,12 @@ pub ruleset read-array = (read-accepted, read-refused)
 -- ---- Kind and room
 
 pub by-room : {X : Type 0} (ta tb : List ℤ) → (Roomy ta tb → X) → (¬ Roomy ta tb → X) → X
-by-room {X} ta tb y n = go (ltb (length ta) 4080) refl (ltb (length tb) 1530) refl
+by-room {X} ta tb y n = go (ltb (length ta) atomPlaces) refl (ltb (length tb) bondPlaces) refl
   where
-    go : (t : Bool) → ltb (length ta) 4080 ≡ t → (u : Bool) → ltb (length tb) 1530 ≡ u → X
-    go true p u q = let h = ltb-true (length ta) 4080 p in n (λ r. omega (arith, h, r .atoms))
-    go false p true q = let h = ltb-true (length tb) 1530 q in n (λ r. omega (arith, h, r .bonds))
-    go false p false q = y (record { atoms = ltb-false (length ta) 4080 p; bonds = ltb-false (length tb) 1530 q })
+    go : (t : Bool) → ltb (length ta) atomPlaces ≡ t → (u : Bool) → ltb (length tb) bondPlaces ≡ u → X
+    go true p u q = let h = ltb-true (length ta) atomPlaces p in n (λ r. omega (arith, h, r .atoms))
+    go false p true q = let h = ltb-true (length tb) bondPlaces q in n (λ r. omega (arith, h, r .bonds))
+    go false p false q = y (record { atoms = ltb-false (length ta) atomPlaces p; bonds = ltb-false (length tb) bondPlaces q })
 
 by-kind : {X : Type 0} (kind : ℕ) → ((k : FileKind) → kind ≡ kindNumber k → kind ≤ 1 → X) → (2 ≤ kind → X) → X
 by-kind zero y n = y molfile refl (omega arith)

@@ -154,11 +154,10 @@ samples =
     refuses molfile (127 ∷ (bytes "$$$$" ++ (replicate 76 120 ++ (LF ∷ [])))) 3 1 81 ∷
     refuses molfile (bytes "$$$$" ++ (127 ∷ LF ∷ [])) 4 1 5 ∷
     refuses molfile (lines ("of $RXN" ∷ [])) 5 1 1 ∷
-    -- 7: digits that do not reach the last column; 8: one atom too many
+    -- 7: digits that do not reach the last column; 8: a list of atoms
     refuses molfile (headed (" 1   0  0  0  0  0  0  0  0  0999 V2000" ∷ [])) 7 4 1 ∷
-    refuses molfile (headed ("256  0  0  0  0  0  0  0  0  0999 V2000" ∷ [])) 8 4 1 ∷
-    -- 12 after 8 on the number of bonds, and before the columns to its right
-    refuses molfile (headed ("  1256  0  0  0  0  0  0  0  0999 V2000" ∷ [])) 8 4 4 ∷
+    refuses molfile (headed ("  0  0  1  0  0  0  0  0  0  0999 V2000" ∷ [])) 8 4 7 ∷
+    -- 12 before the columns to its right
     refuses molfile (headed ("  1  1  x  0  0  0  0  0  0  0999 V2000" ∷ [])) 12 4 4 ∷
     -- 6 before the columns after it; 15 there
     refuses molfile (headed ("  0  0  0  0  0  0  0  0  0  0999 V3000 x" ∷ [])) 6 4 34 ∷

@@ -15,7 +15,7 @@ use line_fields::SignedField;
 use text::Found;
 
 // The most atoms, and the most bonds, of a record.
-pub const LIMIT: u32 = 255;
+pub const LIMIT: u32 = rules::LIMIT as u32;
 
 pub struct Counts {
     pub atoms: u32,

@@ -1,4 +1,5 @@
 pub mod Listed
+pub mod Emptied
 pub mod Answer
 pub mod Kept
 pub mod Seen

@@ -32,6 +32,11 @@ unfoldable pub enter : Kind → List ℕ → List Entry → List ℕ
 enter kind t [] = t
 enter kind t (e ∷ es) = enter kind (set t (slot kind (e .atom)) (noted (e .number))) es
 
+-- the table with nothing listed for the atoms before k
+unfoldable pub emptied : ℕ → List ℕ → List ℕ
+emptied zero t = t
+emptied (suc k) t = set (set (set (emptied k t) k 0) (places + k) 0) (2 * places + k) 0
+
 -- the atoms from 1 to n that the table lists
 unfoldable pub listedTo : Kind → List ℕ → ℕ → List ℕ
 listedTo kind t zero = []

@@ -1,12 +1,12 @@
 -- The table shows the property lines read so far, at the start and after each line; so it tells the atoms that lines have listed.
-use Prim.Native.Nat.{ℕ, zero, suc, _*_, _≤_, _<_}
+use Prim.Native.Nat.{ℕ, _+_, _*_, _≤_, _<_}
 use native.Mathlib.Omega.{arith}
 use mathlib.Core.Path.{_≡_, refl, sym, ap, _∙_}
 use mathlib.Core.Logic.{_≢_}
 use mathlib.Core.List.{List, [], _∷_, _++_, map, append-nil}
 use mathlib.Core.Bool.{Bool, true, false, cond, not}
 use lib.Dec.{eqb}
-use lib.ListN.{length, getD, set, replicate, length-set, length-replicate}
+use lib.ListN.{length, getD, set, length-set}
 use lib.Seq.{getD-set-same, getD-set-other}
 use lib.IntN.{ℤ, pos, negsuc}
 use borrow.Author.Tests.{eq-eqb, ne-eqb, eqb-true, eqb-false}
@@ -20,7 +20,8 @@ use Rattle.judge_line.specs.Got.{got}
 use Rattle.judge_line.specs.Field.{elem}
 use Rattle.judge_line.specs.Judge.{propertyOf, property}
 use Rattle.judge_line.specs.Agree.{NewEntries, property-agrees}
-use Rattle.line_property.specs.Listed.{places, slot, noted, enter, seenOf, notedIn, Shows}
+use Rattle.line_property.specs.Listed.{places, slot, noted, enter, emptied, seenOf, notedIn, Shows}
+use Rattle.line_property.specs.Emptied.{emptied-size, emptied-at}
 use Rattle.line_property.specs.Proper.{ProperEntries, ProperLine, Proper, proper-more, listed-proper, line-proper}
 use Rattle.line_property.specs.Seen.{SameSeen, property-same, slot-small, slot-apart, listed-elem}
 
@@ -33,14 +34,9 @@ true-false h k = absurd (let z : _≡_ {A = ℕ} 0 1 = cc in omega arith)
 
 -- ---- no line yet
 
-zeros : (k i : ℕ) → _≡_ {A = ℕ} (getD (replicate k 0) i 0) 0
-zeros zero i = refl
-zeros (suc k) zero = refl
-zeros (suc k) (suc i) = zeros k i
-
-pub shows-none : (n : ℕ) → Shows n (replicate (3 * places) 0) []
+pub shows-none : (n : ℕ) (t : List ℕ) → length t ≡ 3 * places → Shows n (emptied (n + 1) t) []
 unfolding notedIn listed
-shows-none n = record { size = length-replicate {A = ℕ} (3 * places) 0; each = λ kind atom h. zeros (3 * places) (slot kind atom) }
+shows-none n t h = record { size = emptied-size (n + 1) t ∙ h; each = λ kind atom k. emptied-at (n + 1) t kind atom (omega arith) }
 
 -- ---- what entries keep for an atom
 

@@ -6,18 +6,14 @@ ghost use Rattle.rules.specs.Record.{limit};
 ghost use Rattle.text.specs.Find.{inkColumn};
 ghost use Rattle.line_fields.specs.Answer.{fieldGot};
 ghost use Rattle.judge_line.specs.Judge.{listOf, propertyOf};
-ghost use Rattle.line_property.specs.Listed.{places, base, seenOf};
+ghost use Rattle.line_property.specs.Listed.{places, base, emptied, seenOf};
 ghost use Rattle.line_property.specs.Answer.{kindIs, plainAt, notedAt, placeAt, enteredGot, enteredAt, enteredFrom, propertyRead, restRead};
 ghost use Rattle.line_property.specs.Kept.{Kept, KeptBy};
 use line_fields::Field;
 use line_fields::SignedField;
+use rules::LISTED;
+use rules::PLACES;
 use text::Found;
-
-// Places of one kind: atoms 0 to the limit.
-const PLACES: usize = 256;
-
-// Places of the table: three kinds.
-pub const LISTED: usize = 768;
 
 pub enum Kind {
     Charge,
@@ -202,4 +198,19 @@ pub fn property_line(line: &[u8], n: u32, listed: &mut [u32; LISTED]) -> Propert
         return rest(line, 7, PropertyRead::End);
     }
     PropertyRead::Bad { no: 13, column: 1 }
+}
+
+// Nothing is listed of n atoms, as where a record begins. What stands for further atoms is not looked at, and stays.
+pub fn empty(n: u32, listed: &mut [u32; LISTED])
+    requires { ⌜ (n ≤ limit) × (length (now listed) ≡ 3 * places) ⌝ }
+    ensures { λ r. ⌜ now (listed .exit) ≡ emptied (n + 1) (now (listed .entry)) ⌝ }
+{
+    let end = n as usize + 1;
+    let mut k: usize = 0;
+    while k < end {
+        listed[k] = 0;
+        listed[PLACES + k] = 0;
+        listed[2 * PLACES + k] = 0;
+        k += 1;
+    }
 }

@@ -8,13 +8,10 @@ pub const ATOM: usize = 16;
 
 pub const BOND: usize = 6;
 
-// Atoms, and bonds, of a record.
-const LIMIT: usize = 255;
-
 // Numbers of the tables that a record is read into.
-pub const ATOMS: usize = ATOM * LIMIT;
+pub const ATOMS: usize = rules::ATOMS;
 
-pub const BONDS: usize = BOND * LIMIT;
+pub const BONDS: usize = rules::BONDS;
 
 // No row is longer, with the comma before it.
 pub const ROW: usize = 256;

@@ -3,9 +3,11 @@ ghost use mathlib.Core.Path.{_≡_};
 ghost use Rattle.judge_file.specs.Place.{molfile, sdfile};
 ghost use Rattle.reader_walk.specs.Checking.{saidOf};
 ghost use Rattle.reader_check.specs.Promised.{numbersOf, Promised};
-use line_property::LISTED;
 use reader_cursor::Ended;
 use reader_walk::Walked;
+use rules::ATOMS;
+use rules::BONDS;
+use rules::LISTED;
 
 // A whole text.
 pub enum Answer {
@@ -17,8 +19,8 @@ pub enum Answer {
 fn check_molfile(s: &[u8]) -> Answer
     ensures { λ r. ⌜ numbersOf r ≡ saidOf molfile (now (s .entry)) ⌝ }
 {
-    let mut atoms = [0i32; 4080];
-    let mut bonds = [0i32; 1530];
+    let mut atoms = [0i32; ATOMS];
+    let mut bonds = [0i32; BONDS];
     let mut listed = [0u32; LISTED];
     match reader_walk::walk_record(false, s, &mut atoms, &mut bonds, &mut listed) {
         Walked::Whole {

@@ -9,7 +9,7 @@ use borrow.Author.Tests.{eq-eqb, ne-eqb}
 use mir.Syntax.{w64}
 use mir.Val.{Fits}
 use Rattle.text.specs.Text.{Bytes}
-use Rattle.rules.specs.Record.{Raw}
+use Rattle.rules.specs.Record.{Raw, limit, atomPlaces, bondPlaces}
 use Rattle.line_property.specs.Listed.{places}
 use Rattle.line_counts_bonds.specs.declared.Counts.{Counts}
 use Rattle.judge_file.specs.Place.{sdfile}
@@ -40,22 +40,23 @@ pub ruleset step-laws = (fits-sum, stop-short, stop-dead)
 -- ---- The loop
 
 -- between two records: the cursor stands after those read, and the tables have room and the lengths they had
-pub record Going (s : Bytes) (ta₀ tb₀ ta tb : List ℤ) (t : List ℕ) (c : Cursor) : Type 0 where
+pub record Going (s : Bytes) (ta₀ tb₀ ta tb : List ℤ) (t keys : List ℕ) (c : Cursor) : Type 0 where
   pub xs : List Raw
   pub after : After s xs c
   pub bytes : length s * 1 < 2 ^ 63
-  pub atoms : 4080 ≤ length ta
-  pub bonds : 1530 ≤ length tb
+  pub atoms : atomPlaces ≤ length ta
+  pub bonds : bondPlaces ≤ length tb
   pub listed : length t ≡ 3 * places
+  pub keys-size : length keys ≡ limit
   pub atoms-size : length ta ≡ length ta₀
   pub bonds-size : length tb ≡ length tb₀
 
-pub going-start : (s : Bytes) (ta tb : List ℤ) (t : List ℕ) (c : Cursor) → length s * 1 < 2 ^ 63 → 4080 ≤ length ta → 1530 ≤ length tb → length t ≡ 3 * places → c ≡ fresh →
-    Going s ta tb ta tb t c
-going-start s ta tb t c few ra rb rt e =
-    record { xs = []; after = rw e (after-start s); bytes = few; atoms = ra; bonds = rb; listed = rt; atoms-size = refl; bonds-size = refl }
+pub going-start : (s : Bytes) (ta tb : List ℤ) (t keys : List ℕ) (c : Cursor) → length s * 1 < 2 ^ 63 → atomPlaces ≤ length ta → bondPlaces ≤ length tb → length t ≡ 3 * places →
+    length keys ≡ limit → c ≡ fresh → Going s ta tb ta tb t keys c
+going-start s ta tb t keys c few ra rb rt rk e =
+    record { xs = []; after = rw e (after-start s); bytes = few; atoms = ra; bonds = rb; listed = rt; keys-size = rk; atoms-size = refl; bonds-size = refl }
 
-module _ (s : Bytes) (ta₀ tb₀ ta tb : List ℤ) (t : List ℕ) (c : Cursor) (g : Going s ta₀ tb₀ ta tb t c) where
+module _ (s : Bytes) (ta₀ tb₀ ta tb : List ℤ) (t keys : List ℕ) (c : Cursor) (g : Going s ta₀ tb₀ ta tb t keys c) where
   pub going-over : length s ≤ c .at → Ended.Over c ≡ endedBy (fileWalk s)
   going-over h = sym (ap endedBy (after-over s (g .xs) c (g .after) h))
 
@@ -93,8 +94,8 @@ module _ (s : Bytes) (ta₀ tb₀ ta tb : List ℤ) (t : List ℕ) (c : Cursor) 
         pub going-less : length s - (d .at) < length s - (c .at)
         going-less = let f = found in rw (ed, f .size) (after-less s (g .xs) c (g .after) some (f .x) k (f .is))
 
-        pub going-next : (ta′ tb′ : List ℤ) (t′ : List ℕ) (o : Outcome) → Left ta ta′ tb tb′ t′ o → Going s ta₀ tb₀ ta′ tb′ t′ d
-        going-next ta′ tb′ t′ o left =
+        pub going-next : (ta′ tb′ : List ℤ) (t′ keys′ : List ℕ) (o : Outcome) → Left ta ta′ tb tb′ t′ o → length keys′ ≡ limit → Going s ta₀ tb₀ ta′ tb′ t′ keys′ d
+        going-next ta′ tb′ t′ keys′ o left rk =
             let f = found in
             record {
               xs = g .xs ++ (f .x ∷ []);
@@ -103,6 +104,7 @@ module _ (s : Bytes) (ta₀ tb₀ ta tb : List ℤ) (t : List ℕ) (c : Cursor) 
               atoms = omega (arith, left .atoms .size, g .atoms);
               bonds = omega (arith, left .bonds .size, g .bonds);
               listed = left .size;
+              keys-size = rk;
               atoms-size = left .atoms .size ∙ g .atoms-size;
               bonds-size = left .bonds .size ∙ g .bonds-size;
             }

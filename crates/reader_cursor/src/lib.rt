@@ -2,10 +2,14 @@
 ghost use mathlib.Core.Path.{_≡_};
 ghost use Prim.Native.Nat.{_+_, _*_, _^_, _≤_, _<_};
 ghost use lib.ListN.{length};
+ghost use Rattle.rules.specs.Record.{limit, atomPlaces, bondPlaces};
 ghost use Rattle.line_property.specs.Listed.{places};
 ghost use Rattle.reader_cursor.specs.Walk.{fresh, past, Countable, stopAt, endedBy, fileWalk};
-use line_property::LISTED;
+use reader_pairs::KEYS;
 use reader_walk::Walked;
+use rules::ATOMS;
+use rules::BONDS;
+use rules::LISTED;
 
 // So many bytes, lines and records of the file stand before it.
 pub struct Cursor {
@@ -70,14 +74,20 @@ impl Cursor {
 }
 
 // The records of a file, one after the other, with lent tables.
-fn walk_records(s: &[u8], atoms: &mut [i32], bonds: &mut [i32], listed: &mut [u32; LISTED]) -> Ended
-    requires { ⌜ (4080 ≤ length (now atoms)) × (1530 ≤ length (now bonds)) × (length (now listed) ≡ 3 * places) ⌝ }
+fn walk_records(
+    s: &[u8],
+    atoms: &mut [i32],
+    bonds: &mut [i32],
+    listed: &mut [u32; LISTED],
+    keys: &mut [u32; KEYS],
+) -> Ended
+    requires { ⌜ (atomPlaces ≤ length (now atoms)) × (bondPlaces ≤ length (now bonds)) × (length (now listed) ≡ 3 * places) × (length (now keys) ≡ limit) ⌝ }
     ensures { λ r. ⌜ r ≡ endedBy (fileWalk (now (s .entry))) ⌝ }
 {
     let mut cursor = Cursor::new();
     while cursor.at < s.len() {
         let at = cursor.at;
-        match reader_walk::walk_record(true, &s[at..], atoms, bonds, listed) {
+        match reader_walk::walk_lines(true, &s[at..], atoms, bonds, listed, keys) {
             Walked::Whole {
                 counts: _,
                 length,
@@ -100,8 +110,9 @@ fn walk_records(s: &[u8], atoms: &mut [i32], bonds: &mut [i32], listed: &mut [u3
 pub fn walk_file(s: &[u8]) -> Ended
     ensures { λ r. ⌜ r ≡ endedBy (fileWalk (now (s .entry))) ⌝ }
 {
-    let mut atoms = [0i32; 4080];
-    let mut bonds = [0i32; 1530];
+    let mut atoms = [0i32; ATOMS];
+    let mut bonds = [0i32; BONDS];
     let mut listed = [0u32; LISTED];
-    walk_records(s, &mut atoms, &mut bonds, &mut listed)
+    let mut keys = [0u32; KEYS];
+    walk_records(s, &mut atoms, &mut bonds, &mut listed, &mut keys)
 }

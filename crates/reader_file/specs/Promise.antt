@@ -9,7 +9,7 @@ use lib.ListN.{length, drop}
 use lib.IntN.{ℤ}
 use borrow.Author.Tests.{ltb-true, ltb-false}
 use Rattle.text.specs.Text.{Bytes}
-use Rattle.rules.specs.Record.{limit}
+use Rattle.rules.specs.Record.{limit, atomPlaces, bondPlaces}
 use Rattle.judge_file.specs.Place.{sdfile}
 use Rattle.reader_cursor.specs.declared.Cursor.{Cursor}
 use Rattle.reader_cursor.specs.Walk.{past}
@@ -63,23 +63,23 @@ module _ (c : Cursor) (s : Bytes) (ta tb : List ℤ) where
   lb = length tb
 
   short : ¬ Roomy ta tb → (nextOf c la lb s ≡ Next.Refused 2 0 0) × (atomsNext c lb s ta ≡ ta) × (bondsNext c la s tb ≡ tb)
-  short h = go (ltb la 4080) refl (ltb lb 1530) refl
+  short h = go (ltb la atomPlaces) refl (ltb lb bondPlaces) refl
     where
-      go : (a : Bool) → ltb la 4080 ≡ a → (b : Bool) → ltb lb 1530 ≡ b → (nextOf c la lb s ≡ Next.Refused 2 0 0) × (atomsNext c lb s ta ≡ ta) × (bondsNext c la s tb ≡ tb)
+      go : (a : Bool) → ltb la atomPlaces ≡ a → (b : Bool) → ltb lb bondPlaces ≡ b → (nextOf c la lb s ≡ Next.Refused 2 0 0) × (atomsNext c lb s ta ≡ ta) × (bondsNext c la s tb ≡ tb)
       go true ea b eb =
-          let f = ltb-true la 4080 ea in
+          let f = ltb-true la atomPlaces ea in
           (sym (short-atoms c s la lb f), sym (atoms-short c s lb ta f), sym (bonds-beside c s la tb f))
       go false ea true eb =
-          let f = ltb-false la 4080 ea in
-          let g = ltb-true lb 1530 eb in
+          let f = ltb-false la atomPlaces ea in
+          let g = ltb-true lb bondPlaces eb in
           (sym (short-bonds c s la lb f g), sym (atoms-beside c s lb ta f g), sym (bonds-short c s la tb f g))
       go false ea false eb =
-          let f = ltb-false la 4080 ea in
-          let g = ltb-false lb 1530 eb in
+          let f = ltb-false la atomPlaces ea in
+          let g = ltb-false lb bondPlaces eb in
           absurd (h (record { atoms = omega (arith, f); bonds = omega (arith, g) }))
 
   module _ (y : Roomy ta tb) where
-    room : (4080 ≤ la) × (1530 ≤ lb)
+    room : (atomPlaces ≤ la) × (bondPlaces ≤ lb)
     room = (omega (arith, y .atoms), omega (arith, y .bonds))
 
     over : ¬ Within c s → (nextOf c la lb s ≡ Next.End) × (atomsNext c lb s ta ≡ ta) × (bondsNext c la s tb ≡ tb)
@@ -121,13 +121,13 @@ module _ (c : Cursor) (s : Bytes) (ta tb : List ℤ) where
       }
 
   -- as the code comes to its three ends
-  pub next-few-atoms : la < 4080 → NextPromise c s ta tb (Next.Refused 2 0 0) ta tb
+  pub next-few-atoms : la < atomPlaces → NextPromise c s ta tb (Next.Refused 2 0 0) ta tb
   next-few-atoms h = promised (Next.Refused 2 0 0) ta tb (short-atoms c s la lb h) (atoms-short c s lb ta h) (bonds-beside c s la tb h)
 
-  pub next-few-bonds : 4080 ≤ la → lb < 1530 → NextPromise c s ta tb (Next.Refused 2 0 0) ta tb
+  pub next-few-bonds : atomPlaces ≤ la → lb < bondPlaces → NextPromise c s ta tb (Next.Refused 2 0 0) ta tb
   next-few-bonds h k = promised (Next.Refused 2 0 0) ta tb (short-bonds c s la lb h k) (atoms-beside c s lb ta h k) (bonds-short c s la tb h k)
 
-  pub next-enough : (r : Next) (ta′ tb′ : List ℤ) → 4080 ≤ la → 1530 ≤ lb → r ≡ nextOn c la lb s → ta′ ≡ atomsOn c lb s ta → tb′ ≡ bondsOn c la s tb → NextPromise c s ta tb r ta′ tb′
+  pub next-enough : (r : Next) (ta′ tb′ : List ℤ) → atomPlaces ≤ la → bondPlaces ≤ lb → r ≡ nextOn c la lb s → ta′ ≡ atomsOn c lb s ta → tb′ ≡ bondsOn c la s tb → NextPromise c s ta tb r ta′ tb′
   next-enough r ta′ tb′ h k e ea eb = promised r ta′ tb′ (enough c s la lb r h k e) (atoms-enough c s lb ta ta′ h k ea) (bonds-enough c s la tb tb′ h k eb)
 
 pub ruleset promise-laws = (next-few-atoms, next-few-bonds, next-enough)

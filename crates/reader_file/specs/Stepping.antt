@@ -9,6 +9,7 @@ use lib.ListN.{length, take, drop, length-drop}
 use lib.IntN.{ℤ}
 use borrow.Author.Tests.{lt-ltb, le-ltb, le-leb, lt-leb, ltb-true, ltb-false, leb-true, leb-false}
 use Rattle.text.specs.Text.{Bytes}
+use Rattle.rules.specs.Record.{atomPlaces, bondPlaces}
 use Rattle.judge_file.specs.Place.{sdfile}
 use Rattle.judge_file.specs.WalkText.{afterLines}
 use Rattle.reader_walk.specs.Outcome.{Outcome, whole, refused, outcomeOf}
@@ -32,7 +33,7 @@ module _ (la lb : ℕ) (t : Bytes) where
 
   read-small : (n m chiral len k h a b : ℕ) → readOf 1 la lb t ≡ RecordRead.Read n m chiral len k h a b → (1 ≤ k) × (k ≤ len) × (len ≤ length t)
   unfolding readOf readAs walkOf answered
-  read-small n m chiral len k h a b e = go (ltb la 4080) (ltb lb 1530) (outcomeOf sdfile t) refl e
+  read-small n m chiral len k h a b e = go (ltb la atomPlaces) (ltb lb bondPlaces) (outcomeOf sdfile t) refl e
     where
       go : (x y : Bool) (o : Outcome) → outcomeOf sdfile t ≡ o → by x y o ≡ RecordRead.Read n m chiral len k h a b → (1 ≤ k) × (k ≤ len) × (len ≤ length t)
       go true y o i q = apart q
@@ -46,7 +47,7 @@ module _ (la lb : ℕ) (t : Bytes) where
 
   refused-small : (e i c : ℕ) → readOf 1 la lb t ≡ RecordRead.Refused e i c → i ≤ length t + 1
   unfolding readOf readAs walkOf answered
-  refused-small e i c h = go (ltb la 4080) (ltb lb 1530) (outcomeOf sdfile t) refl h
+  refused-small e i c h = go (ltb la atomPlaces) (ltb lb bondPlaces) (outcomeOf sdfile t) refl h
     where
       no-line : RecordRead.Refused 2 0 0 ≡ RecordRead.Refused e i c → i ≤ length t + 1
       no-line q = let z : 0 ≡ i = cc in omega arith
@@ -165,40 +166,40 @@ pub ruleset place-laws = (not-left, many-lines, many-records, end-next, end-atom
 -- ---- Tables without room, and with
 
 module _ (c : Cursor) (s : Bytes) where
-  pub short-atoms : (la lb : ℕ) → la < 4080 → Next.Refused 2 0 0 ≡ nextOf c la lb s
+  pub short-atoms : (la lb : ℕ) → la < atomPlaces → Next.Refused 2 0 0 ≡ nextOf c la lb s
   unfolding nextOf
-  short-atoms la lb h = rw (lt-ltb la 4080 h)
+  short-atoms la lb h = rw (lt-ltb la atomPlaces h)
 
-  pub short-bonds : (la lb : ℕ) → 4080 ≤ la → lb < 1530 → Next.Refused 2 0 0 ≡ nextOf c la lb s
+  pub short-bonds : (la lb : ℕ) → atomPlaces ≤ la → lb < bondPlaces → Next.Refused 2 0 0 ≡ nextOf c la lb s
   unfolding nextOf
-  short-bonds la lb h k = rw (le-ltb la 4080 h, lt-ltb lb 1530 k)
+  short-bonds la lb h k = rw (le-ltb la atomPlaces h, lt-ltb lb bondPlaces k)
 
-  pub enough : (la lb : ℕ) (r : Next) → 4080 ≤ la → 1530 ≤ lb → r ≡ nextOn c la lb s → r ≡ nextOf c la lb s
+  pub enough : (la lb : ℕ) (r : Next) → atomPlaces ≤ la → bondPlaces ≤ lb → r ≡ nextOn c la lb s → r ≡ nextOf c la lb s
   unfolding nextOf
-  enough la lb r h k e = rw (le-ltb la 4080 h, le-ltb lb 1530 k) e
+  enough la lb r h k e = rw (le-ltb la atomPlaces h, le-ltb lb bondPlaces k) e
 
-  pub atoms-short : (lb : ℕ) (t : List ℤ) → length t < 4080 → t ≡ atomsNext c lb s t
+  pub atoms-short : (lb : ℕ) (t : List ℤ) → length t < atomPlaces → t ≡ atomsNext c lb s t
   unfolding atomsNext
-  atoms-short lb t h = rw (lt-ltb (length t) 4080 h)
+  atoms-short lb t h = rw (lt-ltb (length t) atomPlaces h)
 
-  pub atoms-beside : (lb : ℕ) (t : List ℤ) → 4080 ≤ length t → lb < 1530 → t ≡ atomsNext c lb s t
+  pub atoms-beside : (lb : ℕ) (t : List ℤ) → atomPlaces ≤ length t → lb < bondPlaces → t ≡ atomsNext c lb s t
   unfolding atomsNext
-  atoms-beside lb t h k = rw (le-ltb (length t) 4080 h, lt-ltb lb 1530 k)
+  atoms-beside lb t h k = rw (le-ltb (length t) atomPlaces h, lt-ltb lb bondPlaces k)
 
-  pub atoms-enough : (lb : ℕ) (t u : List ℤ) → 4080 ≤ length t → 1530 ≤ lb → u ≡ atomsOn c lb s t → u ≡ atomsNext c lb s t
+  pub atoms-enough : (lb : ℕ) (t u : List ℤ) → atomPlaces ≤ length t → bondPlaces ≤ lb → u ≡ atomsOn c lb s t → u ≡ atomsNext c lb s t
   unfolding atomsNext
-  atoms-enough lb t u h k e = rw (le-ltb (length t) 4080 h, le-ltb lb 1530 k) e
+  atoms-enough lb t u h k e = rw (le-ltb (length t) atomPlaces h, le-ltb lb bondPlaces k) e
 
-  pub bonds-beside : (la : ℕ) (t : List ℤ) → la < 4080 → t ≡ bondsNext c la s t
+  pub bonds-beside : (la : ℕ) (t : List ℤ) → la < atomPlaces → t ≡ bondsNext c la s t
   unfolding bondsNext
-  bonds-beside la t h = rw (lt-ltb la 4080 h)
+  bonds-beside la t h = rw (lt-ltb la atomPlaces h)
 
-  pub bonds-short : (la : ℕ) (t : List ℤ) → 4080 ≤ la → length t < 1530 → t ≡ bondsNext c la s t
+  pub bonds-short : (la : ℕ) (t : List ℤ) → atomPlaces ≤ la → length t < bondPlaces → t ≡ bondsNext c la s t
   unfolding bondsNext
-  bonds-short la t h k = rw (le-ltb la 4080 h, lt-ltb (length t) 1530 k)
+  bonds-short la t h k = rw (le-ltb la atomPlaces h, lt-ltb (length t) bondPlaces k)
 
-  pub bonds-enough : (la : ℕ) (t u : List ℤ) → 4080 ≤ la → 1530 ≤ length t → u ≡ bondsOn c la s t → u ≡ bondsNext c la s t
+  pub bonds-enough : (la : ℕ) (t u : List ℤ) → atomPlaces ≤ la → bondPlaces ≤ length t → u ≡ bondsOn c la s t → u ≡ bondsNext c la s t
   unfolding bondsNext
-  bonds-enough la t u h k e = rw (le-ltb la 4080 h, le-ltb (length t) 1530 k) e
+  bonds-enough la t u h k e = rw (le-ltb la atomPlaces h, le-ltb (length t) bondPlaces k) e
 
 pub ruleset room-laws = (short-atoms, short-bonds, enough, atoms-short, atoms-beside, atoms-enough, bonds-beside, bonds-short, bonds-enough)

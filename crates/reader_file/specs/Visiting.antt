@@ -6,7 +6,7 @@ use mathlib.Core.List.{List, [], _∷_, _++_, append-nil, append-assoc}
 use lib.ListN.{length, drop}
 use lib.IntN.{ℤ}
 use Rattle.text.specs.Text.{Bytes}
-use Rattle.rules.specs.Record.{Raw, limit, GoodSDfile}
+use Rattle.rules.specs.Record.{Raw, limit, GoodSDfile, atomPlaces, bondPlaces}
 use Rattle.rules.specs.Meaning.{meaning}
 use Rattle.reader_tables.specs.Row.{flat}
 use Rattle.judge_file.specs.Place.{sdfile}
@@ -35,20 +35,20 @@ use Rattle.reader_file.specs.Visits.{Last, Visit, Visits, Ends, Visited}
 
 -- ---- One record read into tables with room
 
-module _ (la lb : ℕ) (ra : 4080 ≤ la) (rb : 1530 ≤ lb) where
+module _ (la lb : ℕ) (ra : atomPlaces ≤ la) (rb : bondPlaces ≤ lb) where
   read-is : (s : Bytes) → readOf 1 la lb s ≡ answered (walkOf sdfile s)
   read-is s = sym (R.kind-sd 1 s la lb (answered (walkOf sdfile s)) refl (R.enough sdfile s la lb (answered (walkOf sdfile s)) ra rb refl))
 
   read-reply : (s : Bytes) (x : Raw) → Begins sdfile s x → readOf 1 la lb s ≡ readBack (replyOf sdfile s x)
   read-reply s x g = read-is s ∙ same-read (answered (walkOf sdfile s)) (readBack (replyOf sdfile s x)) (begins-said sdfile s x g)
 
-  read-atoms : (s : Bytes) (x : Raw) → Begins sdfile s x → (t : List ℤ) → length t ≡ la → atomsAfter 1 lb s t ≡ rowsIn 4080 t (flat (meaning x .atoms))
+  read-atoms : (s : Bytes) (x : Raw) → Begins sdfile s x → (t : List ℤ) → length t ≡ la → atomsAfter 1 lb s t ≡ rowsIn atomPlaces t (flat (meaning x .atoms))
   unfolding atomsBy
   read-atoms s x g t n =
       let u = atomsBy t (outcomeOf sdfile s) in
       sym (R.atoms-sd 1 s lb t u refl (R.atoms-enough sdfile s lb t u (omega arith) rb refl)) ∙ ap (atomsBy t) (begins-outcome sdfile s x g)
 
-  read-bonds : (s : Bytes) (x : Raw) → Begins sdfile s x → (t : List ℤ) → length t ≡ lb → bondsAfter 1 la s t ≡ rowsIn 1530 t (flat (meaning x .bonds))
+  read-bonds : (s : Bytes) (x : Raw) → Begins sdfile s x → (t : List ℤ) → length t ≡ lb → bondsAfter 1 la s t ≡ rowsIn bondPlaces t (flat (meaning x .bonds))
   unfolding bondsBy
   read-bonds s x g t n =
       let u = bondsBy t (outcomeOf sdfile s) in
@@ -160,7 +160,7 @@ module _ (la lb : ℕ) (s : Bytes) where
 
 -- ---- A good file, and a refused one
 
-module _ (la lb : ℕ) (ra : 4080 ≤ la) (rb : 1530 ≤ lb) (s : Bytes) where
+module _ (la lb : ℕ) (ra : atomPlaces ≤ la) (rb : bondPlaces ≤ lb) (s : Bytes) where
   said-apart : {X : Type 0} {n e i column : ℕ} → accepted n ≡ W.Said.refused e i column → X
   said-apart h = absurd (let z : _≡_ {A = ℕ} 0 1 = cc in omega arith)
 

@@ -5,7 +5,7 @@ use mathlib.Core.List.{List, [], _∷_}
 use lib.ListN.{length, drop}
 use lib.IntN.{ℤ}
 use Rattle.text.specs.Text.{Bytes}
-use Rattle.rules.specs.Record.{Raw, GoodSDfile}
+use Rattle.rules.specs.Record.{Raw, GoodSDfile, atomPlaces, bondPlaces}
 use Rattle.rules.specs.Meaning.{meaning}
 use Rattle.reader_tables.specs.Row.{flat}
 use Rattle.judge_file.specs.Place.{sdfile}
@@ -32,8 +32,8 @@ module _ (la lb : ℕ) (s : Bytes) where
     pub told : Told sdfile (drop (c .at) s) x reply
     pub moved : d ≡ past c (reply .bytes) (reply .lines)
     pub answer : numbersOf (nextOf c la lb s) ≡ found reply d
-    pub atoms : (t : List ℤ) → length t ≡ la → atomsNext c lb s t ≡ rowsIn 4080 t (flat (meaning x .atoms))
-    pub bonds : (t : List ℤ) → length t ≡ lb → bondsNext c la s t ≡ rowsIn 1530 t (flat (meaning x .bonds))
+    pub atoms : (t : List ℤ) → length t ≡ la → atomsNext c lb s t ≡ rowsIn atomPlaces t (flat (meaning x .atoms))
+    pub bonds : (t : List ℤ) → length t ≡ lb → bondsNext c la s t ≡ rowsIn bondPlaces t (flat (meaning x .bonds))
 
   -- the records visited from a cursor on, the cursor after them, and the answer that gives no further cursor
   pub data Visits : Cursor → List Raw → Cursor → Said → Type 0 where

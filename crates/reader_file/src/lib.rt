@@ -5,6 +5,8 @@ ghost use Rattle.reader_file.specs.Next.{Within, nextAt, atomsAt, bondsA
 ghost use Rattle.reader_file.specs.Promise.{NextPromise};
 use reader_cursor::Cursor;
 use reader_record::RecordRead;
+use rules::ATOMS;
+use rules::BONDS;
 
 // A record's numbers count from its first byte; a refusal's line counts from the file's start.
 pub enum Next {
@@ -26,11 +28,6 @@ pub enum Next {
         column: usize,
     },
 }
-
-// Numbers of 255 atoms, and of 255 bonds.
-const ATOMS: usize = 4080;
-
-const BONDS: usize = 1530;
 
 // The record that starts at the cursor.
 fn read_at(cursor: Cursor, s: &[u8], atoms: &mut [i32], bonds: &mut [i32]) -> Next

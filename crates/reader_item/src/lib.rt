@@ -2,14 +2,17 @@
 ghost use mathlib.Core.Path.{_≡_};
 ghost use Prim.Native.Nat.{_*_, _≤_};
 ghost use lib.ListN.{length};
+ghost use Rattle.rules.specs.Record.{atomPlaces, bondPlaces};
 ghost use Rattle.judge_line.specs.Judge.{itemOf};
 ghost use Rattle.line_property.specs.Listed.{places};
 ghost use Rattle.reader_item.specs.Find.{titledAs, titleBy, valuesAt, numbersOf, foundOf, stretchOf, ItemsStart};
 ghost use Rattle.reader_item.specs.Promise.{Promised, Handed};
-use line_property::LISTED;
 use line_text::ItemRead;
 use line_text::ValueRead;
 use reader_walk::Walked;
+use rules::ATOMS;
+use rules::BONDS;
+use rules::LISTED;
 use text::LineAt;
 
 // What a fetch finds: the bytes from the first value line's start up to the last one's end; both 0 where the item has no value lines.
@@ -134,8 +137,9 @@ fn find_with(
     bonds: &mut [i32],
     listed: &mut [u32; LISTED],
 ) -> Found
-    requires { ⌜ (4080 ≤ length (now atoms)) × (1530 ≤ length (now bonds)) × (length (now listed) ≡ 3 * places) ⌝ }
+    requires { ⌜ (atomPlaces ≤ length (now atoms)) × (bondPlaces ≤ length (now bonds)) × (length (now listed) ≡ 3 * places) ⌝ }
     ensures { λ r. ⌜ numbersOf r ≡ foundOf (now (s .entry)) (now (name .entry)) ⌝ }
+    ensures { λ r. ⌜ length (now (listed .exit)) ≡ 3 * places ⌝ }
 {
     match reader_walk::walk_record(true, s, atoms, bonds, listed) {
         Walked::Whole {
@@ -150,14 +154,24 @@ fn find_with(
     }
 }
 
-// Where the value lines of the first item of a name stand in the record that the bytes begin with.
+// Where the value lines of the first item of a name stand in the record that the bytes begin with, by a lent table of listed numbers: for callers that go
+// from record to record. Nobody reads the rows, so the compiler lays no tables for them.
+pub fn find_listed(s: &[u8], name: &[u8], listed: &mut [u32; LISTED]) -> Found
+    requires { ⌜ length (now listed) ≡ 3 * places ⌝ }
+    ensures { λ r. ⌜ Promised (now (s .entry)) (now (name .entry)) (numbersOf r) ⌝ }
+    ensures { λ r. ⌜ length (now (listed .exit)) ≡ 3 * places ⌝ }
+{
+    let mut atoms = [0i32; ATOMS];
+    let mut bonds = [0i32; BONDS];
+    find_with(s, name, &mut atoms, &mut bonds, listed)
+}
+
+// The same with a table of its own.
 pub fn find_item(s: &[u8], name: &[u8]) -> Found
     ensures { λ r. ⌜ Promised (now (s .entry)) (now (name .entry)) (numbersOf r) ⌝ }
 {
-    let mut atoms = [0i32; 4080];
-    let mut bonds = [0i32; 1530];
     let mut listed = [0u32; LISTED];
-    find_with(s, name, &mut atoms, &mut bonds, &mut listed)
+    find_listed(s, name, &mut listed)
 }
 
 // The stretch that a fetch hands back: the empty one at the start where it is refused.

@@ -7,6 +7,7 @@ use lib.ListN.{length}
 use lib.Seq.{sets}
 use lib.IntN.{ℤ}
 use Rattle.text.specs.Text.{Line}
+use Rattle.rules.specs.Record.{limit}
 use Rattle.judge_line.specs.Got.{Got}
 use Rattle.line_atom.specs.Answer.{atomIs}
 use Rattle.line_atom.specs.declared.Atom.{Atom}
@@ -60,7 +61,7 @@ module _ (r : Reader) (m : Notes) (next : ℕ) (t : List ℕ) (ta : List ℤ) (l
 
 module _ (r : Reader) (m : Notes) (t : List ℕ) (ta : List ℤ) (l : Line) (x : Step) (r₂ : Reader) (a : Atom) (g : Ready r m t ta l) (e : stepGot l x ≡ wentOf r t l)
     (q : x ≡ Step.Atom r₂ a) where
-  pub atom-few : m .atoms < 255
+  pub atom-few : m .atoms < limit
   atom-few = g .fits r₂ (atomIs a) (sym e ∙ ap (stepGot l) q) .0
 
   pub atom-low : m .atoms ≤ 999

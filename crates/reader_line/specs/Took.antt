@@ -7,7 +7,7 @@ use lib.Seq.{sets}
 use lib.IntN.{ℤ}
 use Rattle.text.specs.Text.{Line}
 use Rattle.rules.specs.Forms as R
-use Rattle.rules.specs.Record.{limit}
+use Rattle.rules.specs.Record.{limit, atomPlaces, bondPlaces}
 use Rattle.judge_line.specs.Got.{Got, got, bad}
 use Rattle.line_counts_bonds.specs.Answer.{bondIs}
 use Rattle.line_counts_bonds.specs.declared.Counts.{Counts}
@@ -75,7 +75,7 @@ atomsBy m (bad e column) t = t
 -- what taking a line asks: an atom's row fits the table
 pub record Ready (r : Reader) (m : Notes) (listed : List ℕ) (t : List ℤ) (l : Line) : Type 0 where
   pub sane : Sane r
-  pub room : 4080 ≤ length t
+  pub room : atomPlaces ≤ length t
   pub size : length listed ≡ 3 * places
   pub fits : (r′ : Reader) (a : R.Atom) → wentOf r listed l ≡ got (atom r′ a) → (m .atoms < limit) × SmallAtom a
 
@@ -90,5 +90,5 @@ pub record Took (r : Reader) (m : Notes) (next : ℕ) (listed : List ℕ) (t : L
 pub record Keeping (m : Notes) (b : Bond) (t : List ℤ) (keys : List ℕ) : Type 0 where
   pub few : m .bonds < limit
   pub fits : SmallBond (bondIs b)
-  pub room : 1530 ≤ length t
-  pub key-room : length keys ≡ 256
+  pub room : bondPlaces ≤ length t
+  pub key-room : length keys ≡ limit

@@ -4,13 +4,14 @@ ghost use Prim.Native.Nat.{_*_, _<_};
 ghost use lib.ListN.{set};
 ghost use lib.Seq.{sets};
 ghost use Rattle.rules.specs.Meaning.{bondNumbers};
+ghost use Rattle.rules.specs.Record.{limit};
 ghost use Rattle.line_counts_bonds.specs.Answer.{bondIs};
 ghost use Rattle.reader_line.specs.Took.{noNotes, headedAt, endedAt, atomMore, bondMore, Ready, Took, Keeping};
 use line_counts_bonds::Bond;
-use line_property::LISTED;
 use reader_pairs::KEYS;
 use reader_state::Reader;
 use reader_state::Step;
+use rules::LISTED;
 
 // What has been noted of a record: how many rows the tables hold, and where its header lines end and its items begin.
 pub struct Notes {
@@ -68,7 +69,7 @@ impl Notes {
 
     // One atom more.
     fn atom_more(self) -> Notes
-        requires { ⌜ self .atoms < 255 ⌝ }
+        requires { ⌜ self .atoms < limit ⌝ }
         ensures { λ r. ⌜ r ≡ atomMore self ⌝ }
     {
         Notes {
@@ -81,7 +82,7 @@ impl Notes {
 
     // One bond more.
     fn bond_more(self) -> Notes
-        requires { ⌜ self .bonds < 255 ⌝ }
+        requires { ⌜ self .bonds < limit ⌝ }
         ensures { λ r. ⌜ r ≡ bondMore self ⌝ }
     {
         Notes {

@@ -61,6 +61,11 @@ key-turned x y true false p q = refl
 key-turned x y false true p q = refl
 key-turned x y false false p q = let e : x ≡ y = omega (arith, ltb-false x y p, ltb-false y x q) in omega arith
 
+-- the same key in either direction
+pub key-either : (x y : ℕ) → pairKey x y ≡ pairKey y x
+unfolding pairKey
+key-either x y = key-turned x y (ltb x y) (ltb y x) refl refl
+
 key-complete : (b c : Bond) → SamePair b c → keyOf b ≡ keyOf c
 unfolding pairKey
 key-complete b c (along e f) = rw (e, f)
@@ -80,6 +85,25 @@ unfolding elem pairTaken AllSmall
 taken-keys b [] hb hs = refl
 taken-keys b (c ∷ bs) hb hs = rw (key-agrees b c hb (hs .0), taken-keys b bs hb (hs .1))
 
+-- ---- Keys that are not this one
+
+-- none of the keys from place i to before place j is this one
+pub record Missed (keys : List ℕ) (key i j : ℕ) : Type 0 where
+  pub none : (k : ℕ) → i ≤ k → k < j → getD keys k 0 ≡ key → ⊥
+
+pub missed-start : (keys : List ℕ) (key i : ℕ) → Missed keys key i (i + 0)
+missed-start keys key i = record { none = λ k low high e. omega arith }
+
+missed-more : (keys : List ℕ) (key i j : ℕ) → Missed keys key i j → (getD keys j 0 ≡ key → ⊥) → Missed keys key i (j + 1)
+missed-more keys key i j g ne = record { none = λ k low high e. go k low high e (eqb k j) refl }
+  where
+    go : (k : ℕ) → i ≤ k → k < j + 1 → getD keys k 0 ≡ key → (t : Bool) → eqb k j ≡ t → ⊥
+    go k low high e true q = ne (subst (λ (x : ℕ). getD keys x 0 ≡ key) (eqb-true k j q) e)
+    go k low high e false q = let d = eqb-false k j q in g .none k low (omega arith) e
+
+pub missed-next : (keys : List ℕ) (key i n : ℕ) → Missed keys key i (i + n) → (getD keys (i + n) 0 ≡ key → ⊥) → Missed keys key i (i + (n + 1))
+missed-next keys key i n g ne = let e : i + n + 1 ≡ i + (n + 1) = omega arith in subst (Missed keys key i) e (missed-more keys key i (i + n) g ne)
+
 -- ---- The search, in order from the first
 
 -- the key is not among the first j keys
@@ -87,9 +111,10 @@ pub record Searching (keys : List ℕ) (key count j : ℕ) : Type 0 where
   pub within : j ≤ count
   pub room : count ≤ length keys
   pub same : elem key (take count keys) ≡ elem key (drop j (take count keys))
+  pub missed : Missed keys key 0 j
 
 pub searching-start : (keys : List ℕ) (key count : ℕ) → count ≤ length keys → Searching keys key count 0
-searching-start keys key count h = record { within = omega arith; room = h; same = refl }
+searching-start keys key count h = record { within = omega arith; room = h; same = refl; missed = missed-start keys key 0 }
 
 module _ (keys : List ℕ) (key count j : ℕ) (g : Searching keys key count j) where
   here : j < count → drop j (take count keys) ≡ getD keys j 0 ∷ drop (j + 1) (take count keys)
@@ -100,7 +125,12 @@ module _ (keys : List ℕ) (key count j : ℕ) (g : Searching keys key count j) 
   pub searching-next : j < count → (getD keys j 0 ≡ key → ⊥) → Searching keys key count (j + 1)
   unfolding elem
   searching-next h ne =
-      record { within = omega arith; room = g .room; same = g .same ∙ rw (here h, ne-eqb key (getD keys j 0) (λ e. ne (sym e))) }
+      record {
+        within = omega arith;
+        room = g .room;
+        same = g .same ∙ rw (here h, ne-eqb key (getD keys j 0) (λ e. ne (sym e)));
+        missed = missed-more keys key 0 j (g .missed) ne;
+      }
 
   pub searching-found : j < count → getD keys j 0 ≡ key → elem key (take count keys) ≡ true
   unfolding elem
@@ -112,22 +142,8 @@ module _ (keys : List ℕ) (key count j : ℕ) (g : Searching keys key count j) 
 
 -- ---- Whole blocks without the key
 
--- none of the keys from place i to before place j is this one
-pub record Missed (keys : List ℕ) (key i j : ℕ) : Type 0 where
-  pub none : (k : ℕ) → i ≤ k → k < j → getD keys k 0 ≡ key → ⊥
-
-pub missed-start : (keys : List ℕ) (key i : ℕ) → Missed keys key i (i + 0)
-missed-start keys key i = record { none = λ k low high e. omega arith }
-
-pub missed-next : (keys : List ℕ) (key i n : ℕ) → Missed keys key i (i + n) → (getD keys (i + n) 0 ≡ key → ⊥) → Missed keys key i (i + (n + 1))
-missed-next keys key i n g ne = record { none = λ k low high e. go k low high e (eqb k (i + n)) refl }
-  where
-    go : (k : ℕ) → i ≤ k → k < i + (n + 1) → getD keys k 0 ≡ key → (t : Bool) → eqb k (i + n) ≡ t → ⊥
-    go k low high e true q = ne (subst (λ (j : ℕ). getD keys j 0 ≡ key) (eqb-true k (i + n) q) e)
-    go k low high e false q = let d = eqb-false k (i + n) q in g .none k low (omega arith) e
-
-pub missed-all : (keys : List ℕ) (key i n : ℕ) → Missed keys key i (i + n) → n ≤ 8 → 8 ≤ n → Missed keys key i (i + 8)
-missed-all keys key i n g h l = let e : n ≡ 8 = omega arith in subst (λ (j : ℕ). Missed keys key i (i + j)) e g
+pub missed-all : (keys : List ℕ) (key i n width : ℕ) → Missed keys key i (i + n) → n ≤ width → width ≤ n → Missed keys key i (i + width)
+missed-all keys key i n width g h l = let e : n ≡ width = omega arith in subst (λ (j : ℕ). Missed keys key i (i + j)) e g
 
 pub searching-block : (keys : List ℕ) (key count i n : ℕ) → Searching keys key count i → Missed keys key i (i + n) → i + n ≤ count → Searching keys key count (i + n)
 searching-block keys key count i zero g m h = let e : i ≡ i + 0 = omega arith in subst (Searching keys key count) e g
@@ -137,7 +153,7 @@ searching-block keys key count i (suc n) g m h =
     subst (Searching keys key count) one
     (searching-next keys key count (i + n) (searching-block keys key count i n g before (omega arith)) (omega arith) (m .none (i + n) (omega arith) (omega arith)))
 
-pub searching-on : (keys : List ℕ) (key count i : ℕ) → Searching keys key count i → Missed keys key i (i + 8) → 8 ≤ count - i → Searching keys key count (i + 8)
-searching-on keys key count i g m h = searching-block keys key count i 8 g m (omega (arith, g .within))
+pub searching-on : (keys : List ℕ) (key count i width : ℕ) → Searching keys key count i → Missed keys key i (i + width) → width ≤ count - i → Searching keys key count (i + width)
+searching-on keys key count i width g m h = searching-block keys key count i width g m (omega (arith, g .within))
 
 pub ruleset searching-laws = (missed-start, missed-next, searching-start, searching-on)

@@ -7,7 +7,7 @@ use lib.ListN.{length, take, drop}
 use lib.IntN.{ℤ}
 use Rattle.text.specs.Text.{Bytes, Line}
 use Rattle.text.specs.Cut.{Cut, cut, split}
-use Rattle.rules.specs.Record.{Raw, limit}
+use Rattle.rules.specs.Record.{Raw, limit, atomPlaces, bondPlaces}
 use Rattle.judge_line.specs.Got.{Got, got, bad}
 use Rattle.judge_file.specs.Place.{sdfile, Place, first, Turn, next, done, turnOf}
 use Rattle.judge_file.specs.One.{One, oneFrom, oneRecord}
@@ -134,6 +134,6 @@ after-refused s n front e column st h u =
     (o ∙ sym p)
 
 -- no bytes at all are cut short at line 1
-pub no-bytes : (la lb : ℕ) → 4080 ≤ la → 1530 ≤ lb → readOf 1 la lb [] ≡ RecordRead.Refused 19 1 1
+pub no-bytes : (la lb : ℕ) → atomPlaces ≤ la → bondPlaces ≤ lb → readOf 1 la lb [] ≡ RecordRead.Refused 19 1 1
 unfolding readOf walkOf outcomeOf oneRecord oneFrom cut split answered
 no-bytes la lb a b = sym (enough sdfile [] la lb (RecordRead.Refused 19 1 1) a b refl)

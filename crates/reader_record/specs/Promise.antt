@@ -7,7 +7,7 @@ use mathlib.Core.List.{List, [], _∷_}
 use lib.ListN.{length}
 use lib.IntN.{ℤ}
 use Rattle.text.specs.Text.{Bytes, Line, Lines}
-use Rattle.rules.specs.Record.{Raw, limit, Parts1to5, Molfile, Record, GoodMolfile}
+use Rattle.rules.specs.Record.{Raw, limit, Parts1to5, Molfile, Record, GoodMolfile, atomPlaces, bondPlaces}
 use Rattle.rules.specs.Meaning.{meaning}
 use Rattle.rules.specs.Canon.{ItemPart}
 use Rattle.reader_tables.specs.Row.{flat}
@@ -76,11 +76,11 @@ pub record Roomy (ta tb : List ℤ) : Type 0 where
   pub atoms : 16 * limit ≤ length ta
   pub bonds : 6 * limit ≤ length tb
 
--- tables with room: rows of the record's reading, then zeros, and past the room for 255 what was there; after a refusal no rows
+-- tables with room: rows of the record's reading, then zeros, and past the room for the limit what was there; after a refusal no rows
 pub record Reads (kind : FileKind) (s : Bytes) (ta tb : List ℤ) (r : Said) (ta′ tb′ : List ℤ) : Type 0 where
   pub accepts : (w : Reply) → (r ≡ accepted w) ↔ ((x : Raw) × Begins kind s x × Told kind s x w)
-  pub rows : (x : Raw) → Begins kind s x → (ta′ ≡ rowsIn 4080 ta (flat (meaning x .atoms))) × (tb′ ≡ rowsIn 1530 tb (flat (meaning x .bonds)))
-  pub refuses : (e i column : ℕ) → r ≡ refused e i column → Refusal kind s e i column × (ta′ ≡ rowsIn 4080 ta []) × (tb′ ≡ rowsIn 1530 tb [])
+  pub rows : (x : Raw) → Begins kind s x → (ta′ ≡ rowsIn atomPlaces ta (flat (meaning x .atoms))) × (tb′ ≡ rowsIn bondPlaces tb (flat (meaning x .bonds)))
+  pub refuses : (e i column : ℕ) → r ≡ refused e i column → Refusal kind s e i column × (ta′ ≡ rowsIn atomPlaces ta []) × (tb′ ≡ rowsIn bondPlaces tb [])
 
 -- a refusal without a line: no memory changes
 abbrev pub Untouched : ℕ → List ℤ → List ℤ → Said → List ℤ → List ℤ → Type 0

@@ -1,5 +1,5 @@
 -- What is read of samples, and what is refused, in one table, checked by one computation. The first is the record of thirteen lines.
-use Prim.Native.Nat.{ℕ}
+use Prim.Native.Nat.{ℕ, _+_, _-_}
 use mathlib.Core.Path.{_≡_, refl}
 use mathlib.Core.List.{List, [], _∷_, _++_, map}
 use lib.ListN.{length, replicate}
@@ -12,7 +12,7 @@ use Rattle.field_numbers.specs.Number.{decimalAfter}
 use Rattle.field_numbers.specs.Read.{allDigits, afterSpaces, digitsRead, afterBlank, integerIn, ranged, numberIn, signedRanged, signedIn}
 use Rattle.field_coordinates.specs.Read.{pointRead, beforePoint, inked, coordinateIn}
 use Rattle.field_symbols.specs.Read.{among, symbolIn}
-use Rattle.rules.specs.Record.{listed}
+use Rattle.rules.specs.Record.{listed, atomPlaces, bondPlaces}
 use Rattle.rules.specs.Meaning as M
 use Rattle.rules.specs.Samples.{atom, bond}
 use Rattle.judge_pairs.specs.Taken.{pairTaken}
@@ -44,17 +44,17 @@ pub record Sample : Type 0 where
 abbrev sevens : ℕ → List ℤ
 sevens k = replicate k (pos 7)
 
--- two places more than 255 atoms take, and one more than 255 bonds
+-- two places more than the most atoms take, and one more than the most bonds
 abbrev good : ℕ → Bytes → RecordRead → Sample
 good kind text answer =
     record {
       kind = kind;
       text = text;
-      places = 4082;
-      bond-places = 1531;
+      places = atomPlaces + 2;
+      bond-places = bondPlaces + 1;
       answer = answer;
-      atoms = atom (pos 0) (pos 0) 6 (pos 0) ++ (atom (pos 12500) (negsuc 8249) 8 (negsuc 0) ++ (replicate 4048 (pos 0) ++ sevens 2));
-      bonds = bond 1 2 ++ (replicate 1524 (pos 0) ++ sevens 1);
+      atoms = atom (pos 0) (pos 0) 6 (pos 0) ++ (atom (pos 12500) (negsuc 8249) 8 (negsuc 0) ++ (replicate (atomPlaces - 32) (pos 0) ++ sevens 2));
+      bonds = bond 1 2 ++ (replicate (bondPlaces - 6) (pos 0) ++ sevens 1);
     }
 
 abbrev bad : ℕ → Bytes → ℕ → ℕ → ℕ → Sample
@@ -62,11 +62,11 @@ bad kind text e i column =
     record {
       kind = kind;
       text = text;
-      places = 4082;
-      bond-places = 1531;
+      places = atomPlaces + 2;
+      bond-places = bondPlaces + 1;
       answer = RecordRead.Refused e i column;
-      atoms = replicate 4080 (pos 0) ++ sevens 2;
-      bonds = replicate 1530 (pos 0) ++ sevens 1;
+      atoms = replicate atomPlaces (pos 0) ++ sevens 2;
+      bonds = replicate bondPlaces (pos 0) ++ sevens 1;
     }
 
 abbrev untouched : ℕ → ℕ → ℕ → ℕ → Sample
@@ -96,10 +96,10 @@ samples =
     bad 0 (lines drumLines ++ bytes "x") 19 10 1 ∷
     bad 1 (drum "00417" ("$$$$" ∷ [])) 17 12 1 ∷
     bad 1 [] 19 1 1 ∷
-    untouched 2 4080 1530 1 ∷
-    untouched 1 4079 1530 2 ∷
-    untouched 0 4080 1529 2 ∷
-    untouched 2 4079 1529 1 ∷
+    untouched 2 atomPlaces bondPlaces 1 ∷
+    untouched 1 (atomPlaces - 1) bondPlaces 2 ∷
+    untouched 0 atomPlaces (bondPlaces - 1) 2 ∷
+    untouched 2 (atomPlaces - 1) (bondPlaces - 1) 1 ∷
     []
 
 -- the answer and the tables that the definitions give

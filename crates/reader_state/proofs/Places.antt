@@ -5,7 +5,7 @@ use mathlib.Core.Path.{_≡_, refl, sym, ap, _∙_, subst}
 use mathlib.Core.List.{List, []}
 use mathlib.Core.Bool.{Bool, true, false}
 use lib.Dec.{eqb, leb}
-use lib.ListN.{length, take, drop, replicate, length-replicate}
+use lib.ListN.{length, take, drop}
 use borrow.Author.Tests.{eq-eqb, ne-eqb, le-leb, lt-leb}
 use Rattle.text.specs.Text.{Line}
 use Rattle.text.specs.Find.{badColumn}
@@ -24,7 +24,9 @@ use Rattle.line_atom.specs.declared.Atom.{Atom}
 use Rattle.line_atom.specs.declared.AtomRead.{AtomRead}
 use Rattle.line_counts_bonds.specs.declared.Bond.{Bond}
 use Rattle.line_counts_bonds.specs.declared.BondRead.{BondRead}
-use Rattle.line_property.specs.Listed.{seenOf, places}
+use Rattle.line_property.specs.Listed.{seenOf, places, emptied}
+use Rattle.line_property.specs.Emptied.{emptied-size}
+use Rattle.reader_state.proofs.Few.{atoms-few}
 use Rattle.line_property.specs.Answer.{propertyRead}
 use Rattle.line_property.specs.Kept as E
 use Rattle.line_property.specs.declared.PropertyRead.{PropertyRead}
@@ -39,7 +41,7 @@ use Rattle.reader_state.specs.declared.Reader.{Reader}
 use Rattle.reader_state.specs.declared.Step.{Step}
 use Rattle.reader_places.specs.declared.LineJudged.{LineJudged}
 use Rattle.reader_places.specs.Places.{bondsOwed, atomsOwed, afterEnd, longestIn, lineGot}
-use Rattle.reader_state.specs.Went.{Went, on, headed, atom, bond, ended, title, value, blank, done, moved, counted, afterProperty, enteredBy, headerIn, lineIn, wentOf, tableAt, Kept, Owing, Sane}
+use Rattle.reader_state.specs.Went.{emptiedBy, Went, on, headed, atom, bond, ended, title, value, blank, done, moved, counted, afterProperty, enteredBy, headerIn, lineIn, wentOf, tableAt, Kept, Owing, Sane}
 use Rattle.reader_state.specs.Parts.{titleIn, KeptAt}
 
 -- ---- a step that is no title
@@ -122,16 +124,22 @@ module _ (r : Reader) (t : List ℕ) (l : Line) (v : CountsRead) (e : countsGot 
   unfolding lineIn then
   counts-stop number column h = rw (← e, h)
 
-  pub counts-cleared : KeptAt r P.Counts t l (replicate 768 0)
-  counts-cleared = record { kept = λ w q. refl }
+  counts-are : (c : Counts) → v ≡ CountsRead.Is c → J.countsOf limit l ≡ got (countsIs c)
+  counts-are c h = sym e ∙ ap countsGot h
+
+  pub counts-few : (c : Counts) → v ≡ CountsRead.Is c → c .atoms ≤ limit
+  counts-few c h = atoms-few l (countsIs c) (counts-are c h)
+
+  pub counts-emptied : (c : Counts) (t′ : List ℕ) → v ≡ CountsRead.Is c → t′ ≡ emptied (c .atoms + 1) t → KeptAt r P.Counts t l t′
+  counts-emptied c t′ h k = record { kept = λ w q. k ∙ ap (emptiedBy t) (sym (counts-are c h)) }
 
   pub counts-refused : (number column : ℕ) (t′ : List ℕ) → v ≡ CountsRead.Bad number column → KeptAt r P.Counts t l t′
   counts-refused number column t′ h = record { kept = λ w q. bad-got (counts-stop number column h ∙ q) }
 
-pub cleared-size : length {A = ℕ} (replicate 768 0) ≡ 3 * places
-cleared-size = length-replicate {A = ℕ} 768 0
+pub table-size : (k : ℕ) (t t′ : List ℕ) → t′ ≡ emptied k t → length t ≡ 3 * places → length t′ ≡ 3 * places
+table-size k t t′ e h = rw e (emptied-size k t ∙ h)
 
-pub ruleset counts-laws = (counts-next, counts-stop, counts-cleared, counts-refused, cleared-size)
+pub ruleset counts-laws = (counts-next, counts-stop, counts-few, counts-emptied, counts-refused, table-size)
 
 -- ---- atom and bond lines
 

@@ -1,10 +1,10 @@
 -- One step of the reader's state: what a line was, and the state after it. The tables beside the state hold what has been read.
-use Prim.Native.Nat.{ℕ, zero, suc, _-_, _≤_}
+use Prim.Native.Nat.{ℕ, _+_, _-_, _≤_}
 use mathlib.Core.Path.{_≡_}
 use mathlib.Core.List.{List, [], _∷_}
 use mathlib.Core.Bool.{cond}
 use lib.Dec.{eqb}
-use lib.ListN.{take, drop, replicate}
+use lib.ListN.{take, drop}
 use Rattle.text.specs.Text.{Bytes, Line}
 use Rattle.rules.specs.Forms as R
 use Rattle.rules.specs.Record.{limit}
@@ -14,7 +14,7 @@ use Rattle.judge_line.specs.Judge as J
 use Rattle.line_atom.specs.Answer.{atomIs}
 use Rattle.line_counts_bonds.specs.Answer.{countsIs, bondIs}
 use Rattle.line_counts_bonds.specs.declared.Counts.{Counts}
-use Rattle.line_property.specs.Listed.{seenOf, enter, places}
+use Rattle.line_property.specs.Listed.{seenOf, enter, emptied}
 use Rattle.reader_places.specs.declared.Place.{Place}
 use Rattle.reader_places.specs.declared.Place.the-variants as P
 use Rattle.reader_places.specs.Places.{bondsOwed, atomsOwed, afterEnd, longestIn}
@@ -92,15 +92,19 @@ lineIn r P.Values t l = then (J.valueOf l) λ v. got (afterValue r v)
 unfoldable pub wentOf : Reader → List ℕ → Line → Got Went
 wentOf r t l = within (longestIn (r .place)) l (lineIn r (r .place) t l)
 
--- the table of listed numbers after a line that is not refused: emptied at the counts line, entered at a property line
+-- the table of listed numbers after a line that is not refused: emptied at the counts line for the atoms that it counts, entered at a property line
 abbrev pub enteredBy : List ℕ → Got J.PropertyOrEnd → List ℕ
 enteredBy t (got (J.property p)) = enter (p .kind) t (p .entries)
 enteredBy t (got J.last) = t
 enteredBy t (bad e column) = t
 
+abbrev pub emptiedBy : List ℕ → Got R.Counts → List ℕ
+emptiedBy t (got c) = emptied (c .atoms + 1) t
+emptiedBy t (bad e column) = t
+
 abbrev pub tableAt : Reader → Place → List ℕ → Line → List ℕ
 tableAt r (P.Header owed) t l = t
-tableAt r P.Counts t l = replicate 768 0
+tableAt r P.Counts t l = emptiedBy t (J.countsOf limit l)
 tableAt r (P.Atoms owed) t l = t
 tableAt r (P.Bonds owed) t l = t
 tableAt r P.Properties t l = enteredBy t (J.propertyOf (r .counts .atoms) (seenOf (r .counts .atoms) t) l)

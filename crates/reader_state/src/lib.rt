@@ -14,7 +14,6 @@ use line_counts_bonds::BondRead;
 use line_counts_bonds::Counts;
 use line_counts_bonds::CountsRead;
 use line_counts_bonds::LIMIT;
-use line_property::LISTED;
 use line_property::PropertyRead;
 use line_text::HeaderJudged;
 use line_text::ItemRead;
@@ -22,6 +21,7 @@ use line_text::ValueRead;
 use reader_places::Finish;
 use reader_places::LineJudged;
 use reader_places::Place;
+use rules::LISTED;
 
 pub struct Reader {
     // An SDfile, or else a molfile.
@@ -172,7 +172,7 @@ fn at_counts(reader: Reader, line: &[u8], listed: &mut [u32; LISTED]) -> Step
 {
     match line_counts_bonds::counts_line(line, LIMIT) {
         CountsRead::Is(counts) => {
-            *listed = [0u32; LISTED];
+            line_property::empty(counts.atoms, listed);
             Step::Next(counted(reader, counts))
         }
         CountsRead::Bad { no, column } => Step::Refused { no, column },

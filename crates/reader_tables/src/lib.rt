@@ -17,10 +17,8 @@ use line_atom::Atom;
 use line_atom::AtomCodes;
 use line_atom::AtomPlace;
 use line_counts_bonds::Bond;
-use line_property::LISTED;
-
-// Places of one kind in the table of listed numbers.
-const PLACES: usize = LISTED / 3;
+use rules::LISTED;
+use rules::PLACES;
 
 // What a record's property lines supersede: a line of charges or of radicals every code, a line of isotopes every mass difference.
 struct Superseded {

@@ -5,7 +5,7 @@ use mathlib.Core.Path.{_≡_, refl, sym, ap, ap₂, _∙_, subst}
 use mathlib.Core.List.{List, [], _∷_, _++_}
 use mathlib.Core.Bool.{Bool, true, false, not}
 use lib.Dec.{leb}
-use lib.ListN.{length, take, set, replicate, length-append}
+use lib.ListN.{length, take, set, length-append}
 use lib.Seq.{sets, take-suc-set}
 use lib.IntN.{ℤ}
 use borrow.Author.Tests.{ne-eqb}
@@ -13,8 +13,9 @@ use Rattle.text.specs.Text.{Bytes, Line}
 use Rattle.text.specs.Columns.{Within}
 use Rattle.text.specs.Find.{badColumn}
 use Rattle.text.specs.declared.Found.{Found}
+use Rattle.rules.specs.Forms as R
 use Rattle.rules.specs.Forms.{Atom, Bond, Property}
-use Rattle.rules.specs.Record.{Headers, Molecule, Item, Raw, listed, limit}
+use Rattle.rules.specs.Record.{Headers, Molecule, Item, Raw, listed, limit, atomPlaces, bondPlaces}
 use Rattle.rules.specs.Meaning.{bondNumbers}
 use Rattle.judge_pairs.specs.Taken.{pairTaken}
 use Rattle.judge_line.specs.Got.{Got, got, bad, then, need}
@@ -25,7 +26,7 @@ use Rattle.judge_line.specs.Judge.{firstHeaderOf, countsOf, atomOf, bondOf, pro
 use Rattle.judge_line.specs.Judge as L
 use Rattle.line_counts_bonds.specs.Answer.{countsIs}
 use Rattle.line_counts_bonds.specs.declared.Counts.{Counts}
-use Rattle.line_property.specs.Listed.{enter, seenOf}
+use Rattle.line_property.specs.Listed.{places, enter, emptied, seenOf}
 use Rattle.line_property.specs.Proper.{Proper}
 use Rattle.line_property.specs.Shown.{shows-none, shows-line, proper-line, seen-same}
 use Rattle.reader_tables.specs.Row.{rawRow, rawRows, bondRows, Holds, SmallAtom, SmallBond}
@@ -39,7 +40,7 @@ use Rattle.reader_places.specs.declared.Place.{Place}
 use Rattle.reader_places.specs.declared.Place.the-variants as P
 use Rattle.reader_state.specs.declared.Reader.{Reader}
 use Rattle.reader_state.specs.Went as W
-use Rattle.reader_state.specs.Went.{Went, moved, counted, headerIn, lineIn, wentOf, tableAt, enteredBy}
+use Rattle.reader_state.specs.Went.{Went, moved, counted, headerIn, lineIn, wentOf, tableAt, emptiedBy, enteredBy}
 use Rattle.reader_places.specs.Places.{bondsOwed, atomsOwed, afterEnd}
 use Rattle.reader_line.specs.declared.Notes.{Notes}
 use Rattle.reader_pairs.specs.Keys.{keyOf, keysOf, SmallEnds, AllSmall, small-more}
@@ -170,9 +171,9 @@ module _ (kind : FileKind) (s : Bytes) (hs : Headers) (d : Counts) (m : Notes) (
 
 -- ---- The table of listed numbers
 
-none-listed : (n : ℕ) → Listing n (replicate 768 0) []
+none-listed : (n : ℕ) (t : List ℕ) → length t ≡ 3 * places → Listing n (emptied (n + 1) t) []
 unfolding Proper
-none-listed n = record { shows = shows-none n; proper = tt }
+none-listed n t h = record { shows = shows-none n t h; proper = tt }
 
 line-listed : (n : ℕ) (t : List ℕ) (ps : List Property) (l : Line) (p : Property) → n ≤ limit → Within 80 l → Listing n t ps →
     propertyOf n (seenOf n t) l ≡ got (L.property p) → Listing n (enter (p .kind) t (p .entries)) (ps ++ (p ∷ []))
@@ -196,25 +197,25 @@ module _ (kind : FileKind) (s : Bytes) (m : Notes) (t keys : List ℕ) (ta tb : 
 
   abbrev Statement : J.Place → Counts → Type 0
   Statement p d =
-      4080 ≤ length ta → 1530 ≤ length tb → length keys ≡ 256 → n ≡ afterLines s 0 i →
+      atomPlaces ≤ length ta → bondPlaces ≤ length tb → length keys ≡ limit → length t ≡ 3 * places → n ≡ afterLines s 0 i →
       d .atoms ≤ limit → d .bonds ≤ limit → Counted d t p → Rows m keys ta tb (atomsIn p) (bondsIn p) → Marks s m i p →
       G p d (wentOf (readerAt p d) t l) (turnOf kind limit p l)
 
   follow-first : (d : Counts) → Statement first d
   unfolding wentOf lineIn headerIn turnOf lineOf
-  follow-first d ra rb rk after na nb c rows line =
+  follow-first d ra rb rk rt after na nb c rows line =
       both-then 80 l (G first d) (λ e c. refl) (firstHeaderOf l) (λ h. got (W.on (moved (readerAt first d) (P.Header 2)))) (λ h. got (next (second h)))
       (λ w h e. (second h, refl, record { sd = refl; place = refl; few-atoms = na; few-bonds = nb; counted = tt; rows = rows; marks = omega arith }))
 
   follow-second : (h₁ : Line) (d : Counts) → Statement (second h₁) d
   unfolding wentOf lineIn headerIn turnOf lineOf
-  follow-second h₁ d ra rb rk after na nb c rows line =
+  follow-second h₁ d ra rb rk rt after na nb c rows line =
       both-within 80 l (G (second h₁) d) (λ e c. refl) (got (W.on (moved (readerAt (second h₁) d) (P.Header 1)))) (got (next (third h₁ l)))
       (λ w. (third h₁ l, refl, record { sd = refl; place = refl; few-atoms = na; few-bonds = nb; counted = tt; rows = rows; marks = omega arith }))
 
   follow-third : (h₁ h₂ : Line) (d : Counts) → Statement (third h₁ h₂) d
   unfolding wentOf lineIn headerIn turnOf lineOf
-  follow-third h₁ h₂ d ra rb rk after na nb c rows line =
+  follow-third h₁ h₂ d ra rb rk rt after na nb c rows line =
       let hs : Headers = record { first = h₁; second = h₂; third = l } in
       let three : i ≡ 3 = line in
       both-within 80 l (G (third h₁ h₂) d) (λ e c. refl) (got (W.headed (moved (readerAt (third h₁ h₂) d) P.Counts))) (got (next (counts hs)))
@@ -234,20 +235,21 @@ module _ (kind : FileKind) (s : Bytes) (m : Notes) (t keys : List ℕ) (ta tb : 
 
   follow-counts : (hs : Headers) (d : Counts) → Statement (counts hs) d
   unfolding wentOf lineIn turnOf lineOf
-  follow-counts hs d ra rb rk after na nb counted rows line =
+  follow-counts hs d ra rb rk rt after na nb counted rows line =
       both-then 80 l (G (counts hs) d) (λ e c. refl) (countsOf limit l) (λ c. got (W.on (W.counted (readerAt (counts hs) d) c))) (λ c. got (next (toAtoms hs c (c .atoms) [])))
       (λ w c e.
       let good = counts-got limit l c w e in
       let d′ : Counts = record { atoms = c .atoms; bonds = c .bonds; chiral = c .chiral } in (
         toAtoms hs c (c .atoms) [],
         refl,
-        to-atoms kind s hs d′ m (replicate 768 0) keys ta tb (suc i) (c .atoms) [] (good .atoms .high) (good .bonds .high) (none-listed (c .atoms)) (omega arith) rows
-            (omega (arith, line .0)) (line .1),
+        subst (λ (g : Got R.Counts). Stands kind s (W.counted (readerAt (counts hs) d) c) m (emptiedBy t g) keys ta tb (suc i) (toAtoms hs c (c .atoms) [])) (sym e)
+            (to-atoms kind s hs d′ m (emptied (c .atoms + 1) t) keys ta tb (suc i) (c .atoms) [] (good .atoms .high) (good .bonds .high) (none-listed (c .atoms) t rt) (omega arith) rows
+            (omega (arith, line .0)) (line .1)),
       ))
 
   follow-atoms : (hs : Headers) (d : Counts) (k : ℕ) (xs : List Atom) → Statement (atoms hs (countsIs d) k xs) d
   unfolding wentOf lineIn turnOf lineOf
-  follow-atoms hs d k xs ra rb rk after na nb counted rows line =
+  follow-atoms hs d k xs ra rb rk rt after na nb counted rows line =
       let p = atoms hs (countsIs d) k xs in
       both-then 80 l (G p d) (λ e c. refl) (atomOf (d .atoms) l) (λ a. got (W.atom (moved (readerAt p d) (atomsOwed (suc k - 1) (d .bonds))) a))
       (λ a. got (next (toAtoms hs (countsIs d) k (xs ++ (a ∷ [])))))
@@ -293,7 +295,7 @@ module _ (kind : FileKind) (s : Bytes) (m : Notes) (t keys : List ℕ) (ta tb : 
 
   follow-bonds : (hs : Headers) (d : Counts) (xs : List Atom) (k : ℕ) (bs : List Bond) → Statement (bonds hs (countsIs d) xs k bs) d
   unfolding wentOf lineIn turnOf lineOf need
-  follow-bonds hs d xs k bs ra rb rk after na nb counted rows line =
+  follow-bonds hs d xs k bs ra rb rk rt after na nb counted rows line =
       let p = bonds hs (countsIs d) xs k bs in
       both-then 80 l (G p d) (λ e c. refl) (bondOf (d .atoms) l) (λ b. got (W.bond (moved (readerAt p d) (bondsOwed (suc k - 1))) b))
       (λ b. need (not (pairTaken b bs)) 11 1 (got (next (toBonds hs (countsIs d) xs k (bs ++ (b ∷ []))))))
@@ -363,7 +365,7 @@ module _ (kind : FileKind) (s : Bytes) (m : Notes) (t keys : List ℕ) (ta tb : 
 
   follow-properties : (hs : Headers) (d : Counts) (xs : List Atom) (bs : List Bond) (ps : List Property) → Statement (properties hs (countsIs d) xs bs ps) d
   unfolding wentOf lineIn turnOf lineOf
-  follow-properties hs d xs bs ps ra rb rk after na nb counted rows line =
+  follow-properties hs d xs bs ps ra rb rk rt after na nb counted rows line =
       let p = properties hs (countsIs d) xs bs ps in
       subst
       (λ (g : Got L.PropertyOrEnd).
@@ -405,11 +407,11 @@ module _ (kind : FileKind) (s : Bytes) (m : Notes) (t keys : List ℕ) (ta tb : 
 
   follow-over : (mol : Molecule) (d : Counts) → Statement (over mol) d
   unfolding wentOf lineIn turnOf lineOf
-  follow-over mol d ra rb rk after na nb counted rows line = both-within 80 l (G (over mol) d) (λ e c. refl) (bad 18 1) (bad 18 1) (λ w. refl)
+  follow-over mol d ra rb rk rt after na nb counted rows line = both-within 80 l (G (over mol) d) (λ e c. refl) (bad 18 1) (bad 18 1) (λ w. refl)
 
   follow-items : (mol : Molecule) (is : List Item) (d : Counts) → Statement (items mol is) d
   unfolding wentOf lineIn turnOf lineOf
-  follow-items mol is d ra rb rk after na nb counted rows line =
+  follow-items mol is d ra rb rk rt after na nb counted rows line =
       both-then 80 l (G p d) (λ e c. refl) (itemOf l) (λ v. got (W.afterItem (readerAt p d) v)) (λ v. got (J.afterItem mol is v)) (λ w v e. go v)
     where
       p : J.Place
@@ -436,7 +438,7 @@ module _ (kind : FileKind) (s : Bytes) (m : Notes) (t keys : List ℕ) (ta tb : 
 
   follow-values : (mol : Molecule) (is : List Item) (name : Bytes) (vs : List Line) (d : Counts) → Statement (values mol is name vs) d
   unfolding wentOf lineIn turnOf lineOf
-  follow-values mol is name vs d ra rb rk after na nb counted rows line =
+  follow-values mol is name vs d ra rb rk rt after na nb counted rows line =
       both-then 200 l (G p d) (λ e c. refl) (valueOf l) (λ v. got (W.afterValue (readerAt p d) v)) (λ v. got (J.afterValue mol is name vs l v)) (λ w v e. go v)
     where
       p : J.Place
@@ -459,20 +461,20 @@ module _ (kind : FileKind) (s : Bytes) (m : Notes) (t keys : List ℕ) (ta tb : 
   follow-at (second h₁) d = follow-second h₁ d
   follow-at (third h₁ h₂) d = follow-third h₁ h₂ d
   follow-at (counts hs) d = follow-counts hs d
-  follow-at (atoms hs c k xs) d = λ ra rb rk after na nb counted.
-      subst (λ c. Statement (atoms hs c k xs) d) (counted .0) (follow-atoms hs d k xs) ra rb rk after na nb counted
-  follow-at (bonds hs c xs k bs) d = λ ra rb rk after na nb counted.
-      subst (λ c. Statement (bonds hs c xs k bs) d) (counted .0) (follow-bonds hs d xs k bs) ra rb rk after na nb counted
-  follow-at (properties hs c xs bs ps) d = λ ra rb rk after na nb counted.
-      subst (λ c. Statement (properties hs c xs bs ps) d) (counted .0) (follow-properties hs d xs bs ps) ra rb rk after na nb counted
+  follow-at (atoms hs c k xs) d = λ ra rb rk rt after na nb counted.
+      subst (λ c. Statement (atoms hs c k xs) d) (counted .0) (follow-atoms hs d k xs) ra rb rk rt after na nb counted
+  follow-at (bonds hs c xs k bs) d = λ ra rb rk rt after na nb counted.
+      subst (λ c. Statement (bonds hs c xs k bs) d) (counted .0) (follow-bonds hs d xs k bs) ra rb rk rt after na nb counted
+  follow-at (properties hs c xs bs ps) d = λ ra rb rk rt after na nb counted.
+      subst (λ c. Statement (properties hs c xs bs ps) d) (counted .0) (follow-properties hs d xs bs ps) ra rb rk rt after na nb counted
   follow-at (over mol) d = follow-over mol d
   follow-at (items mol is) d = follow-items mol is d
   follow-at (values mol is name vs) d = follow-values mol is name vs d
 
   -- from where a state stands for a place
-  pub follow : (r : Reader) (p : J.Place) → Stands kind s r m t keys ta tb i p → 4080 ≤ length ta → 1530 ≤ length tb → length keys ≡ 256 → n ≡ afterLines s 0 i →
+  pub follow : (r : Reader) (p : J.Place) → Stands kind s r m t keys ta tb i p → atomPlaces ≤ length ta → bondPlaces ≤ length tb → length keys ≡ limit → length t ≡ 3 * places → n ≡ afterLines s 0 i →
       Goes kind s i n r m (tableAt r (r .place) t l) keys ta tb (wentOf r t l) (turnOf kind limit p l)
-  follow r p st ra rb rk after =
+  follow r p st ra rb rk rt after =
       let e : readerAt p (r .counts) ≡ r = ap₂ (made (r .counts)) (sym (st .sd)) (sym (st .place)) in
       subst (λ (x : Reader). Goes kind s i n x m (tableAt x (x .place) t l) keys ta tb (wentOf x t l) (turnOf kind limit p l)) e
-      (follow-at p (r .counts) ra rb rk after (st .few-atoms) (st .few-bonds) (st .counted) (st .rows) (st .marks))
+      (follow-at p (r .counts) ra rb rk rt after (st .few-atoms) (st .few-bonds) (st .counted) (st .rows) (st .marks))

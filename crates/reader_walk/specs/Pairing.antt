@@ -11,6 +11,7 @@ use Rattle.text.specs.Text.{Bytes}
 use Rattle.text.specs.Find.{lineAt}
 use Rattle.text.specs.declared.LineAt.{LineAt}
 use Rattle.rules.specs.Meaning.{bondNumbers}
+use Rattle.rules.specs.Record.{limit, atomPlaces, bondPlaces}
 use Rattle.judge_line.specs.Field.{elem}
 use Rattle.line_counts_bonds.specs.Answer.{bondIs}
 use Rattle.line_counts_bonds.specs.declared.Bond.{Bond}
@@ -54,7 +55,7 @@ module _ (sd : Bool) (s : Bytes) (ta₀ tb₀ : List ℤ) (r : Reader) (m : Note
   pub second-small : b .second ≤ 999
   second-small = bonding sd s ta₀ tb₀ r m at i t keys ta tb g e n o found is x r′ b t′ ta′ k q .fits .second
 
-  pub few-before : m .bonds ≤ 255
+  pub few-before : m .bonds ≤ limit
   few-before = let f = bonding sd s ta₀ tb₀ r m at i t keys ta tb g e n o found is x r′ b t′ ta′ k q .few in omega arith
 
 module _ (sd : Bool) (s : Bytes) (r : Reader) (m : Notes) (n i : ℕ) (t keys : List ℕ) (ta tb : List ℤ) (b : Bond) (key count j : ℕ)
@@ -62,7 +63,7 @@ module _ (sd : Bool) (s : Bytes) (r : Reader) (m : Notes) (n i : ℕ) (t keys : 
   pub pairing-next : j < count → (getD keys j 0 ≡ key → ⊥) → Pairing sd s r m n i t keys ta tb b key count (j + 1)
   pairing-next h ne = record { bond = g .bond; key-of = g .key-of; before = g .before; searching = searching-next keys key count j (g .searching) h ne }
 
-  pub pairing-within : j < count → j < 256
+  pub pairing-within : j < count → j < limit
   pairing-within h = omega (arith, g .before, g .bond .few)
 
   -- ---- The pair is found
@@ -81,12 +82,12 @@ module _ (sd : Bool) (s : Bytes) (r : Reader) (m : Notes) (n i : ℕ) (t keys : 
     unfolding walkOf
     pairing-found y e = e ∙ sym (ap (walkedBy (kindOf sd) s) twice)
 
-    pub found-left : (ta₀ tb₀ : List ℤ) → Beside 4080 ta₀ ta → Beside 1530 tb₀ tb → Left ta₀ ta tb₀ tb t (outcomeOf (kindOf sd) s)
+    pub found-left : (ta₀ tb₀ : List ℤ) → Beside atomPlaces ta₀ ta → Beside bondPlaces tb₀ tb → Left ta₀ ta tb₀ tb t (outcomeOf (kindOf sd) s)
     found-left ta₀ tb₀ ba bb = record { atoms = ba; bonds = bb; size = g .bond .listed-size; held = subst (HeldBy ta tb t) (sym twice) tt }
 
   -- ---- It is not among those before
 
-  pub pairing-end : count ≤ j → (ta₀ tb₀ : List ℤ) → Beside 4080 ta₀ ta → Beside 1530 tb₀ tb → (m′ : Notes) (keys′ : List ℕ) (tb′ : List ℤ) →
+  pub pairing-end : count ≤ j → (ta₀ tb₀ : List ℤ) → Beside atomPlaces ta₀ ta → Beside bondPlaces tb₀ tb → (m′ : Notes) (keys′ : List ℕ) (tb′ : List ℤ) →
       m′ ≡ bondMore m → keys′ ≡ set keys (m .bonds) key → tb′ ≡ sets tb (6 * (m .bonds)) (bondNumbers (bondIs b)) →
       Walking sd s ta₀ tb₀ r m′ n (i + 1) t keys′ ta tb′
   pairing-end h ta₀ tb₀ ba bb m′ keys′ tb′ em ek et =
@@ -101,10 +102,10 @@ module _ (sd : Bool) (s : Bytes) (r : Reader) (m : Notes) (n i : ℕ) (t keys : 
       (record {
         room = bb .room;
         size = length-sets tb (6 * (m .bonds)) (bondNumbers (bondIs b)) ∙ bb .size;
-        past = drop-sets (bondNumbers (bondIs b)) tb (6 * (m .bonds)) 1530 (omega (arith, a .few)) ∙ bb .past;
+        past = drop-sets (bondNumbers (bondIs b)) tb (6 * (m .bonds)) bondPlaces (omega (arith, a .few)) ∙ bb .past;
       }))
 
-  pub pairing-keeps : 1530 ≤ length tb → Keeping m b tb keys
+  pub pairing-keeps : bondPlaces ≤ length tb → Keeping m b tb keys
   pairing-keeps h = record { few = g .bond .few; fits = g .bond .fits; room = h; key-room = g .bond .key-room }
 
 pub ruleset pair-laws = (pairing-start, first-small, second-small, few-before, pairing-next, pairing-within, pairing-found, found-left, pairing-end, pairing-keeps)

@@ -5,7 +5,7 @@ use mathlib.Core.List.{List}
 use lib.ListN.{length, drop}
 use lib.IntN.{ℤ}
 use Rattle.text.specs.Text.{Bytes}
-use Rattle.rules.specs.Record.{Molecule}
+use Rattle.rules.specs.Record.{Molecule, atomPlaces, bondPlaces}
 use Rattle.line_property.specs.Listed.{places}
 use Rattle.reader_tables.specs.Row.{rawRows, bondRows, Holds}
 use Rattle.judge_file.specs.Place.{FileKind, molfile, sdfile}
@@ -48,9 +48,9 @@ abbrev pub HeldBy : List ℤ → List ℤ → List ℕ → Outcome → Type 0
 HeldBy ta tb t (whole x k) = Held ta tb t (x .molecule)
 HeldBy ta tb t (refused e i column) = Unit {0}
 
--- room for 255 atoms of 16 numbers, and for 255 bonds of 6
+-- room for as many atoms and bonds as a record may have
 pub record Left (ta₀ ta tb₀ tb : List ℤ) (t : List ℕ) (o : Outcome) : Type 0 where
-  pub atoms : Beside 4080 ta₀ ta
-  pub bonds : Beside 1530 tb₀ tb
+  pub atoms : Beside atomPlaces ta₀ ta
+  pub bonds : Beside bondPlaces tb₀ tb
   pub size : length t ≡ 3 * places
   pub held : HeldBy ta tb t o

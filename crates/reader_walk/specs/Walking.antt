@@ -14,7 +14,7 @@ use Rattle.text.specs.Find.{lineAt}
 use Rattle.text.specs.Cut.{Cut, cut, line-within, line-cut}
 use Rattle.text.specs.declared.LineAt.{LineAt}
 use Rattle.rules.specs.Forms as R
-use Rattle.rules.specs.Record.{Raw, limit}
+use Rattle.rules.specs.Record.{Raw, limit, atomPlaces, bondPlaces}
 use Rattle.rules.specs.Meaning.{bondNumbers}
 use Rattle.judge_pairs.specs.Taken.{pairTaken}
 use Rattle.judge_line.specs.Got.{Got, got, bad}
@@ -73,17 +73,17 @@ pub record Walking (sd : Bool) (s : Bytes) (ta₀ tb₀ : List ℤ) (r : Reader)
   pub inside : at ≤ length s
   pub bytes : length s * 1 < 2 ^ 63
   pub lines : i ≤ at + 1
-  pub key-room : length keys ≡ 256
+  pub key-room : length keys ≡ limit
   pub listed-size : length t ≡ 3 * places
-  pub atoms-beside : Beside 4080 ta₀ ta
-  pub bonds-beside : Beside 1530 tb₀ tb
+  pub atoms-beside : Beside atomPlaces ta₀ ta
+  pub bonds-beside : Beside bondPlaces tb₀ tb
   pub same : outcomeOf (kindOf sd) s ≡ recordFrom (kindOf sd) p i (cut (drop at s) .lines) (cut (drop at s) .rest)
 
 sd-kind : (sd : Bool) → sd ≡ isSd (kindOf sd)
 sd-kind true = refl
 sd-kind false = refl
 
-pub walking-start : (sd : Bool) (s : Bytes) (r : Reader) (m : Notes) (t keys : List ℕ) (ta tb : List ℤ) → r ≡ begun sd → m ≡ noNotes → 4080 ≤ length ta → 1530 ≤ length tb → length keys ≡ 256 →
+pub walking-start : (sd : Bool) (s : Bytes) (r : Reader) (m : Notes) (t keys : List ℕ) (ta tb : List ℤ) → r ≡ begun sd → m ≡ noNotes → atomPlaces ≤ length ta → bondPlaces ≤ length tb → length keys ≡ limit →
     length t ≡ 3 * places → length s * 1 < 2 ^ 63 → Walking sd s ta tb r m 0 1 t keys ta tb
 unfolding rawRows bondRows AllSmall
 walking-start sd s r m t keys ta tb e em ra rb rk rt few =
@@ -143,13 +143,13 @@ pub record Bonding (sd : Bool) (s : Bytes) (r : Reader) (m : Notes) (n i : ℕ) 
   pub bs : List R.Bond
   pub few : m .bonds < limit
   pub fits : SmallBond (bondIs b)
-  pub key-room : length keys ≡ 256
+  pub key-room : length keys ≡ limit
   pub listed-size : length t ≡ 3 * places
   pub key-is : elem (keyOf (bondIs b)) (take (m .bonds) keys) ≡ pairTaken (bondIs b) bs
   pub lines : i + 1 ≤ n + 1
   pub inside : n ≤ length s
   pub taken : pairTaken (bondIs b) bs ≡ true → outcomeOf (kindOf sd) s ≡ refused 11 i 1
-  pub free : pairTaken (bondIs b) bs ≡ false → (ta₀ tb₀ : List ℤ) → Beside 4080 ta₀ ta → Beside 1530 tb₀ (sets tb (6 * (m .bonds)) (bondNumbers (bondIs b))) →
+  pub free : pairTaken (bondIs b) bs ≡ false → (ta₀ tb₀ : List ℤ) → Beside atomPlaces ta₀ ta → Beside bondPlaces tb₀ (sets tb (6 * (m .bonds)) (bondNumbers (bondIs b))) →
       Walking sd s ta₀ tb₀ r (bondMore m) n (i + 1) t (set keys (m .bonds) (keyOf (bondIs b))) ta (sets tb (6 * (m .bonds)) (bondNumbers (bondIs b)))
 
 -- ---- A line
@@ -172,12 +172,12 @@ module _ (sd : Bool) (s : Bytes) (ta₀ tb₀ : List ℤ) (r : Reader) (m : Note
       (wentOf r t (part s at e)) (turnOf (kindOf sd) limit (g .p) (part s at e))
   goes =
       follow (kindOf sd) s m t keys ta tb i n (part s at e) r (g .p) (g .stands)
-      (omega (arith, g .atoms-beside .room, g .atoms-beside .size)) (omega (arith, g .bonds-beside .room, g .bonds-beside .size)) (g .key-room) after
+      (omega (arith, g .atoms-beside .room, g .atoms-beside .size)) (omega (arith, g .bonds-beside .room, g .bonds-beside .size)) (g .key-room) (g .listed-size) after
 
   -- the line is taken, and another follows
   onto : (ta₁ tb₁ : List ℤ) (r′ : Reader) (m′ : Notes) (t′ keys′ : List ℕ) (ta′ tb′ : List ℤ) (q : J.Place) →
-      turnOf (kindOf sd) limit (g .p) (part s at e) ≡ got (next q) → Stands (kindOf sd) s r′ m′ t′ keys′ ta′ tb′ (suc i) q → length keys′ ≡ 256 → length t′ ≡ 3 * places →
-      Beside 4080 ta₁ ta′ → Beside 1530 tb₁ tb′ → Walking sd s ta₁ tb₁ r′ m′ n (i + 1) t′ keys′ ta′ tb′
+      turnOf (kindOf sd) limit (g .p) (part s at e) ≡ got (next q) → Stands (kindOf sd) s r′ m′ t′ keys′ ta′ tb′ (suc i) q → length keys′ ≡ limit → length t′ ≡ 3 * places →
+      Beside atomPlaces ta₁ ta′ → Beside bondPlaces tb₁ tb′ → Walking sd s ta₁ tb₁ r′ m′ n (i + 1) t′ keys′ ta′ tb′
   onto ta₁ tb₁ r′ m′ t′ keys′ ta′ tb′ q turn st rk rt ba bb =
       let w = line-within s at e n l in
       let one : suc i ≡ i + 1 = omega arith in
@@ -202,18 +202,18 @@ module _ (sd : Bool) (s : Bytes) (ta₀ tb₀ : List ℤ) (r : Reader) (m : Note
       }
 
   -- the state and the tables after a line that is not a bond's
-  moved : (r′ r₂ : Reader) (m′ m₂ : Notes) (t′ : List ℕ) (ta′ ta₂ : List ℤ) → r′ ≡ r₂ → m′ ≡ m₂ → length t′ ≡ 3 * places → t′ ≡ tableAt r (r .place) t (part s at e) → ta′ ≡ ta₂ → Beside 4080 ta₀ ta₂ →
+  moved : (r′ r₂ : Reader) (m′ m₂ : Notes) (t′ : List ℕ) (ta′ ta₂ : List ℤ) → r′ ≡ r₂ → m′ ≡ m₂ → length t′ ≡ 3 * places → t′ ≡ tableAt r (r .place) t (part s at e) → ta′ ≡ ta₂ → Beside atomPlaces ta₀ ta₂ →
       Onto (kindOf sd) s i keys tb r₂ m₂ (tableAt r (r .place) t (part s at e)) ta₂ (turnOf (kindOf sd) limit (g .p) (part s at e)) →
       Walking sd s ta₀ tb₀ r′ m′ n (i + 1) t′ keys ta′ tb
   moved r′ r₂ m′ m₂ t′ ta′ ta₂ er em rt et ea ba o =
       rw (er, em, et, ea) (onto ta₀ tb₀ r₂ m₂ (tableAt r (r .place) t (part s at e)) keys ta₂ tb (o .0) (o .1) (o .2) (g .key-room) (subst (λ (u : List ℕ). length u ≡ 3 * places) et rt) ba (g .bonds-beside))
 
-  row-beside : (a : R.Atom) → m .atoms < limit → Beside 4080 ta₀ (sets ta (16 * (m .atoms)) (rawRow a))
+  row-beside : (a : R.Atom) → m .atoms < limit → Beside atomPlaces ta₀ (sets ta (16 * (m .atoms)) (rawRow a))
   row-beside a few =
       record {
         room = g .atoms-beside .room;
         size = length-sets ta (16 * (m .atoms)) (rawRow a) ∙ g .atoms-beside .size;
-        past = drop-sets (rawRow a) ta (16 * (m .atoms)) 4080 (omega arith) ∙ g .atoms-beside .past;
+        past = drop-sets (rawRow a) ta (16 * (m .atoms)) atomPlaces (omega arith) ∙ g .atoms-beside .past;
       }
 
   pub walking-next : (x : Taken) (r′ : Reader) (m′ : Notes) (t′ : List ℕ) (ta′ : List ℤ) → Took r m n t ta (part s at e) x t′ ta′ → x ≡ Taken.Next r′ m′ → Walking sd s ta₀ tb₀ r′ m′ n (i + 1) t′ keys ta′ tb
@@ -276,7 +276,7 @@ module _ (sd : Bool) (s : Bytes) (ta₀ tb₀ : List ℤ) (r : Reader) (m : Note
     pub refused-left : Left ta₀ ta′ tb₀ tb t′ (outcomeOf (kindOf sd) s)
     refused-left =
         record {
-          atoms = subst (Beside 4080 ta₀) (sym (k .rows ∙ same-atoms (wentOf r t (part s at e)) (sym q ∙ k .answer))) (g .atoms-beside);
+          atoms = subst (Beside atomPlaces ta₀) (sym (k .rows ∙ same-atoms (wentOf r t (part s at e)) (sym q ∙ k .answer))) (g .atoms-beside);
           bonds = g .bonds-beside;
           size = k .size;
           held = subst (HeldBy ta′ tb t′) (sym stopped) tt;
@@ -406,8 +406,8 @@ module _ (sd : Bool) (s : Bytes) (ta₀ tb₀ : List ℤ) (r : Reader) (m : Note
               (length-set keys (m .bonds) (keyOf (bondIs b)) ∙ g .key-room) (k .size) ba bb;
         })
 
-    pub bond-beside : Beside 4080 ta₀ ta′
-    bond-beside = subst (Beside 4080 ta₀) (sym (pended .same)) (g .atoms-beside)
+    pub bond-beside : Beside atomPlaces ta₀ ta′
+    bond-beside = subst (Beside atomPlaces ta₀) (sym (pended .same)) (g .atoms-beside)
 
 -- ---- The facts as the code has them
 
@@ -440,11 +440,14 @@ module _ (sd : Bool) (s : Bytes) (ta₀ tb₀ : List ℤ) (r : Reader) (m : Note
   pub atoms-size : length ta ≡ length ta₀
   atoms-size = g .atoms-beside .size
 
-  pub bonds-room : 1530 ≤ length tb
+  pub bonds-room : bondPlaces ≤ length tb
   bonds-room = omega (arith, g .bonds-beside .room, g .bonds-beside .size)
 
   pub bonds-size : length tb ≡ length tb₀
   bonds-size = g .bonds-beside .size
+
+  pub keys-size : length keys ≡ limit
+  keys-size = g .key-room
 
   pub took-size : (n : ℕ) (l : Line) (x : Taken) (t′ : List ℕ) (ta′ : List ℤ) → Took r m n t ta l x t′ ta′ → length ta′ ≡ length ta₀
   took-size n l x t′ ta′ k = ap length (k .rows) ∙ atoms-length m (wentOf r t l) ta ∙ g .atoms-beside .size
@@ -468,6 +471,7 @@ pub ruleset line-laws = (
   atoms-size,
   bonds-room,
   bonds-size,
+  keys-size,
   took-size,
   fits-next,
 )

@@ -2,6 +2,7 @@
 ghost use mathlib.Core.Path.{_≡_};
 ghost use Prim.Native.Nat.{_*_, _≤_};
 ghost use lib.ListN.{length};
+ghost use Rattle.rules.specs.Record.{limit, atomPlaces, bondPlaces};
 ghost use Rattle.line_property.specs.Listed.{places};
 ghost use Rattle.reader_state.specs.Parts.{finished};
 ghost use Rattle.reader_walk.specs.Outcome.{outcomeOf};
@@ -9,12 +10,12 @@ ghost use Rattle.reader_walk.specs.Stands.{kindOf};
 ghost use Rattle.reader_walk.specs.Walked.{walkOf, Left};
 ghost use Rattle.reader_walk.specs.AtEnd.{lastOf, endWalked};
 use line_counts_bonds::Counts;
-use line_property::LISTED;
 use reader_line::Notes;
 use reader_line::Taken;
 use reader_pairs::KEYS;
 use reader_places::Finish;
 use reader_state::Reader;
+use rules::LISTED;
 use text::LineAt;
 
 // A bond that joins the same pair as an earlier one, and the line it stands in. Bonds count from 1.
@@ -94,8 +95,8 @@ fn end_walk(left: usize, reader: Reader, notes: Notes, at: usize, line: usize) -
     }
 }
 
-// The lines of one record. The walk over them is left by its label where a bond joins a pair that an earlier bond joins.
-fn walk_lines(
+// The lines of one record, with lent room for the keys of pairs. The walk over them is left by its label where a bond joins a pair that an earlier bond joins.
+pub fn walk_lines(
     sd: bool,
     s: &[u8],
     atoms: &mut [i32],
@@ -103,9 +104,10 @@ fn walk_lines(
     listed: &mut [u32; LISTED],
     keys: &mut [u32; KEYS],
 ) -> Walked
-    requires { ⌜ (4080 ≤ length (now atoms)) × (1530 ≤ length (now bonds)) × (length (now listed) ≡ 3 * places) × (length (now keys) ≡ 256) ⌝ }
+    requires { ⌜ (atomPlaces ≤ length (now atoms)) × (bondPlaces ≤ length (now bonds)) × (length (now listed) ≡ 3 * places) × (length (now keys) ≡ limit) ⌝ }
     ensures { λ r. ⌜ r ≡ walkOf (kindOf sd) (now (s .entry)) ⌝ }
     ensures { λ r. ⌜ Left (now (atoms .entry)) (now (atoms .exit)) (now (bonds .entry)) (now (bonds .exit)) (now (listed .exit)) (outcomeOf (kindOf sd) (now (s .entry))) ⌝ }
+    ensures { λ r. ⌜ length (now (keys .exit)) ≡ limit ⌝ }
 {
     let mut reader = Reader::new(sd);
     let mut notes = Notes::new();
@@ -164,7 +166,7 @@ pub fn walk_record(
     bonds: &mut [i32],
     listed: &mut [u32; LISTED],
 ) -> Walked
-    requires { ⌜ (4080 ≤ length (now atoms)) × (1530 ≤ length (now bonds)) × (length (now listed) ≡ 3 * places) ⌝ }
+    requires { ⌜ (atomPlaces ≤ length (now atoms)) × (bondPlaces ≤ length (now bonds)) × (length (now listed) ≡ 3 * places) ⌝ }
     ensures { λ r. ⌜ r ≡ walkOf (kindOf sd) (now (s .entry)) ⌝ }
     ensures { λ r. ⌜ Left (now (atoms .entry)) (now (atoms .exit)) (now (bonds .entry)) (now (bonds .exit)) (now (listed .exit)) (outcomeOf (kindOf sd) (now (s .entry))) ⌝ }
 {

@@ -4,7 +4,7 @@ use mathlib.Core.Path.{_≡_, refl, sym, ap, _∙_}
 use mathlib.Core.List.{List, [], _∷_, map}
 use lib.ListN.{length}
 use Rattle.text.specs.Text.{Bytes}
-use Rattle.rules.specs.Record.{Raw, GoodSDfile}
+use Rattle.rules.specs.Record.{Raw, GoodSDfile, atomPlaces, bondPlaces}
 use Rattle.rules.specs.Meaning.{Reading, meaning}
 use Rattle.judge_file.specs.Place.{sdfile}
 use Rattle.reader_walk.specs.Promise.{accepted}
@@ -30,7 +30,7 @@ map-length : (rs : List Raw) → length (map meaning rs) ≡ length rs
 map-length [] = refl
 map-length (r ∷ rs) = ap suc (map-length rs)
 
-pub catalogue-back : (s : Bytes) (xs : List Raw) → GoodSDfile s xs → (la lb : ℕ) → 4080 ≤ la → 1530 ≤ lb → VisitedAs la lb (catalogueText xs) (map meaning xs)
+pub catalogue-back : (s : Bytes) (xs : List Raw) → GoodSDfile s xs → (la lb : ℕ) → atomPlaces ≤ la → bondPlaces ≤ lb → VisitedAs la lb (catalogueText xs) (map meaning xs)
 catalogue-back s xs f la lb ra rb =
     let t = text-stands s xs f in
     let v = visits-good la lb ra rb (catalogueText xs) (t .0) (t .1) in

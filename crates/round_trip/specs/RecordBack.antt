@@ -7,7 +7,7 @@ use lib.ListN.{length, take}
 use lib.Seq.{take-length}
 use lib.IntN.{ℤ}
 use Rattle.text.specs.Text.{Bytes, Line}
-use Rattle.rules.specs.Record.{Raw, SDfile, GoodSDfile, limit}
+use Rattle.rules.specs.Record.{Raw, SDfile, GoodSDfile, limit, atomPlaces, bondPlaces}
 use Rattle.rules.specs.Meaning.{Reading, meaning}
 use Rattle.reader_tables.specs.Row.{flat}
 use Rattle.judge_file.specs.Place.{sdfile}
@@ -33,8 +33,8 @@ pub record ReadAs (s : Bytes) (x : Reading) (ta tb : List ℤ) : Type 0 where
   pub told : Told sdfile s raw reply
   pub whole : reply .bytes ≡ length s
   pub answer : readOf 1 (length ta) (length tb) s ≡ readBack reply
-  pub atoms : atomsAfter 1 (length tb) s ta ≡ rowsIn 4080 ta (flat (x .atoms))
-  pub bonds : bondsAfter 1 (length ta) s tb ≡ rowsIn 1530 tb (flat (x .bonds))
+  pub atoms : atomsAfter 1 (length tb) s ta ≡ rowsIn atomPlaces ta (flat (x .atoms))
+  pub bonds : bondsAfter 1 (length ta) s tb ≡ rowsIn bondPlaces tb (flat (x .bonds))
 
 -- a text that begins with a record, which takes all of it
 module _ (s : Bytes) (raw : Raw) (b : Begins sdfile s raw) (all : replyOf sdfile s raw .bytes ≡ length s) (ta tb : List ℤ) (room : Roomy ta tb) where
@@ -74,7 +74,7 @@ module _ (s : Bytes) (raw : Raw) (la lb : ℕ) where
       let bytes = ap (λ (w : Reply). w .bytes) same in
       omega (arith, e, moved, bytes)
 
-  all-of : 4080 ≤ la → 1530 ≤ lb → GoodSDfile s (raw ∷ []) → replyOf sdfile s raw .bytes ≡ length s
+  all-of : atomPlaces ≤ la → bondPlaces ≤ lb → GoodSDfile s (raw ∷ []) → replyOf sdfile s raw .bytes ≡ length s
   all-of ra rb f = let v = visits-good la lb ra rb s (raw ∷ []) f in once (v .1) (v .4)
 
 -- ---- The theorems
@@ -100,6 +100,6 @@ room-back g x a after = let t = text-stands g x a in go (t .0) (t .1) (t .2)
     go (raw ∷ []) f e =
         let s = canonText x in
         let b = first-of f in
-        let whole : take (replyOf sdfile s raw .bytes) s ≡ s = ap (λ (k : ℕ). take k s) (all-of s raw 4080 1530 (omega arith) (omega arith) f) ∙ take-length s in
+        let whole : take (replyOf sdfile s raw .bytes) s ≡ s = ap (λ (k : ℕ). take k s) (all-of s raw atomPlaces bondPlaces (omega arith) (omega arith) f) ∙ take-length s in
         subst (λ (z : Bytes). Alike s (z ++ after)) whole (after-record s raw (replyOf sdfile s raw) b (begins-told sdfile s raw b) after)
     go (raw ∷ other ∷ rs) f e = absurd (let n = ap length e in omega (arith, n))

@@ -1,6 +1,6 @@
 -- The format: which lines are a molfile or an SDfile, and which records they stand for.
 -- `Part lines value rest` reads: the lines start with such a part, it stands for the value, and the rest comes after it.
-use Prim.Native.Nat.{ℕ, suc}
+use Prim.Native.Nat.{ℕ, suc, _*_}
 use mathlib.Core.Path.{_≡_}
 use mathlib.Core.Logic.{_≢_}
 use mathlib.Core.List.{List, [], _∷_, _++_}
@@ -130,7 +130,14 @@ pub data SDfile (limit : ℕ) : List Line → List Raw → Type 0 where
 
 -- the most atoms and the most bonds of a record; theorems hold for any limit that three columns can hold
 abbrev pub limit : ℕ
-limit = 255
+limit = 999
+
+-- the places of tables that hold so many: sixteen numbers to an atom, six to a bond
+abbrev pub atomPlaces : ℕ
+atomPlaces = 16 * limit
+
+abbrev pub bondPlaces : ℕ
+bondPlaces = 6 * limit
 
 -- the text's complete lines are such a file, and nothing follows them
 abbrev pub GoodMolfile : Bytes → Raw → Type 0

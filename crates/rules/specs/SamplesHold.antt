@@ -101,7 +101,7 @@ loose first atoms ps =
       properties = ps;
     }
 
-loose-fine : (first : Line) (atoms : List Atom) (ps : List Property) → FirstHeaderLine first → length atoms ≤ 255 →
+loose-fine : (first : Line) (atoms : List Atom) (ps : List Property) → FirstHeaderLine first → length atoms ≤ limit →
     GoodAtoms (length atoms) atoms → GoodProperties (length atoms) ps → ((k : Kind) → NoAtomTwice (listed k ps)) → GoodMolecule limit (loose first atoms ps)
 unfolding Each GoodBonds NoPairTwice
 loose-fine first atoms ps f n a p o =
@@ -209,7 +209,7 @@ uncharged-good = raw-molfile unchargedMolecule uncharged-fine refl refl
 
 -- ---- Lines that nothing can finish
 
-counts-of : (n m : ℕ) → n ≤ 255 → m ≤ 255 → 2 * m ≤ n * (n - 1) → CountsLine limit (countsText (record { atoms = n; bonds = m; chiral = 0 })) (record { atoms = n; bonds = m; chiral = 0 })
+counts-of : (n m : ℕ) → n ≤ limit → m ≤ limit → 2 * m ≤ n * (n - 1) → CountsLine limit (countsText (record { atoms = n; bonds = m; chiral = 0 })) (record { atoms = n; bonds = m; chiral = 0 })
 counts-of n m h k p = counts-written limit (record { atoms = n; bonds = m; chiral = 0 }) (omega arith) (record { atoms = h; bonds = k; pairs = p; chiral = omega arith })
 
 again-bad : Holds pairTwice

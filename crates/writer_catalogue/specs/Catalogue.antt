@@ -8,7 +8,7 @@ use lib.ListN.{length, drop}
 use lib.IntN.{ℤ}
 use Rattle.text.specs.Text.{Bytes}
 use Rattle.text.specs.Written.{text}
-use Rattle.rules.specs.Record.{Raw, limit}
+use Rattle.rules.specs.Record.{Raw, limit, atomPlaces, bondPlaces}
 use Rattle.rules.specs.Meaning.{meaning}
 use Rattle.rules.specs.Canon.{canonFile}
 use Rattle.judge_file.specs.Place.{sdfile}
@@ -59,10 +59,10 @@ roomAfter ta tb s r = roomBy r (catalogueFor ta tb s (length r))
 
 -- no row is left, and memory beyond the limit is as it was; tables without room are left as they are
 unfoldable pub atomsAfter : List ℤ → List ℤ → List ℤ
-atomsAfter ta tb = cond (roomy ta tb) (rowsIn 4080 ta []) ta
+atomsAfter ta tb = cond (roomy ta tb) (rowsIn atomPlaces ta []) ta
 
 unfoldable pub bondsAfter : List ℤ → List ℤ → List ℤ
-bondsAfter ta tb = cond (roomy ta tb) (rowsIn 1530 tb []) tb
+bondsAfter ta tb = cond (roomy ta tb) (rowsIn bondPlaces tb []) tb
 
 -- ---- While lengths are summed
 

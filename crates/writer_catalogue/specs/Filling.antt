@@ -10,7 +10,7 @@ use lib.Seq.{sets-eq}
 use lib.IntN.{ℤ}
 use borrow.Author.Tests.{leb-true, le-leb}
 use Rattle.text.specs.Text.{Bytes}
-use Rattle.rules.specs.Record.{Raw, limit}
+use Rattle.rules.specs.Record.{Raw, limit, atomPlaces, bondPlaces}
 use Rattle.rules.specs.Meaning.{meaning}
 use Rattle.judge_file.specs.Place.{sdfile}
 use Rattle.judge_file.specs.Verdict.{Verdict, verdict}
@@ -37,8 +37,8 @@ use Rattle.writer_catalogue.specs.Writing.{Next, WroteNext}
 
 -- the file is good, and room r holds its text
 pub record FileFits (s : Bytes) (ta tb : List ℤ) (r : Bytes) : Type 0 where
-  pub atoms : 4080 ≤ length ta
-  pub bonds : 1530 ≤ length tb
+  pub atoms : atomPlaces ≤ length ta
+  pub bonds : bondPlaces ≤ length tb
   pub xs : List Raw
   pub is : verdict sdfile limit s ≡ Verdict.accepted xs
   pub enough : length (catalogueText xs) ≤ length r
@@ -60,8 +60,8 @@ pub record Filling (s : Bytes) (ta₀ tb₀ : List ℤ) (r₀ : Bytes) (ta tb : 
   pub after : After s xs c
   pub laid : Laid r₀ r 0 (catalogueText xs) to
   pub bytes : length s * 1 < 2 ^ 63
-  pub atoms : Beside 4080 ta₀ ta
-  pub bonds : Beside 1530 tb₀ tb
+  pub atoms : Beside atomPlaces ta₀ ta
+  pub bonds : Beside bondPlaces tb₀ tb
 
 pub filling-start : (s : Bytes) (ta tb : List ℤ) (r : Bytes) (c : Cursor) → FileFits s ta tb r → length s * 1 < 2 ^ 63 → c ≡ fresh → Filling s ta tb r ta tb r c 0
 filling-start s ta tb r c f b e =
@@ -73,15 +73,15 @@ filling-start s ta tb r c f b e =
       after = rw e (after-start s);
       laid = subst (λ (t : Bytes). Laid r r 0 t 0) (sym text-none) (laid-none r 0 (omega arith));
       bytes = b;
-      atoms = beside-same 4080 ta (f .atoms);
-      bonds = beside-same 1530 tb (f .bonds);
+      atoms = beside-same atomPlaces ta (f .atoms);
+      bonds = beside-same bondPlaces tb (f .bonds);
     }
 
 module _ (s : Bytes) (ta₀ tb₀ : List ℤ) (r₀ : Bytes) (ta tb : List ℤ) (r : Bytes) (c : Cursor) (to : ℕ) (g : Filling s ta₀ tb₀ r₀ ta tb r c to) where
-  pub filling-atoms : Beside 4080 ta₀ ta
+  pub filling-atoms : Beside atomPlaces ta₀ ta
   filling-atoms = g .atoms
 
-  pub filling-bonds : Beside 1530 tb₀ tb
+  pub filling-bonds : Beside bondPlaces tb₀ tb
   filling-bonds = g .bonds
 
   pub filling-size : length r ≡ length r₀
@@ -151,7 +151,7 @@ module _ (s : Bytes) (ta₀ tb₀ : List ℤ) (r₀ : Bytes) (ta tb : List ℤ) 
             let a = ahead in
             subst (λ (e : Cursor). length s - (e .at) < length s - (c .at)) (sym moved) (after-less s (g .xs) c (g .after) some (a .y) (a .k) (a .is))
 
-        pub filling-next : (ta′ tb′ : List ℤ) → Beside 4080 ta ta′ → Beside 1530 tb tb′ → Filling s ta₀ tb₀ r₀ ta′ tb′ r′ d (w .to)
+        pub filling-next : (ta′ tb′ : List ℤ) → Beside atomPlaces ta ta′ → Beside bondPlaces tb tb′ → Filling s ta₀ tb₀ r₀ ta′ tb′ r′ d (w .to)
         filling-next ta′ tb′ ba bb =
             let a = ahead in
             record {
@@ -201,7 +201,7 @@ module _ (s r : Bytes) (j : Catalogue) (ej : j ≡ answerBy (fileFor s (length r
         go (Verdict.accepted xs) e z = fit xs e (leb (length (catalogueText xs)) (length r)) refl z
         go (Verdict.refused n i d) e z = absurd (let z : _≡_ {A = ℕ} 0 1 = cc in omega arith)
 
-    pub passed-fits : (ta₀ tb₀ ta tb : List ℤ) → Beside 4080 ta₀ ta → Beside 1530 tb₀ tb → FileFits s ta tb r
+    pub passed-fits : (ta₀ tb₀ ta tb : List ℤ) → Beside atomPlaces ta₀ ta → Beside bondPlaces tb₀ tb → FileFits s ta tb r
     passed-fits ta₀ tb₀ ta tb a b =
         record {
           atoms = omega (arith, a .room, a .size);

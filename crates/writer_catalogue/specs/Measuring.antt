@@ -9,7 +9,7 @@ use lib.ListN.{length, take, drop, length-append}
 use lib.IntN.{ℤ}
 use borrow.Author.Tests.{leb-true, leb-false, lt-ltb, le-ltb}
 use Rattle.text.specs.Text.{Bytes}
-use Rattle.rules.specs.Record.{Raw}
+use Rattle.rules.specs.Record.{Raw, atomPlaces, bondPlaces}
 use Rattle.rules.specs.Meaning.{meaning}
 use Rattle.judge_file.specs.Place.{sdfile}
 use Rattle.judge_file.specs.Verdict.{Verdict}
@@ -67,10 +67,10 @@ pub record Measuring (s : Bytes) (ta₀ tb₀ ta tb : List ℤ) (k : ℕ) (c : C
   pub size : needed ≡ upTo k (length (catalogueText xs))
   pub bytes : length s * 1 < 2 ^ 63
   pub room : k * 1 < 2 ^ 63
-  pub atoms : Beside 4080 ta₀ ta
-  pub bonds : Beside 1530 tb₀ tb
+  pub atoms : Beside atomPlaces ta₀ ta
+  pub bonds : Beside bondPlaces tb₀ tb
 
-pub measuring-start : (s : Bytes) (ta tb : List ℤ) (k : ℕ) (c : Cursor) → 4080 ≤ length ta → 1530 ≤ length tb → length s * 1 < 2 ^ 63 → k * 1 < 2 ^ 63 → c ≡ fresh →
+pub measuring-start : (s : Bytes) (ta tb : List ℤ) (k : ℕ) (c : Cursor) → atomPlaces ≤ length ta → bondPlaces ≤ length tb → length s * 1 < 2 ^ 63 → k * 1 < 2 ^ 63 → c ≡ fresh →
     Measuring s ta tb ta tb k c 0
 measuring-start s ta tb k c ra rb bs bk e =
     record {
@@ -79,18 +79,18 @@ measuring-start s ta tb k c ra rb bs bk e =
       size = sym (ap (λ (z : Bytes). upTo k (length z)) text-none ∙ up-in k 0 (omega arith));
       bytes = bs;
       room = bk;
-      atoms = beside-same 4080 ta ra;
-      bonds = beside-same 1530 tb rb;
+      atoms = beside-same atomPlaces ta ra;
+      bonds = beside-same bondPlaces tb rb;
     }
 
 module _ (s : Bytes) (ta₀ tb₀ ta tb : List ℤ) (k : ℕ) (c : Cursor) (needed : ℕ) (g : Measuring s ta₀ tb₀ ta tb k c needed) where
-  pub measuring-atoms : Beside 4080 ta₀ ta
+  pub measuring-atoms : Beside atomPlaces ta₀ ta
   measuring-atoms = g .atoms
 
-  pub measuring-bonds : Beside 1530 tb₀ tb
+  pub measuring-bonds : Beside bondPlaces tb₀ tb
   measuring-bonds = g .bonds
 
-  pub measuring-room : (4080 ≤ length ta) × (1530 ≤ length tb) × (k * 1 < 2 ^ 63)
+  pub measuring-room : (atomPlaces ≤ length ta) × (bondPlaces ≤ length tb) × (k * 1 < 2 ^ 63)
   measuring-room = (omega (arith, g .atoms .room, g .atoms .size), omega (arith, g .bonds .room, g .bonds .size), g .room)
 
   pub measuring-end : (r : Catalogue) → length s ≤ c .at → r ≡ concludeBy needed (c .records) k → r ≡ answerBy (fileFor s k)
@@ -139,7 +139,7 @@ module _ (s : Bytes) (ta₀ tb₀ ta tb : List ℤ) (k : ℕ) (c : Cursor) (need
             let n = found in
             subst (λ (e : Cursor). length s - (e .at) < length s - (c .at)) (sym moved) (after-less s (g .xs) c (g .after) some (n .y) j (n .is))
 
-        pub measuring-next : (ta′ tb′ : List ℤ) → Beside 4080 ta ta′ → Beside 1530 tb tb′ → Measuring s ta₀ tb₀ ta′ tb′ k d more
+        pub measuring-next : (ta′ tb′ : List ℤ) → Beside atomPlaces ta ta′ → Beside bondPlaces tb tb′ → Measuring s ta₀ tb₀ ta′ tb′ k d more
         measuring-next ta′ tb′ ba bb =
             let n = found in
             record {
@@ -176,10 +176,10 @@ module _ (s : Bytes) (ta₀ tb₀ ta tb : List ℤ) (k : ℕ) (c : Cursor) (need
       measuring-refused i h =
           ap (λ (l : ℕ). Catalogue.Refused e l d) h ∙ sym (ap (λ (z : Verdict). answerBy (fitting k (ofFile z))) (after-verdict s (g .xs) c (g .after) some e j d is-refused))
 
-    pub measured-atoms : (ta′ : List ℤ) → Beside 4080 ta ta′ → Beside 4080 ta₀ ta′
+    pub measured-atoms : (ta′ : List ℤ) → Beside atomPlaces ta ta′ → Beside atomPlaces ta₀ ta′
     measured-atoms ta′ b = beside-join (g .atoms) b
 
-    pub measured-bonds : (tb′ : List ℤ) → Beside 1530 tb tb′ → Beside 1530 tb₀ tb′
+    pub measured-bonds : (tb′ : List ℤ) → Beside bondPlaces tb tb′ → Beside bondPlaces tb₀ tb′
     measured-bonds tb′ b = beside-join (g .bonds) b
 
 pub ruleset measuring-laws = (

@@ -12,7 +12,7 @@ use lib.IntN.{ℤ}
 use borrow.Author.Tests.{leb-true, leb-false, le-leb, lt-leb}
 use Rattle.text.specs.Text.{Bytes}
 use Rattle.text.specs.Written.{text}
-use Rattle.rules.specs.Record.{Raw, GoodSDfile, limit}
+use Rattle.rules.specs.Record.{Raw, GoodSDfile, limit, atomPlaces, bondPlaces}
 use Rattle.rules.specs.Meaning.{Reading, meaning}
 use Rattle.rules.specs.Canon.{canonFile}
 use Rattle.rules.specs.CanonGood.{canon-text, canon-only}
@@ -61,7 +61,7 @@ pub record Promise (s : Bytes) (ta₀ tb₀ : List ℤ) (r₀ : Bytes) (a : Cata
   pub refused : (e line column : ℕ) → (numbersOf a ≡ Said.refused e line column) ↔ Refusal s ta₀ tb₀ (length r₀) e line column
   pub untouched : (e line column : ℕ) → numbersOf a ≡ Said.refused e line column → r ≡ r₀
   -- no row is left; tables without room are as they were
-  pub emptied : Roomy ta₀ tb₀ → (ta ≡ rowsIn 4080 ta₀ []) × (tb ≡ rowsIn 1530 tb₀ [])
+  pub emptied : Roomy ta₀ tb₀ → (ta ≡ rowsIn atomPlaces ta₀ []) × (tb ≡ rowsIn bondPlaces tb₀ [])
   pub kept : ¬ Roomy ta₀ tb₀ → (ta ≡ ta₀) × (tb ≡ tb₀)
 
 -- no two answers, and no two memories
@@ -248,10 +248,10 @@ module _ (s : Bytes) (ta₀ tb₀ : List ℤ) (r₀ : Bytes) where
         untouched = λ n j d h. f ∙ room-by r₀ n j d (catalogueFor ta₀ tb₀ s k) (sym e ∙ refused-is a n j d h);
         emptied = λ y.
             let t = roomy-agrees ta₀ tb₀ .1 y in
-            (ga ∙ ap (λ (b : Bool). cond b (rowsIn 4080 ta₀ []) ta₀) t, gb ∙ ap (λ (b : Bool). cond b (rowsIn 1530 tb₀ []) tb₀) t);
+            (ga ∙ ap (λ (b : Bool). cond b (rowsIn atomPlaces ta₀ []) ta₀) t, gb ∙ ap (λ (b : Bool). cond b (rowsIn bondPlaces tb₀ []) tb₀) t);
         kept = λ h.
             let t = roomy-false ta₀ tb₀ h in
-            (ga ∙ ap (λ (b : Bool). cond b (rowsIn 4080 ta₀ []) ta₀) t, gb ∙ ap (λ (b : Bool). cond b (rowsIn 1530 tb₀ []) tb₀) t);
+            (ga ∙ ap (λ (b : Bool). cond b (rowsIn atomPlaces ta₀ []) ta₀) t, gb ∙ ap (λ (b : Bool). cond b (rowsIn bondPlaces tb₀ []) tb₀) t);
       }
 
   -- as the code comes to its three ends
@@ -260,16 +260,16 @@ module _ (s : Bytes) (ta₀ tb₀ : List ℤ) (r₀ : Bytes) where
   short h =
       let t = roomy-false ta₀ tb₀ h in
       let v = by-tables s ta₀ tb₀ (length r₀) h in
-      promise (Catalogue.Refused 2 0 0) ta₀ tb₀ r₀ (sym (ap answerBy v)) (sym (ap (roomBy r₀) v)) (sym (ap (λ (b : Bool). cond b (rowsIn 4080 ta₀ []) ta₀) t)) (sym (ap (λ (b : Bool). cond b (rowsIn 1530 tb₀ []) tb₀) t))
+      promise (Catalogue.Refused 2 0 0) ta₀ tb₀ r₀ (sym (ap answerBy v)) (sym (ap (roomBy r₀) v)) (sym (ap (λ (b : Bool). cond b (rowsIn atomPlaces ta₀ []) ta₀) t)) (sym (ap (λ (b : Bool). cond b (rowsIn bondPlaces tb₀ []) tb₀) t))
 
-  pub short-atoms : length ta₀ < 4080 → Promise s ta₀ tb₀ r₀ (Catalogue.Refused 2 0 0) ta₀ tb₀ r₀
+  pub short-atoms : length ta₀ < atomPlaces → Promise s ta₀ tb₀ r₀ (Catalogue.Refused 2 0 0) ta₀ tb₀ r₀
   short-atoms h = short (λ r. let a = r .atoms in omega arith)
 
-  pub short-bonds : length tb₀ < 1530 → Promise s ta₀ tb₀ r₀ (Catalogue.Refused 2 0 0) ta₀ tb₀ r₀
+  pub short-bonds : length tb₀ < bondPlaces → Promise s ta₀ tb₀ r₀ (Catalogue.Refused 2 0 0) ta₀ tb₀ r₀
   short-bonds h = short (λ r. let b = r .bonds in omega arith)
 
-  pub long-enough : (a : Catalogue) (ta tb : List ℤ) (r : Bytes) → 4080 ≤ length ta₀ → 1530 ≤ length tb₀ → a ≡ answerBy (fileFor s (length r₀)) → r ≡ roomBy r₀ (fileFor s (length r₀)) →
-      ta ≡ rowsIn 4080 ta₀ [] → tb ≡ rowsIn 1530 tb₀ [] → Promise s ta₀ tb₀ r₀ a ta tb r
+  pub long-enough : (a : Catalogue) (ta tb : List ℤ) (r : Bytes) → atomPlaces ≤ length ta₀ → bondPlaces ≤ length tb₀ → a ≡ answerBy (fileFor s (length r₀)) → r ≡ roomBy r₀ (fileFor s (length r₀)) →
+      ta ≡ rowsIn atomPlaces ta₀ [] → tb ≡ rowsIn bondPlaces tb₀ [] → Promise s ta₀ tb₀ r₀ a ta tb r
   unfolding catalogueOf roomAfter atomsAfter bondsAfter catalogueFor
   long-enough a ta tb r ha hb e f ga gb =
       let t = roomy-agrees ta₀ tb₀ .1 (record { atoms = ha; bonds = hb }) in

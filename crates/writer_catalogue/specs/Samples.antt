@@ -1,5 +1,5 @@
 -- What is written for small files, and what is refused, in one table, checked by one computation.
-use Prim.Native.Nat.{ℕ}
+use Prim.Native.Nat.{ℕ, _+_, _-_}
 use Prim.Native.String.{String}
 use mathlib.Core.Path.{_≡_, refl}
 use mathlib.Core.List.{List, [], _∷_, _++_, map}
@@ -17,7 +17,7 @@ use Rattle.field_coordinates.specs.Read.{pointRead, beforePoint, inked, coordin
 use Rattle.field_coordinates.specs.Write.{pointText}
 use Rattle.field_symbols.specs.Read.{among, symbolIn}
 use Rattle.field_symbols.specs.Write.{symbolText}
-use Rattle.rules.specs.Record.{listed}
+use Rattle.rules.specs.Record.{listed, atomPlaces, bondPlaces}
 use Rattle.rules.specs.Meaning as M
 use Rattle.rules.specs.Write.{joined, countsText, atomText, bondText, entryFields, propertyText, headerText, itemsLines, moleculeLines, recordLines, fileLines}
 use Rattle.rules.specs.Canon as C
@@ -79,7 +79,7 @@ emptied k = replicate k (pos 0) ++ sevens 1
 
 abbrev made : Bytes → ℕ → Catalogue → Bytes → Sample
 made s k a r =
-    record { file = s; atoms = sevens 4081; bonds = sevens 1531; room = lent k; answer = a; atoms-after = emptied 4080; bonds-after = emptied 1530; room-after = r }
+    record { file = s; atoms = sevens (atomPlaces + 1); bonds = sevens (bondPlaces + 1); room = lent k; answer = a; atoms-after = emptied atomPlaces; bonds-after = emptied bondPlaces; room-after = r }
 
 abbrev pub samples : List Sample
 samples =
@@ -92,12 +92,12 @@ samples =
     made (whole ++ drum "00417" ("$$$$" ∷ [])) 0 (Catalogue.Refused 17 25 1) [] ∷
     record {
       file = drum "00417" ("$$$$" ∷ []);
-      atoms = sevens 4079;
-      bonds = sevens 1530;
+      atoms = sevens (atomPlaces - 1);
+      bonds = sevens bondPlaces;
       room = lent 1;
       answer = Catalogue.Refused 2 0 0;
-      atoms-after = sevens 4079;
-      bonds-after = sevens 1530;
+      atoms-after = sevens (atomPlaces - 1);
+      bonds-after = sevens bondPlaces;
       room-after = lent 1;
     } ∷
     []

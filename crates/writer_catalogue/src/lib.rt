@@ -1,11 +1,14 @@
 // A whole SDfile in its canonical form, written into lent room: one pass judges and measures, one reads and writes.
 use reader_cursor::Cursor;
 use reader_record::RecordRead;
+use rules::ATOMS;
+use rules::BONDS;
 use writer_record::Written;
 ghost use mathlib.Core.Path.{_≡_};
 ghost use mathlib.Core.List.{[]};
 ghost use Prim.Native.Nat.{_+_, _-_, _*_, _^_, _≤_, _<_};
 ghost use lib.ListN.{length};
+ghost use Rattle.rules.specs.Record.{atomPlaces, bondPlaces};
 ghost use Rattle.writer_lines.specs.Laid.{Laid};
 ghost use Rattle.reader_walk.specs.Outcome.{outcomeOf};
 ghost use Rattle.reader_walk.specs.Walked.{Beside};
@@ -45,11 +48,6 @@ pub struct Wrote {
     pub lines: usize,
     pub to: usize,
 }
-
-// Numbers of 255 atoms, and of 255 bonds.
-const ATOMS: usize = 4080;
-
-const BONDS: usize = 1530;
 
 // One record more, where those before it fit.
 fn measure_parts(
@@ -101,12 +99,12 @@ fn measure_next(
     needed: usize,
     room: usize,
 ) -> Measured
-    requires { ⌜ (4080 ≤ length (now atoms)) × (1530 ≤ length (now bonds)) × (room * 1 < 2 ^ 63) ⌝ }
+    requires { ⌜ (atomPlaces ≤ length (now atoms)) × (bondPlaces ≤ length (now bonds)) × (room * 1 < 2 ^ 63) ⌝ }
     ensures { λ r. ⌜ r ≡ measuredBy (now (t .entry)) needed room (outcomeOf sdfile (now (t .entry))) ⌝ }
-    ensures { λ r. ⌜ Beside 4080 (now (atoms .entry)) (now (atoms .exit)) ⌝ }
-    ensures { λ r. ⌜ Beside 1530 (now (bonds .entry)) (now (bonds .exit)) ⌝ }
+    ensures { λ r. ⌜ Beside atomPlaces (now (atoms .entry)) (now (atoms .exit)) ⌝ }
+    ensures { λ r. ⌜ Beside bondPlaces (now (bonds .entry)) (now (bonds .exit)) ⌝ }
 {
-    match reader_record::read_record(1, t, atoms, bonds) {
+    match reader_record::read_rows(true, t, atoms, bonds) {
         RecordRead::Read {
             n,
             m,
@@ -152,10 +150,10 @@ fn conclude(needed: usize, records: usize, room: usize) -> Catalogue
 
 // A whole file judged and measured. Want of room does not end the judging.
 fn measure_file(s: &[u8], atoms: &mut [i32], bonds: &mut [i32], room: usize) -> Catalogue
-    requires { ⌜ (4080 ≤ length (now atoms)) × (1530 ≤ length (now bonds)) × (room * 1 < 2 ^ 63) ⌝ }
+    requires { ⌜ (atomPlaces ≤ length (now atoms)) × (bondPlaces ≤ length (now bonds)) × (room * 1 < 2 ^ 63) ⌝ }
     ensures { λ r. ⌜ r ≡ answerBy (fileFor (now (s .entry)) room) ⌝ }
-    ensures { λ r. ⌜ Beside 4080 (now (atoms .entry)) (now (atoms .exit)) ⌝ }
-    ensures { λ r. ⌜ Beside 1530 (now (bonds .entry)) (now (bonds .exit)) ⌝ }
+    ensures { λ r. ⌜ Beside atomPlaces (now (atoms .entry)) (now (atoms .exit)) ⌝ }
+    ensures { λ r. ⌜ Beside bondPlaces (now (bonds .entry)) (now (bonds .exit)) ⌝ }
 {
     let mut cursor = Cursor::new();
     let mut needed: usize = 0;
@@ -204,10 +202,10 @@ fn put_record(
 fn write_next(t: &[u8], atoms: &mut [i32], bonds: &mut [i32], room: &mut [u8], to: usize) -> Wrote
     requires { ⌜ Next (now t) (now atoms) (now bonds) (now room) to ⌝ }
     ensures { λ r. ⌜ WroteNext (now (t .entry)) (now (room .entry)) (now (room .exit)) to r ⌝ }
-    ensures { λ r. ⌜ Beside 4080 (now (atoms .entry)) (now (atoms .exit)) ⌝ }
-    ensures { λ r. ⌜ Beside 1530 (now (bonds .entry)) (now (bonds .exit)) ⌝ }
+    ensures { λ r. ⌜ Beside atomPlaces (now (atoms .entry)) (now (atoms .exit)) ⌝ }
+    ensures { λ r. ⌜ Beside bondPlaces (now (bonds .entry)) (now (bonds .exit)) ⌝ }
 {
-    match reader_record::read_record(1, t, atoms, bonds) {
+    match reader_record::read_rows(true, t, atoms, bonds) {
         RecordRead::Read {
             n,
             m,
@@ -248,8 +246,8 @@ fn write_next(t: &[u8], atoms: &mut [i32], bonds: &mut [i32], room: &mut [u8], t
 fn write_file(s: &[u8], atoms: &mut [i32], bonds: &mut [i32], room: &mut [u8]) -> usize
     requires { ⌜ FileFits (now s) (now atoms) (now bonds) (now room) ⌝ }
     ensures { λ r. ⌜ Laid (now (room .entry)) (now (room .exit)) 0 (textIn (fileFor (now (s .entry)) (length (now (room .entry))))) r ⌝ }
-    ensures { λ r. ⌜ Beside 4080 (now (atoms .entry)) (now (atoms .exit)) ⌝ }
-    ensures { λ r. ⌜ Beside 1530 (now (bonds .entry)) (now (bonds .exit)) ⌝ }
+    ensures { λ r. ⌜ Beside atomPlaces (now (atoms .entry)) (now (atoms .exit)) ⌝ }
+    ensures { λ r. ⌜ Beside bondPlaces (now (bonds .entry)) (now (bonds .exit)) ⌝ }
 {
     let mut cursor = Cursor::new();
     let mut to: usize = 0;
@@ -264,11 +262,11 @@ fn write_file(s: &[u8], atoms: &mut [i32], bonds: &mut [i32], room: &mut [u8]) -
 
 // Both passes, with work tables that have room.
 fn fill_room(s: &[u8], atoms: &mut [i32], bonds: &mut [i32], room: &mut [u8]) -> Catalogue
-    requires { ⌜ (4080 ≤ length (now atoms)) × (1530 ≤ length (now bonds)) ⌝ }
+    requires { ⌜ (atomPlaces ≤ length (now atoms)) × (bondPlaces ≤ length (now bonds)) ⌝ }
     ensures { λ r. ⌜ r ≡ answerBy (fileFor (now (s .entry)) (length (now (room .entry)))) ⌝ }
     ensures { λ r. ⌜ now (room .exit) ≡ roomBy (now (room .entry)) (fileFor (now (s .entry)) (length (now (room .entry)))) ⌝ }
-    ensures { λ r. ⌜ Beside 4080 (now (atoms .entry)) (now (atoms .exit)) ⌝ }
-    ensures { λ r. ⌜ Beside 1530 (now (bonds .entry)) (now (bonds .exit)) ⌝ }
+    ensures { λ r. ⌜ Beside atomPlaces (now (atoms .entry)) (now (atoms .exit)) ⌝ }
+    ensures { λ r. ⌜ Beside bondPlaces (now (bonds .entry)) (now (bonds .exit)) ⌝ }
 {
     match measure_file(s, atoms, bonds, room.len()) {
         Catalogue::Done { length: _, records } => Catalogue::Done {
@@ -289,11 +287,11 @@ fn empty(table: &mut [i32], to: usize)
 
 // Both passes, and then the work tables are emptied.
 fn write_roomy(s: &[u8], atoms: &mut [i32], bonds: &mut [i32], room: &mut [u8]) -> Catalogue
-    requires { ⌜ (4080 ≤ length (now atoms)) × (1530 ≤ length (now bonds)) ⌝ }
+    requires { ⌜ (atomPlaces ≤ length (now atoms)) × (bondPlaces ≤ length (now bonds)) ⌝ }
     ensures { λ r. ⌜ r ≡ answerBy (fileFor (now (s .entry)) (length (now (room .entry)))) ⌝ }
     ensures { λ r. ⌜ now (room .exit) ≡ roomBy (now (room .entry)) (fileFor (now (s .entry)) (length (now (room .entry)))) ⌝ }
-    ensures { λ r. ⌜ now (atoms .exit) ≡ rowsIn 4080 (now (atoms .entry)) [] ⌝ }
-    ensures { λ r. ⌜ now (bonds .exit) ≡ rowsIn 1530 (now (bonds .entry)) [] ⌝ }
+    ensures { λ r. ⌜ now (atoms .exit) ≡ rowsIn atomPlaces (now (atoms .entry)) [] ⌝ }
+    ensures { λ r. ⌜ now (bonds .exit) ≡ rowsIn bondPlaces (now (bonds .entry)) [] ⌝ }
 {
     let answer = fill_room(s, atoms, bonds, room);
     empty(atoms, ATOMS);

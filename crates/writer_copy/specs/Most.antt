@@ -11,11 +11,11 @@ use Rattle.text.specs.Text.{Bytes, Line, LF, CR, Ended, Lines, bytes}
 use Rattle.text.specs.Columns.{spaces}
 use Rattle.text.specs.Written.{text, text-append}
 use Rattle.rules.specs.Forms.{DataHeader}
-use Rattle.rules.specs.Record.{Headers, Item, Values}
+use Rattle.rules.specs.Record.{Headers, Item, Values, limit}
 use Rattle.rules.specs.Meaning.{Reading}
 use Rattle.rules.specs.Canon.{HeaderPart, ItemPart}
 use Rattle.rules.specs.Write.{headerText}
-use Rattle.writer_molecule.specs.Sizes.{kinds-most}
+use Rattle.writer_molecule.specs.Sizes.{size, kinds-most}
 use Rattle.judge_parts.specs.Written.{headersText, itemLines, itemsText}
 use Rattle.writer_record.specs.Write.{Given, canonText}
 use Rattle.writer_record.specs.Measure.{text-length}
@@ -83,8 +83,11 @@ items-most (ItemPart.more {l = l} {name = name} {t = t} {u = u} {vs = vs} {is = 
 
 -- ---- A whole record
 
--- 30592 is the longest molecule, with the line that ends the record
-pub copy-most : (g : Given) (x : Reading) → Accepted g x → length (canonText x) ≤ 30592 + length (g .headers) + 2 * length (g .items)
+-- the longest molecule, with the line that ends the record: its counts line, atoms, bonds, entries of three kinds, `M  END`, `$$$$`
+abbrev pub most : ℕ
+most = 40 + 70 * limit + 22 * limit + 3 * size limit + 12
+
+pub copy-most : (g : Given) (x : Reading) → Accepted g x → length (canonText x) ≤ most + length (g .headers) + 2 * length (g .items)
 unfolding itemsText
 copy-most g x a =
     let h = a .headers in
@@ -107,16 +110,16 @@ copy-most g x a =
     )
 
 unfoldable pub surely : ℕ → ℕ → ℕ → Bool
-surely headers items room = leb (30592 + headers + 2 * items) room
+surely headers items room = leb (most + headers + 2 * items) room
 
-pub surely-not : (headers items room : ℕ) → room < 30592 + headers + 2 * items → false ≡ surely headers items room
+pub surely-not : (headers items room : ℕ) → room < most + headers + 2 * items → false ≡ surely headers items room
 unfolding surely
-surely-not headers items room h = rw (lt-leb (30592 + headers + 2 * items) room h)
+surely-not headers items room h = rw (lt-leb (most + headers + 2 * items) room h)
 
-pub surely-is : (headers items room : ℕ) → 30592 + headers + 2 * items ≤ room → true ≡ surely headers items room
+pub surely-is : (headers items room : ℕ) → most + headers + 2 * items ≤ room → true ≡ surely headers items room
 unfolding surely
-surely-is headers items room h = rw (le-leb (30592 + headers + 2 * items) room h)
+surely-is headers items room h = rw (le-leb (most + headers + 2 * items) room h)
 
-pub surely-enough : (headers items room : ℕ) → surely headers items room ≡ true → 30592 + headers + 2 * items ≤ room
+pub surely-enough : (headers items room : ℕ) → surely headers items room ≡ true → most + headers + 2 * items ≤ room
 unfolding surely
-surely-enough headers items room e = leb-true (30592 + headers + 2 * items) room e
+surely-enough headers items room e = leb-true (most + headers + 2 * items) room e

@@ -11,7 +11,7 @@ use lib.IntN.{ℤ}
 use borrow.Author.Tests.{leb-true, leb-false, le-leb, le-ltb, ltb-true, ltb-false}
 use Rattle.text.specs.Text.{Bytes, Line}
 use Rattle.text.specs.Written.{text}
-use Rattle.rules.specs.Record.{Raw, GoodSDfile, limit}
+use Rattle.rules.specs.Record.{Raw, GoodSDfile, limit, atomPlaces, bondPlaces}
 use Rattle.rules.specs.Meaning.{meaning}
 use Rattle.rules.specs.Write.{fileLines}
 use Rattle.rules.specs.Canon.{AllGood, canonLines, canonFile}
@@ -106,25 +106,25 @@ module _ (kind : ℕ) (s : Bytes) (ta tb : List ℤ) (k : ℕ) where
     tables : kind ≤ 1 → ¬ Roomy ta tb → Seen (RecordRead.Refused 2 0 0) (refused 2 0 0)
     walked : (f : FileKind) → kind ≡ kindNumber f → Roomy ta tb → Seen (answered (walkedBy f s (outcomeOf f s))) (fitting k (outcomeOf f s))
 
-  by-room : (f : FileKind) → kind ≡ kindNumber f → kind ≤ 1 → (t : Bool) → ltb (length ta) 4080 ≡ t → (u : Bool) → ltb (length tb) 1530 ≡ u →
+  by-room : (f : FileKind) → kind ≡ kindNumber f → kind ≤ 1 → (t : Bool) → ltb (length ta) atomPlaces ≡ t → (u : Bool) → ltb (length tb) bondPlaces ≡ u →
       Seen (cond t (RecordRead.Refused 2 0 0) (cond u (RecordRead.Refused 2 0 0) (answered (walkedBy f s (outcomeOf f s)))))
       (cond t (refused 2 0 0) (cond u (refused 2 0 0) (fitting k (outcomeOf f s))))
-  by-room f e few true p u q = let h = ltb-true (length ta) 4080 p in Seen.tables few (λ y. omega (arith, y .atoms))
-  by-room f e few false p true q = let h = ltb-true (length tb) 1530 q in Seen.tables few (λ y. omega (arith, y .bonds))
-  by-room f e few false p false q = Seen.walked f e (record { atoms = ltb-false (length ta) 4080 p; bonds = ltb-false (length tb) 1530 q })
+  by-room f e few true p u q = let h = ltb-true (length ta) atomPlaces p in Seen.tables few (λ y. omega (arith, y .atoms))
+  by-room f e few false p true q = let h = ltb-true (length tb) bondPlaces q in Seen.tables few (λ y. omega (arith, y .bonds))
+  by-room f e few false p false q = Seen.walked f e (record { atoms = ltb-false (length ta) atomPlaces p; bonds = ltb-false (length tb) bondPlaces q })
 
 pub seen : (kind : ℕ) (s : Bytes) (ta tb : List ℤ) (k : ℕ) → Seen kind s ta tb k (readOf kind (length ta) (length tb) s) (copyFor kind (length ta) (length tb) s k)
 unfolding readOf readAs walkOf copyFor
-seen zero s ta tb k = by-room zero s ta tb k molfile refl (omega arith) (ltb (length ta) 4080) refl (ltb (length tb) 1530) refl
-seen (suc zero) s ta tb k = by-room (suc zero) s ta tb k sdfile refl (omega arith) (ltb (length ta) 4080) refl (ltb (length tb) 1530) refl
+seen zero s ta tb k = by-room zero s ta tb k molfile refl (omega arith) (ltb (length ta) atomPlaces) refl (ltb (length tb) bondPlaces) refl
+seen (suc zero) s ta tb k = by-room (suc zero) s ta tb k sdfile refl (omega arith) (ltb (length ta) atomPlaces) refl (ltb (length tb) bondPlaces) refl
 seen (suc (suc kind)) s ta tb k = Seen.other-kind (omega arith)
 
 -- a kind and tables that a record is read into
 pub seen-walked : (kind : ℕ) (s : Bytes) (ta tb : List ℤ) (k : ℕ) (f : FileKind) → kind ≡ kindNumber f → Roomy ta tb →
     copyFor kind (length ta) (length tb) s k ≡ fitting k (outcomeOf f s)
 unfolding copyFor
-seen-walked kind s ta tb k molfile e y = rw (e, le-ltb (length ta) 4080 (y .atoms), le-ltb (length tb) 1530 (y .bonds))
-seen-walked kind s ta tb k sdfile e y = rw (e, le-ltb (length ta) 4080 (y .atoms), le-ltb (length tb) 1530 (y .bonds))
+seen-walked kind s ta tb k molfile e y = rw (e, le-ltb (length ta) atomPlaces (y .atoms), le-ltb (length tb) bondPlaces (y .bonds))
+seen-walked kind s ta tb k sdfile e y = rw (e, le-ltb (length ta) atomPlaces (y .atoms), le-ltb (length tb) bondPlaces (y .bonds))
 
 -- ---- The definitions keep the promise
 

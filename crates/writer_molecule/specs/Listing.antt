@@ -20,6 +20,7 @@ use Rattle.field_numbers.specs.Written.{number-length, signed-length}
 use Rattle.rules.specs.Forms.{CHG, RAD, ISO, tag, Entry}
 use Rattle.rules.specs.Write.{joined, entryFields, propertyText}
 use Rattle.rules.specs.Canon.{atomRow, numberOf, isZero, entriesFrom, eights, linesOf}
+use Rattle.rules.specs.Record.{limit}
 use Rattle.writer_lines.specs.Laid.{Laid, Field, field-join, Owes, owes-start, owes-next, owes-end}
 use Rattle.rules.specs.Rows.{rowsOf, rowAt, rows-length, rows-next}
 use Rattle.writer_lines.specs.Signs.{zero-is, zero-not}
@@ -165,7 +166,7 @@ entries-length (e ∷ es) =
 pub record Entering (kind n : ℕ) (t : List ℤ) (i count : ℕ) (r₀ r : Bytes) (at j e left : ℕ) : Type 0 where
   pub inside : 16 * n ≤ length t
   pub of-kind : kind ≤ 2
-  pub small : n ≤ 255
+  pub small : n ≤ limit
   pub enough : left ≤ length (entriesAt kind n t j)
   pub room : at + 8 * count ≤ length r₀
   pub place : e + 8 * left ≡ at + 8 * count
@@ -173,7 +174,7 @@ pub record Entering (kind n : ℕ) (t : List ℤ) (i count : ℕ) (r₀ r : Byte
   pub same : drop count (entriesAt kind n t i) ≡ drop left (entriesAt kind n t j)
   pub owes : Owes r₀ r at e (entriesText (take count (entriesAt kind n t i))) (entriesText (take left (entriesAt kind n t j)))
 
-pub entering-start : (kind n : ℕ) (t : List ℤ) (i count : ℕ) (r : Bytes) (at : ℕ) → 16 * n ≤ length t → kind ≤ 2 → n ≤ 255 →
+pub entering-start : (kind n : ℕ) (t : List ℤ) (i count : ℕ) (r : Bytes) (at : ℕ) → 16 * n ≤ length t → kind ≤ 2 → n ≤ limit →
     count ≤ length (entriesAt kind n t i) → at + 8 * count ≤ length r → Entering kind n t i count r r at i at count
 entering-start kind n t i count r at h l s c f =
     record {
@@ -344,12 +345,12 @@ line-length kind es =
 pub record Listing (kind n : ℕ) (t : List ℤ) (r₀ r : Bytes) (at i e left : ℕ) : Type 0 where
   pub inside : 16 * n ≤ length t
   pub of-kind : kind ≤ 2
-  pub small : n ≤ 255
+  pub small : n ≤ limit
   pub number : left ≡ length (entriesAt kind n t i)
   pub size : length r ≡ length r₀
   pub owes : Owes r₀ r at e (linesText kind (entriesAt kind n t 0)) (linesText kind (entriesAt kind n t i))
 
-pub listing-start : (kind n : ℕ) (t : List ℤ) (r : Bytes) (at left : ℕ) → 16 * n ≤ length t → kind ≤ 2 → n ≤ 255 →
+pub listing-start : (kind n : ℕ) (t : List ℤ) (r : Bytes) (at left : ℕ) → 16 * n ≤ length t → kind ≤ 2 → n ≤ limit →
     at + length (linesText kind (entriesAt kind n t 0)) ≤ length r → left ≡ length (entriesAt kind n t 0) → Listing kind n t r r at 0 at left
 listing-start kind n t r at left h l s f e =
     record { inside = h; of-kind = l; small = s; number = e; size = refl; owes = owes-start r at (linesText kind (entriesAt kind n t 0)) f }

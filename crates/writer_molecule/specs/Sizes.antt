@@ -11,7 +11,7 @@ use borrow.Author.Tests.{ltb-true, ltb-false}
 use Rattle.text.specs.Text.{Bytes, LF}
 use Rattle.text.specs.Written.{text, text-append}
 use Rattle.rules.specs.Forms.{Kind, Entry}
-use Rattle.rules.specs.Record.{Headers, Item}
+use Rattle.rules.specs.Record.{Headers, Item, limit}
 use Rattle.rules.specs.Write.{moleculeLines, countsText, propertyText, endText}
 use Rattle.rules.specs.Canon.{atomRow, numberOf, isZero, entriesFrom, eights, propertiesOf, canon, Writable}
 use Rattle.writer_lines.specs.Laid.{Laid, Field, laid-join}
@@ -36,7 +36,8 @@ lines-long-next kind k es h x =
     ∙ length-append (text (propertyText (record { kind = kindOf kind; entries = take k es }) ∷ [])) (linesText kind (drop k es))
     ∙ omega (arith, line-length kind (take k es), length-take k es, x .most)
 
-abbrev size : ℕ → ℕ
+-- the bytes of so many entries of a kind
+abbrev pub size : ℕ → ℕ
 size k = 10 * ((k + 7) / 8) + 8 * k
 
 pub lines-long : (fuel kind : ℕ) (es : List Entry) → length es ≤ fuel → length (linesText kind es) ≡ size (length es)
@@ -74,13 +75,13 @@ entries-most kind n t = omega (arith, from-most (kindOf kind) 1 (rowsOf 16 n t),
 pub kind-long : (kind n : ℕ) (t : List ℤ) (k : ℕ) → k ≡ length (entriesAt kind n t 0) → 10 * ((k + 7) / 8) + 8 * k ≡ length (propertiesText kind n t)
 kind-long kind n t k e = rw e (sym (lines-long (length (entriesAt kind n t 0)) kind (entriesAt kind n t 0) (omega arith)))
 
--- 255 entries at most, in 32 lines
-kind-most : (kind n : ℕ) (t : List ℤ) → n ≤ 255 → length (propertiesText kind n t) ≤ 2360
+-- one entry an atom at most
+kind-most : (kind n : ℕ) (t : List ℤ) → n ≤ limit → length (propertiesText kind n t) ≤ size limit
 kind-most kind n t h =
     let l = lines-long (length (entriesAt kind n t 0)) kind (entriesAt kind n t 0) (omega arith) in
     omega (arith, l, entries-most kind n t)
 
-pub kinds-most : (n : ℕ) (t : List ℤ) → n ≤ 255 → length (propertiesText 0 n t) + length (propertiesText 1 n t) + length (propertiesText 2 n t) ≤ 7080
+pub kinds-most : (n : ℕ) (t : List ℤ) → n ≤ limit → length (propertiesText 0 n t) + length (propertiesText 1 n t) + length (propertiesText 2 n t) ≤ 3 * size limit
 kinds-most n t h = omega (arith, kind-most 0 n t h, kind-most 1 n t h, kind-most 2 n t h)
 
 -- ---- The parts

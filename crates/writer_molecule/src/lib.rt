@@ -9,6 +9,7 @@ ghost use Rattle.text.specs.Written.{text};
 ghost use Rattle.rules.specs.Write.{propertyText};
 ghost use Rattle.rules.specs.Forms.{tag};
 ghost use Rattle.rules.specs.Canon.{isZero};
+ghost use Rattle.rules.specs.Record.{limit};
 ghost use Rattle.writer_lines.specs.Laid.{Laid, Field};
 ghost use Rattle.writer_lines.specs.Lines.{WritableAtoms};
 ghost use Rattle.writer_molecule.specs.Properties.{kindOf, numberAt, entryAt, entriesAt, entriesText, propertiesText, Next, Eight, Entered};
@@ -69,7 +70,7 @@ fn next_entry(atoms: &[i32], n: usize, kind: usize, i: usize) -> usize
 
 // The entry of atom i: a space, its number from 1, a space, the number given to it.
 fn put_entry(room: &mut [u8], at: usize, atoms: &[i32], i: usize, kind: usize) -> usize
-    requires { ⌜ (at + 8 ≤ length (now room)) × ((16 * i + 16 ≤ length (now atoms)) × ((kind ≤ 2) × (i < 255))) ⌝ }
+    requires { ⌜ (at + 8 ≤ length (now room)) × ((16 * i + 16 ≤ length (now atoms)) × ((kind ≤ 2) × (i < limit))) ⌝ }
     ensures { λ r. ⌜ Field (now (room .entry)) (now (room .exit)) at 8 (entriesText (entryAt kind (now (atoms .entry)) i ∷ [])) r ⌝ }
 {
     let a = writer_lines::put_bytes(room, at, b" ");
@@ -94,7 +95,7 @@ fn put_entries(
     i: usize,
     count: usize,
 ) -> Entries
-    requires { ⌜ (16 * n ≤ length (now atoms)) × ((kind ≤ 2) × (n ≤ 255)) ⌝ }
+    requires { ⌜ (16 * n ≤ length (now atoms)) × ((kind ≤ 2) × (n ≤ limit)) ⌝ }
     requires { ⌜ (count ≤ length (entriesAt kind n (now atoms) i)) × (at + 8 * count ≤ length (now room)) ⌝ }
     ensures { λ r. ⌜ Entered kind n (now (atoms .entry)) i count (8 * count) (now (room .entry)) (now (room .exit)) at (entriesText (take count (entriesAt kind n (now (atoms .entry)) i))) (r .atom) (r .at) ⌝ }
 {
@@ -133,7 +134,7 @@ fn put_property(
     i: usize,
     count: usize,
 ) -> Entries
-    requires { ⌜ (16 * n ≤ length (now atoms)) × ((kind ≤ 2) × (n ≤ 255)) ⌝ }
+    requires { ⌜ (16 * n ≤ length (now atoms)) × ((kind ≤ 2) × (n ≤ limit)) ⌝ }
     requires { ⌜ (count ≤ length (entriesAt kind n (now atoms) i)) × ((count ≤ 8) × (at + (10 + 8 * count) ≤ length (now room))) ⌝ }
     ensures { λ r. ⌜ Entered kind n (now (atoms .entry)) i count (10 + 8 * count) (now (room .entry)) (now (room .exit)) at (text (propertyText (record { kind = kindOf kind; entries = take count (entriesAt kind n (now (atoms .entry)) i) }) ∷ [])) (r .atom) (r .at) ⌝ }
 {
@@ -164,7 +165,7 @@ fn at_most_eight(left: usize) -> usize
 
 // All lines of a kind: entries by rising atom number, eight a line.
 fn put_properties(room: &mut [u8], at: usize, atoms: &[i32], n: usize, kind: usize) -> usize
-    requires { ⌜ (16 * n ≤ length (now atoms)) × ((kind ≤ 2) × (n ≤ 255)) ⌝ }
+    requires { ⌜ (16 * n ≤ length (now atoms)) × ((kind ≤ 2) × (n ≤ limit)) ⌝ }
     requires { ⌜ at + length (propertiesText kind n (now atoms)) ≤ length (now room) ⌝ }
     ensures { λ r. ⌜ Laid (now (room .entry)) (now (room .exit)) at (propertiesText kind n (now (atoms .entry))) r ⌝ }
 {
@@ -183,7 +184,7 @@ fn put_properties(room: &mut [u8], at: usize, atoms: &[i32], n: usize, kind: usi
 
 // How many bytes the lines of a kind take.
 fn kind_size(atoms: &[i32], n: usize, kind: usize) -> usize
-    requires { ⌜ (16 * n ≤ length (now atoms)) × ((kind ≤ 2) × (n ≤ 255)) ⌝ }
+    requires { ⌜ (16 * n ≤ length (now atoms)) × ((kind ≤ 2) × (n ≤ limit)) ⌝ }
     ensures { λ r. ⌜ r ≡ length (propertiesText kind n (now (atoms .entry))) ⌝ }
 {
     let k = entry_count(atoms, n, kind);
@@ -192,7 +193,7 @@ fn kind_size(atoms: &[i32], n: usize, kind: usize) -> usize
 
 // How many bytes the lines after the header lines take.
 pub fn molecule_size(atoms: &[i32], n: u32, m: u32) -> usize
-    requires { ⌜ (16 * n ≤ length (now atoms)) × ((n ≤ 255) × (m ≤ 255)) ⌝ }
+    requires { ⌜ (16 * n ≤ length (now atoms)) × ((n ≤ limit) × (m ≤ limit)) ⌝ }
     ensures { λ r. ⌜ r ≡ bodySize n m (now (atoms .entry)) ⌝ }
 {
     let k = n as usize;
@@ -204,7 +205,7 @@ pub fn molecule_size(atoms: &[i32], n: u32, m: u32) -> usize
 
 // The property lines and `M  END`.
 fn put_rest(room: &mut [u8], at: usize, atoms: &[i32], n: usize) -> usize
-    requires { ⌜ (16 * n ≤ length (now atoms)) × (n ≤ 255) ⌝ }
+    requires { ⌜ (16 * n ≤ length (now atoms)) × (n ≤ limit) ⌝ }
     requires { ⌜ at + restSize n (now atoms) ≤ length (now room) ⌝ }
     ensures { λ r. ⌜ Laid (now (room .entry)) (now (room .exit)) at (restText n (now (atoms .entry))) r ⌝ }
 {
@@ -224,7 +225,7 @@ pub fn put_molecule(
     m: u32,
     chiral: u32,
 ) -> usize
-    requires { ⌜ ((16 * n ≤ length (now atoms)) × (6 * m ≤ length (now bonds))) × ((n ≤ 255) × (m ≤ 255)) ⌝ }
+    requires { ⌜ ((16 * n ≤ length (now atoms)) × (6 * m ≤ length (now bonds))) × ((n ≤ limit) × (m ≤ limit)) ⌝ }
     requires { ⌜ WritableAtoms n (now atoms) ⌝ }
     requires { ⌜ at + bodySize n m (now atoms) ≤ length (now room) ⌝ }
     ensures { λ r. ⌜ Laid (now (room .entry)) (now (room .exit)) at (bodyText n m chiral (now (atoms .entry)) (now (bonds .entry))) r ⌝ }

@@ -1,6 +1,6 @@
 -- What is written for samples, and what is refused, in one table, checked by one computation. The first is the record of thirteen lines, which is written
 -- back as itself.
-use Prim.Native.Nat.{ℕ}
+use Prim.Native.Nat.{ℕ, _-_}
 use mathlib.Core.Path.{_≡_, refl}
 use mathlib.Core.List.{List, [], _∷_, _++_, map}
 use lib.ListN.{length, replicate}
@@ -17,6 +17,7 @@ use Rattle.field_symbols.specs.Write.{symbolText}
 use Rattle.rules.specs.Write.{joined, countsText, atomText, bondText, entryFields, propertyText, headerText, itemsLines, moleculeLines, recordLines}
 use Rattle.rules.specs.Canon.{chargeCode, atomOf, bondOf, entriesFrom, eights, propertiesOf, canon}
 use Rattle.rules.specs.Samples.{atom, bond, drumLines}
+use Rattle.rules.specs.Record.{atomPlaces, bondPlaces}
 use Rattle.judge_line.specs.Got.{then, need}
 use Rattle.judge_line.specs.Field.{within, elemSigned}
 use Rattle.judge_line.specs.Judge.{begins, contains, firstHeaderOf, blankb, nameOn, opened, spaced, arrowed, headerOf, itemOf, valueOf}
@@ -48,7 +49,7 @@ drumIn atoms bonds n m headers items =
     }
 
 abbrev drum : Bytes → Bytes → Given
-drum headers items = drumIn 4048 1524 2 1 headers items
+drum headers items = drumIn (atomPlaces - 32) (bondPlaces - 6) 2 1 headers items
 
 abbrev three : Bytes
 three = lines ("AB-00417" ∷ "" ∷ "drum 3" ∷ [])
@@ -77,9 +78,9 @@ samples =
     -- before that a bad item, before that a bad header line, before that tables that cannot be written, before that small tables
     kept (drum three (lot ++ lines ("$$$$" ∷ []))) 264 (Written.Refused 16 4 1) ∷
     kept (drum (lines ("" ∷ "" ∷ [])) (lines ("$$$$" ∷ []))) 264 (Written.Refused 19 3 1) ∷
-    kept (drumIn 4048 1524 1 1 [] []) 264 (Written.Refused 21 0 0) ∷
-    kept (drumIn 4047 1524 1 1 [] []) 264 (Written.Refused 2 0 0) ∷
-    kept (drumIn 4048 1523 1 1 [] []) 264 (Written.Refused 2 0 0) ∷
+    kept (drumIn (atomPlaces - 32) (bondPlaces - 6) 1 1 [] []) 264 (Written.Refused 21 0 0) ∷
+    kept (drumIn (atomPlaces - 33) (bondPlaces - 6) 1 1 [] []) 264 (Written.Refused 2 0 0) ∷
+    kept (drumIn (atomPlaces - 32) (bondPlaces - 7) 1 1 [] []) 264 (Written.Refused 2 0 0) ∷
     []
 
 -- the answer and the room that the definitions give

@@ -1,4 +1,6 @@
 // The canonical text of a record, written into lent room.
+use rules::ATOMS;
+use rules::BONDS;
 use writer_parts::PartJudged;
 ghost use mathlib.Core.Path.{_≡_};
 ghost use Prim.Native.Nat.{_+_, _*_, _≤_};
@@ -103,14 +105,14 @@ fn judge_record(
 ) -> Written
     ensures { λ r. ⌜ r ≡ writeOf (record { atoms = now (atoms .entry); bonds = now (bonds .entry); n = n; m = m; chiral = chiral; headers = now (headers .entry); items = now (items .entry) }) room ⌝ }
 {
-    if atoms.len() < 16 * 255 {
+    if atoms.len() < ATOMS {
         return Written::Refused {
             no: 2,
             line: 0,
             column: 0,
         };
     }
-    if bonds.len() < 6 * 255 {
+    if bonds.len() < BONDS {
         return Written::Refused {
             no: 2,
             line: 0,

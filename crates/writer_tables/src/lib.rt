@@ -8,7 +8,9 @@ ghost use Rattle.rules.specs.Record.{limit};
 ghost use Rattle.rules.specs.Canon.{atomRow, bondRow, isZero};
 ghost use Rattle.rules.specs.Rows.{rowAt, rowsOf};
 ghost use Rattle.writer_row.specs.Row.{atomHolds, bondHolds};
+ghost use Rattle.writer_tables.specs.PairKey.{smallEnd, keyAt};
 ghost use Rattle.writer_tables.specs.Tables.{atomsHold, bondsHold, allZero, massesHold, sameAt, firstRepeat, countsHold, tablesHold, writableTables};
+use reader_pairs::KEYS;
 
 // Two bonds of the same pair of atoms, by their numbers, counted from 1.
 pub enum Repeat {
@@ -82,18 +84,46 @@ fn same_at(bonds: &[i32], i: usize, j: usize) -> bool
     false
 }
 
-// The first bond that joins the pair of an earlier one, with the first such.
+// The number at k, if it is one that three columns can hold, else 0.
+fn end_at(bonds: &[i32], k: usize) -> u32
+    requires { ⌜ k < length (now bonds) ⌝ }
+    ensures { λ r. ⌜ r ≡ smallEnd (getD (now (bonds .entry)) k (pos 0)) ⌝ }
+{
+    let v = bonds[k];
+    if v < 0 {
+        return 0;
+    }
+    let size = v as u32;
+    if 999 < size {
+        return 0;
+    }
+    size
+}
+
+// The pair of bond i, counted from 0, as one number.
+fn key_at(bonds: &[i32], i: usize) -> u32
+    requires { ⌜ (i < limit) × (6 * limit ≤ length (now bonds)) ⌝ }
+    ensures { λ r. ⌜ r ≡ keyAt (now (bonds .entry)) i ⌝ }
+{
+    let first = end_at(bonds, 6 * i);
+    let second = end_at(bonds, 6 * i + 1);
+    reader_pairs::pair_key(first, second)
+}
+
+// The first bond that joins the pair of an earlier one, with the first such. Earlier bonds are passed in blocks by their keys.
 pub fn repeated_pair(bonds: &[i32], m: u32) -> Repeat
     requires { ⌜ (6 * limit ≤ length (now bonds)) × (m ≤ limit) ⌝ }
     ensures { λ r. ⌜ r ≡ firstRepeat (now (bonds .entry)) m ⌝ }
 {
     let count = m as usize;
+    let mut keys = [0u32; KEYS];
     let mut i = 0;
     'walk: loop {
         if count <= i {
             break 'walk Repeat::Nothing;
         }
-        let mut j = 0;
+        let key = key_at(bonds, i);
+        let mut j = reader_pairs::near_key(&keys, i, key);
         while j < i {
             if same_at(bonds, i, j) {
                 break 'walk Repeat::Pair {
@@ -103,6 +133,7 @@ pub fn repeated_pair(bonds: &[i32], m: u32) -> Repeat
             }
             j += 1;
         }
+        keys[i] = key;
         i += 1;
     }
 }

@@ -7,10 +7,10 @@ use Rattle.reader_cursor.proofs.walk_records.Statement.{statement}
 use Rattle.reader_cursor.proofs.walk_records.Tie as tie
 
 abbrev Inv-loop : tie.InvT-loop
-Inv-loop s atoms₀ bonds₀ listed₀ cursor₀ atoms bonds listed cursor = Going s atoms₀ bonds₀ atoms bonds listed cursor
+Inv-loop s atoms₀ bonds₀ listed₀ keys₀ cursor₀ atoms bonds listed keys cursor = Going s atoms₀ bonds₀ atoms bonds listed keys cursor
 
 abbrev μ-loop : tie.MeasureT-loop
-μ-loop s atoms₀ bonds₀ listed₀ cursor₀ atoms bonds listed cursor = length s - cursor .at
+μ-loop s atoms₀ bonds₀ listed₀ keys₀ cursor₀ atoms bonds listed keys cursor = length s - cursor .at
 
 new-requires : tie.Need-new-requires Inv-loop μ-loop
 new-requires c κs = search (needs, going-laws)
@@ -18,17 +18,17 @@ new-requires c κs = search (needs, going-laws)
 loop-holds : tie.Need-loop-holds Inv-loop μ-loop
 loop-holds c = search (needs, going-laws)
 
-sub-walk-record : tie.Need-sub-walk-record Inv-loop μ-loop
-sub-walk-record c = search (needs, going-laws)
+sub-walk-lines : tie.Need-sub-walk-lines Inv-loop μ-loop
+sub-walk-lines c = search (needs, going-laws)
 
-part-walk-record-start : tie.Need-part-walk-record-start Inv-loop μ-loop
-part-walk-record-start c = search (needs, going-laws)
+part-walk-lines-start : tie.Need-part-walk-lines-start Inv-loop μ-loop
+part-walk-lines-start c = search (needs, going-laws)
 
-part-walk-record-end : tie.Need-part-walk-record-end Inv-loop μ-loop
-part-walk-record-end c = search (needs, going-laws)
+part-walk-lines-end : tie.Need-part-walk-lines-end Inv-loop μ-loop
+part-walk-lines-end c = search (needs, going-laws)
 
-walk-record-requires : tie.Need-walk-record-requires Inv-loop μ-loop
-walk-record-requires c κs = search (needs, going-laws)
+walk-lines-requires : tie.Need-walk-lines-requires Inv-loop μ-loop
+walk-lines-requires c κs = search (needs, going-laws)
 
 enum-known-length : tie.Need-enum-known-length Inv-loop μ-loop
 enum-known-length c = search (needs, going-laws)
@@ -74,10 +74,10 @@ walk-records-spec =
     μ-loop
     new-requires
     loop-holds
-    sub-walk-record
-    part-walk-record-start
-    part-walk-record-end
-    walk-record-requires
+    sub-walk-lines
+    part-walk-lines-start
+    part-walk-lines-end
+    walk-lines-requires
     enum-known-length
     past-requires
     loop-less

@@ -44,7 +44,7 @@ loop-again c =
     )
 
 returns : tie.Need-returns Inv-loop μ-loop
-returns c e = missed-all _ _ _ _ (c .before .loop .inv .1 e) (search needs) (search needs)
+returns c e = missed-all _ _ _ _ _ (c .before .loop .inv .1 e) (search needs) (search needs)
 
 pub key-in-block-spec : {M : Type 1} → statement M
 key-in-block-spec =

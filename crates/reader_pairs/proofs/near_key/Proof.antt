@@ -11,6 +11,9 @@ Inv-loop keys count key i₀ i = Searching keys key count i
 abbrev μ-loop : tie.MeasureT-loop
 μ-loop keys count key i₀ i = count - i
 
+far-key-requires : tie.Need-far-key-requires Inv-loop μ-loop
+far-key-requires c κs = search (needs, searching-laws)
+
 loop-holds : tie.Need-loop-holds Inv-loop μ-loop
 loop-holds c = search (needs, searching-laws)
 
@@ -30,7 +33,7 @@ loop-less : tie.Need-loop-less Inv-loop μ-loop
 loop-less c = search (needs, searching-laws)
 
 loop-again : tie.Need-loop-again Inv-loop μ-loop
-loop-again c = searching-on _ _ _ _ (c .before .before .before .loop .inv) (c .before .key-in-block .ensures (c .if1 .left)) (c .before .before .loop-test .taken)
+loop-again c = searching-on _ _ _ _ _ (c .before .before .before .loop .inv) (c .before .key-in-block .ensures (c .if1 .left)) (c .before .before .loop-test .taken)
 
 returns-2 : tie.Need-returns-2 Inv-loop μ-loop
 returns-2 c = search (needs, searching-laws)
@@ -41,6 +44,7 @@ near-key-spec =
     (tie.spec
     Inv-loop
     μ-loop
+    far-key-requires
     loop-holds
     sub-loop
     key-in-block-requires

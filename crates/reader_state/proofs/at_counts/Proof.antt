@@ -10,6 +10,9 @@ counts-line-requires c κs = search needs
 enum-known-counts : tie.Need-enum-known-counts
 enum-known-counts c = search needs
 
+empty-requires : tie.Need-empty-requires
+empty-requires c κs = search (needs, counts-laws)
+
 counted-requires : tie.Need-counted-requires
 counted-requires c κs = search needs
 
@@ -28,6 +31,7 @@ at-counts-spec =
     (tie.spec
     counts-line-requires
     enum-known-counts
+    empty-requires
     counted-requires
     enum-known-no
     returns

@@ -52,7 +52,8 @@ same-length-2 : tie.Need-same-length-2 Inv-loop μ-loop Inv-walk μ-walk
 same-length-2 c = search (needs, line-laws, at-end-laws)
 
 returns : tie.Need-returns Inv-loop μ-loop Inv-walk μ-walk
-returns c = search (needs, line-laws, at-end-laws)
+returns c =
+    (search (needs, line-laws, at-end-laws), (search (needs, line-laws, at-end-laws), search (needs, line-laws)))
 
 sub-take-line : tie.Need-sub-take-line Inv-loop μ-loop Inv-walk μ-walk
 sub-take-line c = search (needs, line-laws)
@@ -144,7 +145,7 @@ same-length-4 : tie.Need-same-length-4 Inv-loop μ-loop Inv-walk μ-walk
 same-length-4 c = search (needs, line-laws)
 
 returns-2 : tie.Need-returns-2 Inv-loop μ-loop Inv-walk μ-walk
-returns-2 c = search (needs, line-laws)
+returns-2 c = (search (needs, line-laws), (search (needs, line-laws), search (needs, line-laws)))
 
 enum-known-no : tie.Need-enum-known-no Inv-loop μ-loop Inv-walk μ-walk
 enum-known-no c = search needs
@@ -156,7 +157,7 @@ same-length-6 : tie.Need-same-length-6 Inv-loop μ-loop Inv-walk μ-walk
 same-length-6 c = search (needs, line-laws)
 
 returns-3 : tie.Need-returns-3 Inv-loop μ-loop Inv-walk μ-walk
-returns-3 c = search (needs, line-laws)
+returns-3 c = (search (needs, line-laws), (search (needs, line-laws), search (needs, line-laws)))
 
 same-length-7 : tie.Need-same-length-7 Inv-loop μ-loop Inv-walk μ-walk
 same-length-7 c =
@@ -169,9 +170,12 @@ same-length-8 c =
 returns-4 : tie.Need-returns-4 Inv-loop μ-loop Inv-walk μ-walk
 returns-4 c = (
   pairing-found _ _ _ _ _ _ _ _ _ _ _ _ _ _ (c .before .before .before .loop .inv) (c .before .before .loop-test .taken) (c .if1 .taken) _ refl,
-  found-left _ _ _ _ _ _ _ _ _ _ _ _ _ _ (c .before .before .before .loop .inv) (c .before .before .loop-test .taken) (c .if1 .taken) _ _
-      (bond-beside _ _ _ _ _ _ _ _ _ _ _ _ (c .before .before .before .before .before .before .before .before .before .before .before .before .before .before .before .before .before .before .before .walk .inv) _ _ _ (c .before .before .before .before .before .before .before .before .before .before .before .before .before .before .before .before .before .before .line-at .ensures) (c .before .before .before .before .before .before .before .before .before .before .before .before .before .before .before .before .end .given .1) _ _ _ _ _ (c .before .before .before .before .before .before .before .before .before .before .before .take-line .ensures) (c .before .before .before .before .before .before .before .before .r2 .given .1))
-      (c .before .before .before .before .before .before .before .before .before .before .before .before .before .before .before .before .before .before .before .walk .inv .bonds-beside),
+  (
+    found-left _ _ _ _ _ _ _ _ _ _ _ _ _ _ (c .before .before .before .loop .inv) (c .before .before .loop-test .taken) (c .if1 .taken) _ _
+        (bond-beside _ _ _ _ _ _ _ _ _ _ _ _ (c .before .before .before .before .before .before .before .before .before .before .before .before .before .before .before .before .before .before .before .walk .inv) _ _ _ (c .before .before .before .before .before .before .before .before .before .before .before .before .before .before .before .before .before .before .line-at .ensures) (c .before .before .before .before .before .before .before .before .before .before .before .before .before .before .before .before .end .given .1) _ _ _ _ _ (c .before .before .before .before .before .before .before .before .before .before .before .take-line .ensures) (c .before .before .before .before .before .before .before .before .r2 .given .1))
+        (c .before .before .before .before .before .before .before .before .before .before .before .before .before .before .before .before .before .before .before .walk .inv .bonds-beside),
+    c .before .before .before .before .before .before .before .before .before .before .before .before .before .before .before .before .before .before .before .walk .inv .key-room,
+  ),
 )
 
 pub walk-lines-spec : {M : Type 1} → statement M

@@ -5,14 +5,8 @@ use borrow.Author.Needs.{needs}
 use Rattle.writer_record.proofs.judge_record.Statement.{statement}
 use Rattle.writer_record.proofs.judge_record.Tie as tie
 
-mul-if1 : tie.Need-mul-if1
-mul-if1 c = search needs
-
 returns : tie.Need-returns
 returns c = refused-tables _ _ (λ r. omega (arith, r .atoms))
-
-mul-if2 : tie.Need-mul-if2
-mul-if2 c = search needs
 
 returns-2 : tie.Need-returns-2
 returns-2 c = refused-tables _ _ (λ r. omega (arith, r .bonds))
@@ -33,9 +27,7 @@ pub judge-record-spec : {M : Type 1} → statement M
 judge-record-spec =
     tie.close
     (tie.spec
-    mul-if1
     returns
-    mul-if2
     returns-2
     writable-requires
     judge-parts-requires

@@ -1,24 +1,30 @@
 -- `writer_tables::repeated_pair` meets its contract.
-use borrow.Author.Needs.{needs}
 use Prim.Native.Nat.{_-_}
 use Rattle.writer_tables.proofs.Pairs.{Walk, Search, walking}
+use borrow.Author.Needs.{needs}
 use Rattle.writer_tables.proofs.repeated_pair.Statement.{statement}
 use Rattle.writer_tables.proofs.repeated_pair.Tie as tie
 
 abbrev Inv-loop : tie.InvT-loop
-Inv-loop bonds m count i j₀ j = Search bonds m i j
+Inv-loop bonds m count keys i key j₀ j = Search bonds m keys key i j
 
 abbrev μ-loop : tie.MeasureT-loop
-μ-loop bonds m count i j₀ j = i - j
+μ-loop bonds m count keys i key j₀ j = i - j
 
 abbrev Inv-walk : tie.InvT-walk
-Inv-walk bonds m count i₀ i = Walk bonds m i
+Inv-walk bonds m count keys₀ i₀ keys i = Walk bonds m keys i
 
 abbrev μ-walk : tie.MeasureT-walk
-μ-walk bonds m count i₀ i = m - i
+μ-walk bonds m count keys₀ i₀ keys i = m - i
 
 walk-holds : tie.Need-walk-holds Inv-loop μ-loop Inv-walk μ-walk
 walk-holds c = search (needs, walking)
+
+key-at-requires : tie.Need-key-at-requires Inv-loop μ-loop Inv-walk μ-walk
+key-at-requires c κs = search (needs, walking)
+
+near-key-requires : tie.Need-near-key-requires Inv-loop μ-loop Inv-walk μ-walk
+near-key-requires c κs = search (needs, walking)
 
 loop-holds : tie.Need-loop-holds Inv-loop μ-loop Inv-walk μ-walk
 loop-holds c = search (needs, walking)
@@ -26,11 +32,11 @@ loop-holds c = search (needs, walking)
 same-at-requires : tie.Need-same-at-requires Inv-loop μ-loop Inv-walk μ-walk
 same-at-requires c κs = search (needs, walking)
 
-add-t10 : tie.Need-add-t10 Inv-loop μ-loop Inv-walk μ-walk
-add-t10 c = search (needs, walking)
+add-t13 : tie.Need-add-t13 Inv-loop μ-loop Inv-walk μ-walk
+add-t13 c = search (needs, walking)
 
-add-t11 : tie.Need-add-t11 Inv-loop μ-loop Inv-walk μ-walk
-add-t11 c = search (needs, walking)
+add-t14 : tie.Need-add-t14 Inv-loop μ-loop Inv-walk μ-walk
+add-t14 c = search (needs, walking)
 
 add-j : tie.Need-add-j Inv-loop μ-loop Inv-walk μ-walk
 add-j c = search (needs, walking)
@@ -40,6 +46,12 @@ loop-less c = search (needs, walking)
 
 loop-again : tie.Need-loop-again Inv-loop μ-loop Inv-walk μ-walk
 loop-again c = search (needs, walking)
+
+mul-keys : tie.Need-mul-keys Inv-loop μ-loop Inv-walk μ-walk
+mul-keys c = search (needs, walking)
+
+array-write-keys : tie.Need-array-write-keys Inv-loop μ-loop Inv-walk μ-walk
+array-write-keys c = search (needs, walking)
 
 add-i : tie.Need-add-i Inv-loop μ-loop Inv-walk μ-walk
 add-i c = search (needs, walking)
@@ -65,13 +77,17 @@ repeated-pair-spec =
     Inv-walk
     μ-walk
     walk-holds
+    key-at-requires
+    near-key-requires
     loop-holds
     same-at-requires
-    add-t10
-    add-t11
+    add-t13
+    add-t14
     add-j
     loop-less
     loop-again
+    mul-keys
+    array-write-keys
     add-i
     walk-less
     walk-again
