@@ -1,27 +1,28 @@
--- Laws on the columns of an integer field, from column a up to column e: its spaces, its sign, its digits.
+-- Laws on the columns of an integer field, from column a up to column e: its spaces, its sign, its digits, the spaces after them.
 use Prim.Native.Nat.{ℕ, zero, suc, _+_, _-_, _*_, _^_, _≤_, _<_, zero-le}
 use native.Mathlib.Nat.{not-suc-le-zero, le-of-suc-le-suc, lt-of-lt-of-le, mul-le-mul-right, mul-assoc, pow-suc, pow-succ', pow-le-pow-right}
 use native.Mathlib.Numerals.{add-one}
 use native.Mathlib.Omega.{arith}
-use mathlib.Core.Path.{_≡_, refl, sym, _∙_}
-use mathlib.Core.List.{[], _∷_}
+use mathlib.Core.Path.{_≡_, refl, sym, ap, _∙_}
+use mathlib.Core.List.{[], _∷_, _++_, append-nil}
 use mathlib.Core.Bool.{Bool, true, false, cond, _&&_}
 use lib.Dec.{eqb, leb}
-use lib.ListN.{length, getD}
+use lib.ListN.{length, length-append, getD}
 use lib.IntN.{ℤ, pos, negℤ}
 use borrow.Author.Tests.{leb-true, eq-eqb, ne-eqb, le-leb, lt-leb}
 use mir.Syntax.{w32}
 use mir.Val.{Fits}
 use Rattle.text.specs.Text.{Bytes, Line, Each}
-use Rattle.text.specs.Columns.{column, columns, columnsFor}
+use Rattle.text.specs.Columns.{column, columns, columnsFor, spaces}
 use Rattle.text.specs.Laws.{and-true, getD-any}
 use Rattle.text.specs.Agree.{columns-length, columns-step, columns-over}
 use Rattle.field_numbers.specs.Number.{Digits, Integer, decimalAfter}
-use Rattle.field_numbers.specs.Read.{is, isDigit, allDigits, someDigits, afterSpaces, signed, digitsRead, afterBlank, integerIn, ranged, numberIn, signedRanged, signedIn}
-use Rattle.field_numbers.specs.Agree.{integer-read}
-use Rattle.field_numbers.specs.Parts.{sizeAfter, sizeIn, withSign, sizedFrom, sizedIn, integerOf, LoneDigit}
+use Rattle.field_numbers.specs.Read.{is, isDigit, allDigits, someDigits, afterSpaces, before, beforeSpaces, signed, digitsRead, afterBlank, integerIn, ranged, numberIn, signedRanged, signedIn}
+use Rattle.field_numbers.specs.Agree.{integer-read, spaces-only, spaces-shed, led, before-ink, trailed}
+use Rattle.field_numbers.specs.Parts.{sizeAfter, sizeIn, tailIn, withSign, signIn, sizedAs, sizedFrom, sizedIn, integerOf, LoneDigit}
 use Rattle.field_numbers.specs.declared.NumberRead.{NumberRead}
 use Rattle.field_numbers.specs.declared.SignedRead.{SignedRead}
+use Rattle.field_numbers.specs.declared.Sign.{Sign}
 use Rattle.field_numbers.specs.declared.Size.{Size}
 use Rattle.field_numbers.specs.declared.SizedRead.{SizedRead}
 
@@ -50,7 +51,7 @@ pub passing-end : (l : Line) (i e a : ℕ) → Passing l i e a → e ≤ a → a
 unfolding afterSpaces
 passing-end l i e a p h = p .same ∙ rw (columns-over l a e h, columns-over l e e (omega arith))
 
--- ---- the walk over digits: those from column i on are those from column a on, after digits that stand for k
+-- ---- the walk over digits and nothing else: those from column i on are those from column a on, after digits that stand for k
 pub record Counting (l : Line) (i e k a : ℕ) : Type 0 where
   pub low : i ≤ a
   pub high : a ≤ e
@@ -98,47 +99,176 @@ unfolding sizeAfter allDigits decimalAfter
 counting-end l i e k a c h = sym (c .same ∙ rw (columns-over l a e h))
 
 -- in a turn k has at most eight digits
-counting-small : (l : Line) (i e k a : ℕ) → Counting l i e k a → a < e → e ≤ i + 9 → k < 100000000
-counting-small l i e k a c h w = omega (arith, c .small, ten-mono {m = a - i} {n = 8} (omega arith))
+turn-small : (i e k a : ℕ) → k < 10 ^ (a - i) → a < e → e ≤ i + 9 → k < 100000000
+turn-small i e k a s h w = omega (arith, s, ten-mono {m = a - i} {n = 8} (omega arith))
 
 pub counting-times : (l : Line) (i e k a : ℕ) → Counting l i e k a → a < e → e ≤ i + 9 → Fits w32 (k * 10)
-counting-times l i e k a c h w = record { fits = omega (arith, counting-small l i e k a c h w) }
+counting-times l i e k a c h w = record { fits = omega (arith, turn-small i e k a (c .small) h w) }
 
 pub counting-plus : (l : Line) (i e k a b : ℕ) → Counting l i e k a → a < e → e ≤ i + 9 → b ≤ 57 → Fits w32 (k * 10 + (b - 48))
-counting-plus l i e k a b c h w high = record { fits = omega (arith, counting-small l i e k a c h w) }
+counting-plus l i e k a b c h w high = record { fits = omega (arith, turn-small i e k a (c .small) h w) }
+
+-- ---- spaces to the last column
+pub tail-blank : (l : Line) (a e s k : ℕ) → afterSpaces (columnsFor l a (e - a)) ≡ columnsFor l s (e - s) → e ≤ s → Size.Is k ≡ tailIn k (afterSpaces (columnsFor l a (e - a)))
+unfolding tailIn
+tail-blank l a e s k p h = sym (rw (p, columns-over l s e h))
+
+pub tail-ink : (l : Line) (a e s k : ℕ) → afterSpaces (columnsFor l a (e - a)) ≡ columnsFor l s (e - s) → s < e → Size.Malformed ≡ tailIn k (afterSpaces (columnsFor l a (e - a)))
+unfolding tailIn
+tail-ink l a e s k p h = sym (rw (p, columns-step l s e h))
+
+blank-shed : (cs : Bytes) → afterSpaces cs ≡ [] → beforeSpaces cs ≡ []
+blank-shed cs h =
+    let q = led cs in
+    ap beforeSpaces (q .parts ∙ ap (λ (r : Bytes). spaces (q .count) ++ r) h ∙ append-nil _) ∙ spaces-shed (q .count)
+
+ink-kept : (cs : Bytes) (x : ℕ) (xs : Bytes) → afterSpaces cs ≡ x ∷ xs → beforeSpaces cs ≡ [] → ⊥
+ink-kept cs x xs e h =
+    let q = trailed cs in
+    let p : afterSpaces cs ≡ [] = ap afterSpaces (q .parts ∙ ap (λ (r : Bytes). r ++ spaces (q .count)) h) ∙ spaces-only (q .count) in
+    let z : _≡_ {A = ℕ} 0 1 = cc (p, e) in
+    omega arith
+
+-- a byte that is no digit: with the spaces after it nothing, or malformed
+size-not : (b : ℕ) (rest : Bytes) → isDigit b ≡ false → sizeIn (before b rest) ≡ Size.Malformed
+unfolding sizeIn allDigits
+size-not b [] h = by (eqb b 32)
+  where
+    by : (t : Bool) → sizeIn (cond t [] (b ∷ [])) ≡ Size.Malformed
+    by true = refl
+    by false = rw h
+size-not b (c ∷ cs) h = rw h
+
+after-not : (k b : ℕ) (rest : Bytes) → isDigit b ≡ false → (before b rest ≡ [] → ⊥) → sizeAfter k (before b rest) ≡ Size.Malformed
+unfolding sizeAfter allDigits
+after-not k b [] h n = by (eqb b 32) n
+  where
+    by : (t : Bool) → (_≡_ {A = Bytes} (cond t [] (b ∷ [])) [] → ⊥) → sizeAfter k (cond t [] (b ∷ [])) ≡ Size.Malformed
+    by true n = absurd (n refl)
+    by false n = rw h
+after-not k b (c ∷ cs) h n = rw h
+
+after-none : (k : ℕ) → sizeAfter k [] ≡ Size.Is k
+unfolding sizeAfter allDigits decimalAfter
+after-none k = refl
+
+tail-is : (k b : ℕ) (bs : Bytes) → isDigit b ≡ false → sizeAfter k (beforeSpaces (b ∷ bs)) ≡ tailIn k (afterSpaces (b ∷ bs))
+unfolding tailIn beforeSpaces
+tail-is k b bs h = by (afterSpaces (b ∷ bs)) refl
+  where
+    by : (r : Bytes) → afterSpaces (b ∷ bs) ≡ r → sizeAfter k (beforeSpaces (b ∷ bs)) ≡ tailIn k r
+    by [] e = ap (sizeAfter k) (blank-shed (b ∷ bs) e) ∙ after-none k
+    by (x ∷ xs) e = after-not k b (beforeSpaces bs) h (ink-kept (b ∷ bs) x xs e)
+
+digit-low : (b : ℕ) → b < 48 → isDigit b ≡ false
+digit-low b low = rw (lt-leb 48 b low)
+
+digit-high : (b : ℕ) → 48 ≤ b → 57 < b → isDigit b ≡ false
+digit-high b low high = rw (le-leb 48 b low, lt-leb b 57 high)
+
+digit-ink : (b : ℕ) → 48 ≤ b → eqb b 32 ≡ false
+digit-ink b low = ne-eqb b 32 (λ e. omega arith)
+
+-- ---- the walk over digits that spaces may follow: those from column i on are those from column a on, after digits that stand for k
+pub record Ending (l : Line) (i e k a : ℕ) : Type 0 where
+  pub low : i < a
+  pub high : a ≤ e
+  pub small : k < 10 ^ (a - i)
+  pub same : sizeIn (beforeSpaces (columnsFor l i (e - i))) ≡ sizeAfter k (beforeSpaces (columnsFor l a (e - a)))
+
+pub ending-none : (l : Line) (i e : ℕ) → e ≤ i → Size.Malformed ≡ sizeIn (beforeSpaces (columnsFor l i (e - i)))
+unfolding sizeIn beforeSpaces
+ending-none l i e h = sym (rw (columns-over l i e h))
+
+module _ (l : Line) (i e b : ℕ) (h : i < e) (s : b ≡ column l i) where
+  first-not : isDigit b ≡ false → sizeIn (beforeSpaces (columnsFor l i (e - i))) ≡ Size.Malformed
+  unfolding beforeSpaces
+  first-not n = rw (columns-step l i e h, ← s) (size-not b (beforeSpaces (columnsFor l (i + 1) (e - (i + 1)))) n)
+
+  pub first-low : b < 48 → Size.Malformed ≡ sizeIn (beforeSpaces (columnsFor l i (e - i)))
+  first-low low = sym (first-not (digit-low b low))
+
+  pub first-high : 48 ≤ b → 57 < b → Size.Malformed ≡ sizeIn (beforeSpaces (columnsFor l i (e - i)))
+  first-high low high = sym (first-not (digit-high b low high))
+
+  first-same : 48 ≤ b → b ≤ 57 → sizeIn (beforeSpaces (columnsFor l i (e - i))) ≡ sizeAfter (b - 48) (beforeSpaces (columnsFor l (i + 1) (e - (i + 1))))
+  unfolding sizeIn sizeAfter allDigits decimalAfter beforeSpaces
+  first-same low high =
+      let rest : Bytes = beforeSpaces (columnsFor l (i + 1) (e - (i + 1))) in
+      let z : 0 * 10 + (b - 48) ≡ b - 48 = omega arith in
+      rw (columns-step l i e h, ← s, before-ink b rest (digit-ink b low), le-leb 48 b low, le-leb b 57 high) (ap (λ (n : ℕ). sizeAfter n rest) z)
+
+  pub ending-start : 48 ≤ b → b ≤ 57 → Ending l i e (b - 48) (i + 1)
+  ending-start low high =
+      let z : i + 1 - i ≡ 1 = omega arith in
+      record { low = omega arith; high = omega arith; small = rw z (omega arith); same = first-same low high }
+
+module _ (l : Line) (i e k a b : ℕ) (c : Ending l i e k a) (h : a < e) (s : b ≡ column l a) where
+  pub ending-tail : (r : Size) → b < 48 → r ≡ tailIn k (afterSpaces (columnsFor l a (e - a))) → r ≡ sizeIn (beforeSpaces (columnsFor l i (e - i)))
+  ending-tail r low t = t ∙ sym (c .same ∙ rw (columns-step l a e h, ← s) (tail-is k b (columnsFor l (a + 1) (e - (a + 1))) (digit-low b low)))
+
+  pub ending-high : 48 ≤ b → 57 < b → Size.Malformed ≡ sizeIn (beforeSpaces (columnsFor l i (e - i)))
+  unfolding sizeAfter allDigits beforeSpaces
+  ending-high low high =
+      sym (c .same ∙ rw (columns-step l a e h, ← s, before-ink b (beforeSpaces (columnsFor l (a + 1) (e - (a + 1)))) (digit-ink b low), le-leb 48 b low, lt-leb b 57 high))
+
+  pub ending-next : 48 ≤ b → b ≤ 57 → Ending l i e (k * 10 + (b - 48)) (a + 1)
+  unfolding sizeAfter allDigits decimalAfter beforeSpaces
+  ending-next low high = record {
+    low = omega (arith, c .low);
+    high = omega arith;
+    small = omega (arith, power-more i a (omega (arith, c .low)), c .small);
+    same = c .same
+        ∙ rw (columns-step l a e h, ← s, before-ink b (beforeSpaces (columnsFor l (a + 1) (e - (a + 1)))) (digit-ink b low), le-leb 48 b low, le-leb b 57 high);
+  }
+
+pub ending-end : (l : Line) (i e k a : ℕ) → Ending l i e k a → e ≤ a → Size.Is k ≡ sizeIn (beforeSpaces (columnsFor l i (e - i)))
+unfolding beforeSpaces
+ending-end l i e k a c h = sym (c .same ∙ rw (columns-over l a e h) (after-none k))
+
+pub ending-times : (l : Line) (i e k a : ℕ) → Ending l i e k a → a < e → e ≤ i + 9 → Fits w32 (k * 10)
+ending-times l i e k a c h w = record { fits = omega (arith, turn-small i e k a (c .small) h w) }
+
+pub ending-plus : (l : Line) (i e k a b : ℕ) → Ending l i e k a → a < e → e ≤ i + 9 → b ≤ 57 → Fits w32 (k * 10 + (b - 48))
+ending-plus l i e k a b c h w high = record { fits = omega (arith, turn-small i e k a (c .small) h w) }
 
 -- ---- the field
 pub sized-blank : (negatives : Bool) (l : Line) (i j a : ℕ) → afterSpaces (columnsFor l i (j + 1 - i)) ≡ columnsFor l a (j + 1 - a) → j + 1 ≤ a → SizedRead.Is false 0 ≡ sizedIn negatives (columns l i j)
 unfolding sizedIn sizedFrom
 sized-blank negatives l i j a p h = sym (rw (← add-one j, p, columns-over l a (j + 1) h))
 
-pub sized-minus : (negatives t : Bool) (l : Line) (i j a : ℕ) (r : SizedRead) → afterSpaces (columnsFor l i (j + 1 - i)) ≡ columnsFor l a (j + 1 - a) → a < j + 1
-    → t ≡ (negatives && eqb (column l a) 45) → t ≡ true → r ≡ withSign true (sizeIn (columnsFor l (a + 1) (j + 1 - (a + 1)))) → r ≡ sizedIn negatives (columns l i j)
-unfolding sizedIn sizedFrom
-sized-minus negatives t l i j a r p h m s e = e ∙ sym (rw (← add-one j, p, columns-step l a (j + 1) h, ← m, s))
+module _ (negatives : Bool) (t : Sign) (l : Line) (i j a : ℕ) (r : SizedRead) (p : afterSpaces (columnsFor l i (j + 1 - i)) ≡ columnsFor l a (j + 1 - a)) (h : a < j + 1)
+    (m : t ≡ signIn negatives (column l a)) where
+  pub sized-plain : t ≡ Sign.None → r ≡ withSign false (sizeIn (beforeSpaces (columnsFor l a (j + 1 - a)))) → r ≡ sizedIn negatives (columns l i j)
+  unfolding sizedIn sizedFrom sizedAs
+  sized-plain s e = e ∙ sym (rw (← add-one j, p, columns-step l a (j + 1) h, ← m, s))
 
-pub sized-plain : (negatives t : Bool) (l : Line) (i j a : ℕ) (r : SizedRead) → afterSpaces (columnsFor l i (j + 1 - i)) ≡ columnsFor l a (j + 1 - a) → a < j + 1
-    → t ≡ (negatives && eqb (column l a) 45) → t ≡ false → r ≡ withSign false (sizeIn (columnsFor l a (j + 1 - a))) → r ≡ sizedIn negatives (columns l i j)
-unfolding sizedIn sizedFrom
-sized-plain negatives t l i j a r p h m s e = e ∙ sym (rw (← add-one j, p, columns-step l a (j + 1) h, ← m, s))
+  pub sized-plus : t ≡ Sign.Plus → r ≡ withSign false (sizeIn (beforeSpaces (columnsFor l (a + 1) (j + 1 - (a + 1))))) → r ≡ sizedIn negatives (columns l i j)
+  unfolding sizedIn sizedFrom sizedAs
+  sized-plus s e = e ∙ sym (rw (← add-one j, p, columns-step l a (j + 1) h, ← m, s))
+
+  pub sized-minus : t ≡ Sign.Minus → r ≡ withSign true (sizeIn (beforeSpaces (columnsFor l (a + 1) (j + 1 - (a + 1))))) → r ≡ sizedIn negatives (columns l i j)
+  unfolding sizedIn sizedFrom sizedAs
+  sized-minus s e = e ∙ sym (rw (← add-one j, p, columns-step l a (j + 1) h, ← m, s))
 
 -- ---- sign and size are the reading
-sized-digits : (minus : Bool) (ds : Bytes) → integerOf (withSign minus (sizeIn ds)) ≡ digitsRead minus ds
+sized-digits : (minus : Bool) (bs : Bytes) → integerOf (withSign minus (sizeIn (beforeSpaces bs))) ≡ digitsRead minus bs
 unfolding integerOf digitsRead withSign sizeIn
-sized-digits minus ds = by (someDigits ds) refl
+sized-digits minus bs = by (someDigits (beforeSpaces bs)) refl
   where
-    by : (t : Bool) → someDigits ds ≡ t → integerOf (withSign minus (sizeIn ds)) ≡ digitsRead minus ds
+    by : (t : Bool) → someDigits (beforeSpaces bs) ≡ t → integerOf (withSign minus (sizeIn (beforeSpaces bs))) ≡ digitsRead minus bs
     by true e = rw e
     by false e = rw e
 
 sized-from : (negatives : Bool) (cs : Bytes) → integerOf (sizedFrom negatives cs) ≡ afterBlank negatives cs
-unfolding integerOf sizedFrom afterBlank
+unfolding integerOf sizedFrom sizedAs signIn afterBlank
 sized-from negatives [] = refl
-sized-from negatives (b ∷ bs) = by (negatives && eqb b 45)
+sized-from negatives (b ∷ bs) = by (negatives && eqb b 45) (negatives && eqb b 43)
   where
-    by : (t : Bool) → integerOf (cond t (withSign true (sizeIn bs)) (withSign false (sizeIn (b ∷ bs)))) ≡ cond t (digitsRead true bs) (digitsRead false (b ∷ bs))
-    by true = sized-digits true bs
-    by false = sized-digits false (b ∷ bs)
+    by : (s t : Bool) → integerOf (sizedAs (cond s Sign.Minus (cond t Sign.Plus Sign.None)) b bs) ≡ cond s (digitsRead true bs) (cond t (digitsRead false bs) (digitsRead false (b ∷ bs)))
+    by true t = sized-digits true bs
+    by false true = sized-digits false bs
+    by false false = sized-digits false (b ∷ bs)
 
 pub integer-of : (negatives : Bool) (cs : Bytes) → integerIn negatives cs ≡ integerOf (sizedIn negatives cs)
 unfolding integerIn sizedIn
@@ -151,9 +281,9 @@ sign-is t m (Size.Is n) k h = (cc, cc)
 sign-is t m Size.Malformed k h = absurd (let z : _≡_ {A = ℕ} 0 1 = cc in omega arith)
 
 no-sign-from : (cs : Bytes) (m : Bool) (k : ℕ) → sizedFrom false cs ≡ SizedRead.Is m k → m ≡ false
-unfolding sizedFrom
+unfolding sizedFrom sizedAs signIn
 no-sign-from [] m k h = cc
-no-sign-from (b ∷ bs) m k h = sign-is false m (sizeIn (b ∷ bs)) k h .0
+no-sign-from (b ∷ bs) m k h = sign-is false m (sizeIn (beforeSpaces (b ∷ bs))) k h .0
 
 no-sign : (cs : Bytes) (m : Bool) (k : ℕ) → sizedIn false cs ≡ SizedRead.Is m k → m ≡ false
 unfolding sizedIn
@@ -208,14 +338,27 @@ spaces-length (b ∷ bs) = by (eqb b 32) (spaces-length bs)
     by true h = omega arith
     by false h = omega arith
 
+shed-length : (cs : Bytes) → length (beforeSpaces cs) ≤ length cs
+shed-length cs = let q = trailed cs in omega (arith, ap length (q .parts), length-append (beforeSpaces cs) (spaces (q .count)))
+
+-- digits that spaces may follow, among at most n bytes
+shed-below : (n : ℕ) (t m : Bool) (cs : Bytes) (k : ℕ) → length cs ≤ n → withSign t (sizeIn (beforeSpaces cs)) ≡ SizedRead.Is m k → k < 10 ^ n
+shed-below n t m cs k w h =
+    omega (
+      arith,
+      size-below (beforeSpaces cs) k (sign-is t m (sizeIn (beforeSpaces cs)) k h .1),
+      ten-mono {m = length (beforeSpaces cs)} {n = n} (omega (arith, shed-length cs)),
+    )
+
 from-below : (negatives m : Bool) (cs : Bytes) (k : ℕ) → sizedFrom negatives cs ≡ SizedRead.Is m k → k < 10 ^ length cs
-unfolding sizedFrom
+unfolding sizedFrom sizedAs
 from-below negatives m [] k h = let z : 0 ≡ k = cc in omega arith
-from-below negatives m (b ∷ bs) k h = by (negatives && eqb b 45) h
+from-below negatives m (b ∷ bs) k h = by (signIn negatives b) h
   where
-    by : (t : Bool) → cond t (withSign true (sizeIn bs)) (withSign false (sizeIn (b ∷ bs))) ≡ SizedRead.Is m k → k < 10 ^ suc (length bs)
-    by true h = omega (arith, size-below bs k (sign-is true m (sizeIn bs) k h .1), ten-mono {m = length bs} {n = suc (length bs)} (omega arith))
-    by false h = size-below (b ∷ bs) k (sign-is false m (sizeIn (b ∷ bs)) k h .1)
+    by : (s : Sign) → sizedAs s b bs ≡ SizedRead.Is m k → k < 10 ^ suc (length bs)
+    by Sign.None h = shed-below (suc (length bs)) false m (b ∷ bs) k (omega arith) h
+    by Sign.Plus h = shed-below (suc (length bs)) false m bs k (omega arith) h
+    by Sign.Minus h = shed-below (suc (length bs)) true m bs k (omega arith) h
 
 sized-below : (negatives m : Bool) (cs : Bytes) (k : ℕ) → sizedIn negatives cs ≡ SizedRead.Is m k → k < 10 ^ length cs
 unfolding sizedIn
@@ -231,15 +374,31 @@ pub ruleset passing-laws = (passing-start, passing-next, passing-stop, passing-e
 
 pub ruleset counting-laws = (digits-none, counting-start, counting-low, counting-high, counting-next, counting-end, counting-times, counting-plus)
 
-pub ruleset sized-laws = (sized-blank, sized-minus, sized-plain)
+pub ruleset tail-laws = (tail-blank, tail-ink)
+
+pub ruleset ending-laws = (ending-none, first-low, first-high, ending-start, ending-tail, ending-high, ending-next, ending-end, ending-times, ending-plus)
+
+pub ruleset sized-laws = (sized-blank, sized-plain, sized-plus, sized-minus)
 
 pub ruleset range-laws = (number-sized, number-malformed, signed-sized, signed-malformed, sized-small)
 
-pub minus-is : (negatives : Bool) (b k : ℕ) → negatives ≡ true → b ≡ k → eqb b 45 ≡ (negatives && eqb k 45)
-minus-is negatives b k n e = rw (n, e)
+-- ---- the sign
+module _ (negatives : Bool) (b k : ℕ) (n : negatives ≡ true) (e : b ≡ k) where
+  pub sign-minus : b ≡ 45 → Sign.Minus ≡ signIn negatives k
+  unfolding signIn
+  sign-minus h = sym (rw (n, ← e, h))
 
-pub minus-not : (negatives : Bool) (k : ℕ) → negatives ≡ false → false ≡ (negatives && eqb k 45)
-minus-not negatives k n = rw n
+  pub sign-plus : (b ≡ 45 → ⊥) → b ≡ 43 → Sign.Plus ≡ signIn negatives k
+  unfolding signIn
+  sign-plus m h = sym (rw (n, ← e, h))
+
+  pub sign-bare : (b ≡ 45 → ⊥) → (b ≡ 43 → ⊥) → Sign.None ≡ signIn negatives k
+  unfolding signIn
+  sign-bare m p = sym (rw (n, ← e, ne-eqb b 45 m, ne-eqb b 43 p))
+
+pub sign-never : (negatives : Bool) (k : ℕ) → negatives ≡ false → Sign.None ≡ signIn negatives k
+unfolding signIn
+sign-never negatives k n = sym (rw n)
 
 pub sign-case : (minus : Bool) (x y : Size) (k : ℕ) → x ≡ y → x ≡ Size.Is k → SizedRead.Is minus k ≡ withSign minus y
 unfolding withSign
@@ -313,7 +472,7 @@ unfolding decimalAfter Each
 lone-digits k h = record { some = omega arith; each = (omega arith, tt); number = omega arith }
 
 lone-read : (negatives : Bool) (k : ℕ) → k ≤ 9 → integerIn negatives (32 ∷ 32 ∷ (48 + k) ∷ []) ≡ is (pos k)
-lone-read negatives k h = integer-read negatives (Integer.plain 2 ((48 + k) ∷ []) k refl (lone-digits k h))
+lone-read negatives k h = integer-read negatives (Integer.plain 2 ((48 + k) ∷ []) 0 k refl (lone-digits k h))
 
 pub lone-number : (least most : ℕ) (l : Line) (i j k : ℕ) (r : NumberRead) → LoneDigit l i k → k ≤ 9 → j ≡ i + 2 → r ≡ ranged least most (is (pos k)) → r ≡ numberIn least most (columns l i j)
 unfolding LoneDigit numberIn
@@ -331,7 +490,7 @@ pub ruleset within-laws = (within-low, within-high, within-both)
 
 pub ruleset between-laws = (between-low, between-high, between-minus, between-plain)
 
-pub ruleset minus-laws = (minus-is, minus-not)
+pub ruleset sign-at-laws = (sign-minus, sign-plus, sign-bare, sign-never)
 
 pub ruleset sign-laws = (sign-case, sign-none)
 

@@ -12,7 +12,7 @@ use Rattle.text.specs.Text.{Bytes, Line, Each}
 use Rattle.text.specs.Columns.{columns, spaces}
 use Rattle.text.specs.Laws.{and-true}
 use Rattle.field_numbers.specs.Number.{Digit, Digits, Integer, Number, Signed, Listed, SignedListed, Between, decimalAfter}
-use Rattle.field_numbers.specs.Read.{IntegerRead, is, malformed, isDigit, allDigits, someDigits, afterSpaces, signed, digitsRead, afterBlank, integerIn, ranged, numberIn, isBetween, signedRanged, signedIn}
+use Rattle.field_numbers.specs.Read.{IntegerRead, is, malformed, isDigit, allDigits, someDigits, afterSpaces, before, beforeSpaces, signed, digitsRead, afterBlank, integerIn, ranged, numberIn, isBetween, signedRanged, signedIn}
 use Rattle.field_numbers.specs.declared.NumberRead.{NumberRead}
 use Rattle.field_numbers.specs.declared.SignedRead.{SignedRead}
 
@@ -41,7 +41,7 @@ digit-each (b ∷ bs) h =
     let a = and-true (isDigit b) (allDigits bs) h in
     (is-digit b (a .0), digit-each bs (a .1))
 
--- a digit is neither a space nor a `-`
+-- a digit is neither a space nor a sign
 pub digit-not : (d k : ℕ) → k < 48 → Digit d → eqb d k ≡ false
 digit-not d k h t = let l : 48 ≤ d = t .0 in ne-eqb d k (λ e. omega arith)
 
@@ -72,6 +72,41 @@ unfolding afterSpaces
 led [] = record { count = 0; parts = refl }
 led (b ∷ bs) = led-by b bs (eqb b 32) refl (led bs)
 
+-- ---- trailing spaces
+pub before-ink : (b : ℕ) (rest : Bytes) → eqb b 32 ≡ false → before b rest ≡ b ∷ rest
+before-ink b [] h = rw h
+before-ink b (c ∷ cs) h = refl
+
+pub spaces-shed : (j : ℕ) → beforeSpaces (spaces j) ≡ []
+unfolding beforeSpaces
+spaces-shed zero = refl
+spaces-shed (suc j) = rw (spaces-shed j)
+
+pub digits-shed : (ds : Bytes) (j : ℕ) → Each Digit ds → beforeSpaces (ds ++ spaces j) ≡ ds
+unfolding beforeSpaces Each
+digits-shed [] j h = spaces-shed j
+digits-shed (d ∷ ds) j h = ap (before d) (digits-shed ds j (h .1)) ∙ before-ink d ds (digit-not d 32 (omega arith) (h .0))
+
+-- bytes, and then so many spaces
+pub record Trailed (ds cs : Bytes) : Type 0 where
+  pub count : ℕ
+  pub parts : cs ≡ ds ++ spaces count
+
+trail-last : (b : ℕ) (bs : Bytes) (t : Bool) → eqb b 32 ≡ t → Trailed [] bs → Trailed (cond t [] (b ∷ [])) (b ∷ bs)
+trail-last b bs true e l =
+    let s : b ≡ 32 = eqb-true b 32 e in
+    record { count = suc (l .count); parts = rw s (ap (λ (r : Bytes). 32 ∷ r) (l .parts)) }
+trail-last b bs false e l = record { count = l .count; parts = ap (λ (r : Bytes). b ∷ r) (l .parts) }
+
+trail-by : (b : ℕ) (bs rest : Bytes) → Trailed rest bs → Trailed (before b rest) (b ∷ bs)
+trail-by b bs [] l = trail-last b bs (eqb b 32) refl l
+trail-by b bs (c ∷ cs) l = record { count = l .count; parts = ap (λ (r : Bytes). b ∷ r) (l .parts) }
+
+pub trailed : (cs : Bytes) → Trailed (beforeSpaces cs) cs
+unfolding beforeSpaces
+trailed [] = record { count = 0; parts = refl }
+trailed (b ∷ bs) = trail-by b bs (beforeSpaces bs) (trailed bs)
+
 -- ---- digits
 pub digits-some : (ds : Bytes) (k : ℕ) → Digits ds k → someDigits ds ≡ true
 digits-some [] k h = let z : 1 ≤ 0 = h .some in absurd (omega arith)
@@ -82,9 +117,9 @@ some-digits [] h = absurd (let z : _≡_ {A = ℕ} 0 1 = cc in omega arith)
 some-digits (d ∷ ds) h = record { some = omega arith; each = digit-each (d ∷ ds) h; number = refl }
 
 -- digits as they are read, with the sign before them
-pub digits-read : (minus : Bool) (ds : Bytes) (k : ℕ) → Digits ds k → digitsRead minus ds ≡ is (signed minus k)
+pub digits-read : (minus : Bool) (ds : Bytes) (j k : ℕ) → Digits ds k → digitsRead minus (ds ++ spaces j) ≡ is (signed minus k)
 unfolding digitsRead
-digits-read minus ds k h = rw (digits-some ds k h, h .number)
+digits-read minus ds j k h = rw (digits-shed ds j (h .each), digits-some ds k h, h .number)
 
 record Read (minus : Bool) (ds : Bytes) (z : ℤ) : Type 0 where
   digits : Digits ds (decimalAfter 0 ds)
@@ -94,34 +129,48 @@ read-by : (minus : Bool) (ds : Bytes) (z : ℤ) (t : Bool) → someDigits ds ≡
 read-by minus ds z true t h = record { digits = some-digits ds t; number = cc }
 read-by minus ds z false t h = absurd (let z : _≡_ {A = ℕ} 0 1 = cc in omega arith)
 
-read-digits : (minus : Bool) (ds : Bytes) (z : ℤ) → digitsRead minus ds ≡ is z → Read minus ds z
+read-digits : (minus : Bool) (bs : Bytes) (z : ℤ) → digitsRead minus bs ≡ is z → Read minus (beforeSpaces bs) z
 unfolding digitsRead
-read-digits minus ds z h = read-by minus ds z (someDigits ds) refl h
+read-digits minus bs z h = read-by minus (beforeSpaces bs) z (someDigits (beforeSpaces bs)) refl h
 
 -- ---- what the rule says is read
-plain-read : (negatives : Bool) (ds : Bytes) (k : ℕ) → Digits ds k → afterBlank negatives (afterSpaces ds) ≡ is (pos k)
+plain-read : (negatives : Bool) (ds : Bytes) (j k : ℕ) → Digits ds k → afterBlank negatives (afterSpaces (ds ++ spaces j)) ≡ is (pos k)
 unfolding afterBlank afterSpaces Each
-plain-read negatives [] k h = let z : 1 ≤ 0 = h .some in absurd (omega arith)
-plain-read negatives (d ∷ ds) k h =
+plain-read negatives [] j k h = let z : 1 ≤ 0 = h .some in absurd (omega arith)
+plain-read negatives (d ∷ ds) j k h =
     let t = h .each .0 in
-    rw (digit-not d 32 (omega arith) t, digit-not d 45 (omega arith) t, and-false negatives) (digits-read false (d ∷ ds) k h)
+    rw (digit-not d 32 (omega arith) t, digit-not d 45 (omega arith) t, digit-not d 43 (omega arith) t, and-false negatives) (digits-read false (d ∷ ds) j k h)
 
 pub integer-read : (negatives : Bool) {cs : Bytes} {z : ℤ} → Integer negatives cs z → integerIn negatives cs ≡ is z
 unfolding integerIn afterBlank afterSpaces
 integer-read negatives (Integer.blank i e) = rw (e, spaces-only i)
-integer-read negatives (Integer.plain i ds k e h) = rw (e, pass-spaces i ds) (plain-read negatives ds k h)
-integer-read negatives (Integer.minus i ds k n e h) = rw (e, pass-spaces i (45 ∷ ds), n) (digits-read true ds k h)
+integer-read negatives (Integer.plain i ds j k e h) = rw (e, pass-spaces i (ds ++ spaces j)) (plain-read negatives ds j k h)
+integer-read negatives (Integer.plus i ds j k n e h) = rw (e, pass-spaces i (43 ∷ (ds ++ spaces j)), n) (digits-read false ds j k h)
+integer-read negatives (Integer.minus i ds j k n e h) = rw (e, pass-spaces i (45 ∷ (ds ++ spaces j)), n) (digits-read true ds j k h)
 
 -- ---- what is read is what the rule says
 module _ (negatives : Bool) (cs : Bytes) (z : ℤ) (i : ℕ) where
-  ink-rule : (b : ℕ) (bs : Bytes) (t : Bool) → (negatives && eqb b 45) ≡ t → cs ≡ spaces i ++ (b ∷ bs) → cond t (digitsRead true bs) (digitsRead false (b ∷ bs)) ≡ is z → Integer negatives cs z
+  sign-parts : (s b : ℕ) (bs : Bytes) → eqb b s ≡ true → cs ≡ spaces i ++ (b ∷ bs) → cs ≡ spaces i ++ (s ∷ (beforeSpaces bs ++ spaces (trailed bs .count)))
+  sign-parts s b bs h e = e ∙ ap (λ (l : Bytes). spaces i ++ l) (ap (λ (c : ℕ). c ∷ bs) (eqb-true b s h) ∙ ap (λ (l : Bytes). s ∷ l) (trailed bs .parts))
+
+  plus-rule : (b : ℕ) (bs : Bytes) (t : Bool) → (negatives && eqb b 43) ≡ t → cs ≡ spaces i ++ (b ∷ bs) → cond t (digitsRead false bs) (digitsRead false (b ∷ bs)) ≡ is z → Integer negatives cs z
+  plus-rule b bs true t e h =
+      let a = and-true negatives (eqb b 43) t in
+      let r = read-digits false bs z h in
+      rw (r .number) (Integer.plus i (beforeSpaces bs) (trailed bs .count) (decimalAfter 0 (beforeSpaces bs)) (a .0) (sign-parts 43 b bs (a .1) e) (r .digits))
+  plus-rule b bs false t e h =
+      let r = read-digits false (b ∷ bs) z h in
+      let q = trailed (b ∷ bs) in
+      rw (r .number)
+      (Integer.plain i (beforeSpaces (b ∷ bs)) (q .count) (decimalAfter 0 (beforeSpaces (b ∷ bs))) (e ∙ ap (λ (l : Bytes). spaces i ++ l) (q .parts)) (r .digits))
+
+  ink-rule : (b : ℕ) (bs : Bytes) (t : Bool) → (negatives && eqb b 45) ≡ t → cs ≡ spaces i ++ (b ∷ bs) →
+      cond t (digitsRead true bs) (cond (negatives && eqb b 43) (digitsRead false bs) (digitsRead false (b ∷ bs))) ≡ is z → Integer negatives cs z
   ink-rule b bs true t e h =
       let a = and-true negatives (eqb b 45) t in
       let r = read-digits true bs z h in
-      rw (r .number) (Integer.minus i bs (decimalAfter 0 bs) (a .0) (rw (eqb-true b 45 (a .1)) at e) (r .digits))
-  ink-rule b bs false t e h =
-      let r = read-digits false (b ∷ bs) z h in
-      rw (r .number) (Integer.plain i (b ∷ bs) (decimalAfter 0 (b ∷ bs)) e (r .digits))
+      rw (r .number) (Integer.minus i (beforeSpaces bs) (trailed bs .count) (decimalAfter 0 (beforeSpaces bs)) (a .0) (sign-parts 45 b bs (a .1) e) (r .digits))
+  ink-rule b bs false t e h = plus-rule b bs (negatives && eqb b 43) refl e h
 
   rest-rule : (rest : Bytes) → cs ≡ spaces i ++ rest → afterBlank negatives rest ≡ is z → Integer negatives cs z
   unfolding afterBlank

@@ -7,7 +7,8 @@ use lib.Dec.{eqb}
 use Rattle.text.specs.Text.{Bytes, Line, byte}
 use Rattle.text.specs.Columns.{columns}
 use Rattle.field_numbers.specs.Number.{decimalAfter}
-use Rattle.field_numbers.specs.Read.{IntegerRead, is, malformed, allDigits, someDigits, afterSpaces, signed}
+use Rattle.field_numbers.specs.Read.{IntegerRead, is, malformed, allDigits, someDigits, afterSpaces, beforeSpaces, signed}
+use Rattle.field_numbers.specs.declared.Sign.{Sign}
 use Rattle.field_numbers.specs.declared.Size.{Size}
 use Rattle.field_numbers.specs.declared.SizedRead.{SizedRead}
 
@@ -19,14 +20,29 @@ sizeAfter k ds = cond (allDigits ds) (Size.Is (decimalAfter k ds)) Size.Malforme
 unfoldable pub sizeIn : Bytes → Size
 sizeIn ds = cond (someDigits ds) (Size.Is (decimalAfter 0 ds)) Size.Malformed
 
+-- nothing but spaces, after digits that stand for k: by what follows the spaces
+unfoldable pub tailIn : ℕ → Bytes → Size
+tailIn k [] = Size.Is k
+tailIn k (b ∷ bs) = Size.Malformed
+
 unfoldable pub withSign : Bool → Size → SizedRead
 withSign minus (Size.Is k) = SizedRead.Is minus k
 withSign minus Size.Malformed = SizedRead.Malformed
 
+-- the sign that a byte is, where the range has negatives
+unfoldable pub signIn : Bool → ℕ → Sign
+signIn negatives b = cond (negatives && eqb b (byte "-")) Sign.Minus (cond (negatives && eqb b (byte "+")) Sign.Plus Sign.None)
+
+-- a field whose first byte is known: digits and then spaces, after that byte if it is a sign
+unfoldable pub sizedAs : Sign → ℕ → Bytes → SizedRead
+sizedAs Sign.None b bs = withSign false (sizeIn (beforeSpaces (b ∷ bs)))
+sizedAs Sign.Plus b bs = withSign false (sizeIn (beforeSpaces bs))
+sizedAs Sign.Minus b bs = withSign true (sizeIn (beforeSpaces bs))
+
 -- a field without its leading spaces
 unfoldable pub sizedFrom : Bool → Bytes → SizedRead
 sizedFrom negatives [] = SizedRead.Is false 0
-sizedFrom negatives (b ∷ bs) = cond (negatives && eqb b (byte "-")) (withSign true (sizeIn bs)) (withSign false (sizeIn (b ∷ bs)))
+sizedFrom negatives (b ∷ bs) = sizedAs (signIn negatives b) b bs
 
 unfoldable pub sizedIn : Bool → Bytes → SizedRead
 sizedIn negatives cs = sizedFrom negatives (afterSpaces cs)

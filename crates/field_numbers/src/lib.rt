@@ -1,14 +1,12 @@
 // Integer fields of a line: read by columns, written right-aligned.
 ghost use mathlib.Core.Path.{_≡_};
-ghost use mathlib.Core.Bool.{_&&_};
 ghost use Prim.Native.Nat.{_+_, _-_, _≤_, _<_};
-ghost use lib.Dec.{eqb};
 ghost use lib.IntN.{pos};
 ghost use lib.ListN.{length};
 ghost use lib.Seq.{sets};
 ghost use Rattle.text.specs.Columns.{column, columns, columnsFor};
-ghost use Rattle.field_numbers.specs.Read.{afterSpaces, is, signed, ranged, numberIn, signedRanged, signedIn};
-ghost use Rattle.field_numbers.specs.Parts.{sizeIn, withSign, sizedIn, LoneDigit};
+ghost use Rattle.field_numbers.specs.Read.{afterSpaces, beforeSpaces, is, signed, ranged, numberIn, signedRanged, signedIn};
+ghost use Rattle.field_numbers.specs.Parts.{sizeIn, tailIn, signIn, withSign, sizedIn, LoneDigit};
 ghost use Rattle.field_numbers.specs.Write.{sizedText, numberText, signedText, firstDigit};
 
 // A number of a range without negatives, as columns hold it.
@@ -29,6 +27,13 @@ pub enum SignedRead {
 pub enum Size {
     Is(u32),
     Malformed,
+}
+
+// What stands before a number's digits.
+pub enum Sign {
+    None,
+    Plus,
+    Minus,
 }
 
 // A number before its range is asked: whether a `-` stands before its digits, and what they stand for.
@@ -69,31 +74,7 @@ pub fn inner_spaces_end(line: &[u8], i: usize, e: usize) -> usize
     e
 }
 
-// The digits in columns i to e - 1.
-pub fn digits(line: &[u8], i: usize, e: usize) -> Size
-    requires { ⌜ (1 ≤ i) × (i ≤ e) × (e ≤ i + 9) ⌝ }
-    ensures { λ r. ⌜ r ≡ sizeIn (columnsFor (now (line .entry)) i (e - i)) ⌝ }
-{
-    if e <= i {
-        return Size::Malformed;
-    }
-    let mut k: u32 = 0;
-    let mut a = i;
-    while a < e {
-        let b = text::column(line, a);
-        if b < 48 {
-            return Size::Malformed;
-        }
-        if 57 < b {
-            return Size::Malformed;
-        }
-        k = k * 10 + ((b - 48) as u32);
-        a += 1;
-    }
-    Size::Is(k)
-}
-
-// The same in columns that the line has.
+// The digits in columns i to e - 1, all of which the line has.
 pub fn inner_digits(line: &[u8], i: usize, e: usize) -> Size
     requires { ⌜ (1 ≤ i) × (i ≤ e) × (e ≤ i + 9) × (e ≤ length (now line) + 1) ⌝ }
     ensures { λ r. ⌜ r ≡ sizeIn (columnsFor (now (line .entry)) i (e - i)) ⌝ }
@@ -117,22 +98,71 @@ pub fn inner_digits(line: &[u8], i: usize, e: usize) -> Size
     Size::Is(k)
 }
 
-// Whether column i has a `-` that may stand there.
-fn minus_at(line: &[u8], i: usize, negatives: bool) -> bool
-    requires { ⌜ 1 ≤ i ⌝ }
-    ensures { λ r. ⌜ r ≡ (negatives && eqb (column (now (line .entry)) i) 45) ⌝ }
+// The number k of the digits before column a, if columns a to e - 1 are spaces.
+fn tail(line: &[u8], a: usize, e: usize, k: u32) -> Size
+    requires { ⌜ (1 ≤ a) × (a ≤ e) ⌝ }
+    ensures { λ r. ⌜ r ≡ tailIn k (afterSpaces (columnsFor (now (line .entry)) a (e - a))) ⌝ }
 {
-    if negatives {
-        text::column(line, i) == 45
-    } else {
-        false
+    let s = spaces_end(line, a, e);
+    if s < e {
+        return Size::Malformed;
     }
+    Size::Is(k)
 }
 
-// The digits in columns i to e - 1, with the sign that stands before them.
+// The digits from column i on, and spaces from there to column e - 1. Only a byte that is no digit has the spaces looked at.
+fn digits(line: &[u8], i: usize, e: usize) -> Size
+    requires { ⌜ (1 ≤ i) × (i ≤ e) × (e ≤ i + 9) ⌝ }
+    ensures { λ r. ⌜ r ≡ sizeIn (beforeSpaces (columnsFor (now (line .entry)) i (e - i))) ⌝ }
+{
+    if e <= i {
+        return Size::Malformed;
+    }
+    let first = text::column(line, i);
+    if first < 48 {
+        return Size::Malformed;
+    }
+    if 57 < first {
+        return Size::Malformed;
+    }
+    let mut k = (first - 48) as u32;
+    let mut a = i + 1;
+    while a < e {
+        let b = text::column(line, a);
+        if b < 48 {
+            return tail(line, a, e, k);
+        }
+        if 57 < b {
+            return Size::Malformed;
+        }
+        k = k * 10 + ((b - 48) as u32);
+        a += 1;
+    }
+    Size::Is(k)
+}
+
+// The sign in column i, where one may stand.
+fn sign_at(line: &[u8], i: usize, negatives: bool) -> Sign
+    requires { ⌜ 1 ≤ i ⌝ }
+    ensures { λ r. ⌜ r ≡ signIn negatives (column (now (line .entry)) i) ⌝ }
+{
+    if negatives {
+        let b = text::column(line, i);
+        if b == 45 {
+            return Sign::Minus;
+        }
+        if b == 43 {
+            return Sign::Plus;
+        }
+        return Sign::None;
+    }
+    Sign::None
+}
+
+// The digits from column i on and the spaces after them, with the sign that stands before them.
 fn sized_digits(line: &[u8], i: usize, e: usize, minus: bool) -> SizedRead
     requires { ⌜ (1 ≤ i) × (i ≤ e) × (e ≤ i + 9) ⌝ }
-    ensures { λ r. ⌜ r ≡ withSign minus (sizeIn (columnsFor (now (line .entry)) i (e - i))) ⌝ }
+    ensures { λ r. ⌜ r ≡ withSign minus (sizeIn (beforeSpaces (columnsFor (now (line .entry)) i (e - i)))) ⌝ }
 {
     match digits(line, i, e) {
         Size::Is(k) => SizedRead::Is { minus, size: k },
@@ -153,10 +183,11 @@ pub fn sized(line: &[u8], i: usize, j: usize, negatives: bool) -> SizedRead
             size: 0,
         };
     }
-    if minus_at(line, a, negatives) {
-        return sized_digits(line, a + 1, e, true);
+    match sign_at(line, a, negatives) {
+        Sign::None => sized_digits(line, a, e, false),
+        Sign::Plus => sized_digits(line, a + 1, e, false),
+        Sign::Minus => sized_digits(line, a + 1, e, true),
     }
-    sized_digits(line, a, e, false)
 }
 
 fn within(k: u32, least: u32, most: u32) -> NumberRead
