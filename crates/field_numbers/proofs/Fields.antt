@@ -9,20 +9,19 @@ use mathlib.Core.Bool.{Bool, true, false, cond, _&&_}
 use lib.Dec.{eqb, leb}
 use lib.ListN.{length, length-append, getD}
 use lib.IntN.{ℤ, pos, negℤ}
-use borrow.Author.Tests.{leb-true, eq-eqb, ne-eqb, le-leb, lt-leb}
+use borrow.Author.Tests.{leb-true, leb-false, eq-eqb, ne-eqb, le-leb, lt-leb}
 use mir.Syntax.{w32}
 use mir.Val.{Fits}
 use Rattle.text.specs.Text.{Bytes, Line, Each}
 use Rattle.text.specs.Columns.{column, columns, columnsFor, spaces}
 use Rattle.text.specs.Laws.{and-true, getD-any}
-use Rattle.text.specs.Agree.{columns-length, columns-step, columns-over}
+use Rattle.text.specs.Agree.{columns-length, columns-step, columns-over, columns-join, columns-past}
 use Rattle.field_numbers.specs.Number.{Digits, Integer, decimalAfter}
-use Rattle.field_numbers.specs.Read.{is, isDigit, allDigits, someDigits, afterSpaces, before, beforeSpaces, signed, digitsRead, afterBlank, integerIn, ranged, numberIn, signedRanged, signedIn}
-use Rattle.field_numbers.specs.Agree.{integer-read, spaces-only, spaces-shed, led, before-ink, trailed}
-use Rattle.field_numbers.specs.Parts.{sizeAfter, sizeIn, tailIn, withSign, signIn, sizedAs, sizedFrom, sizedIn, integerOf, LoneDigit}
+use Rattle.field_numbers.specs.Read.{is, isDigit, allDigits, someDigits, afterSpaces, beforeSpaces, signed, digitsRead, afterBlank, integerIn, ranged, numberIn, signedRanged, signedIn}
+use Rattle.field_numbers.specs.Agree.{integer-read, led, before-ink, spaces-shed, shed-append, shed-front, trailed}
+use Rattle.field_numbers.specs.Parts.{sizeAfter, sizeIn, withSign, sizedFrom, sizedIn, integerOf, LineEnd, ShortNumber}
 use Rattle.field_numbers.specs.declared.NumberRead.{NumberRead}
 use Rattle.field_numbers.specs.declared.SignedRead.{SignedRead}
-use Rattle.field_numbers.specs.declared.Sign.{Sign}
 use Rattle.field_numbers.specs.declared.Size.{Size}
 use Rattle.field_numbers.specs.declared.SizedRead.{SizedRead}
 
@@ -108,171 +107,153 @@ counting-times l i e k a c h w = record { fits = omega (arith, turn-small i e k 
 pub counting-plus : (l : Line) (i e k a b : ℕ) → Counting l i e k a → a < e → e ≤ i + 9 → b ≤ 57 → Fits w32 (k * 10 + (b - 48))
 counting-plus l i e k a b c h w high = record { fits = omega (arith, turn-small i e k a (c .small) h w) }
 
--- ---- spaces to the last column
-pub tail-blank : (l : Line) (a e s k : ℕ) → afterSpaces (columnsFor l a (e - a)) ≡ columnsFor l s (e - s) → e ≤ s → Size.Is k ≡ tailIn k (afterSpaces (columnsFor l a (e - a)))
-unfolding tailIn
-tail-blank l a e s k p h = sym (rw (p, columns-over l s e h))
+-- ---- the walk over trailing spaces from the right: what stands before them up to column e is what stands before them up to column z
+pub record Shedding (l : Line) (i e z : ℕ) : Type 0 where
+  pub high : z ≤ e
+  pub same : beforeSpaces (columnsFor l i (e - i)) ≡ beforeSpaces (columnsFor l i (z - i))
 
-pub tail-ink : (l : Line) (a e s k : ℕ) → afterSpaces (columnsFor l a (e - a)) ≡ columnsFor l s (e - s) → s < e → Size.Malformed ≡ tailIn k (afterSpaces (columnsFor l a (e - a)))
-unfolding tailIn
-tail-ink l a e s k p h = sym (rw (p, columns-step l s e h))
+last-column : (l : Line) (i z : ℕ) → i < z → columnsFor l i (z - i) ≡ columnsFor l i (z - 1 - i) ++ (column l (z - 1) ∷ [])
+unfolding columnsFor
+last-column l i z h =
+    let p : z - i ≡ z - 1 - i + 1 = omega arith in
+    let q : i + (z - 1 - i) ≡ z - 1 = omega arith in
+    rw p (columns-join l i (z - 1 - i) 1 ∙ rw q)
+
+pub shedding-start : (l : Line) (i e : ℕ) → Shedding l i e e
+shedding-start l i e = record { high = omega arith; same = refl }
+
+module _ (l : Line) (i e z b : ℕ) (s : Shedding l i e z) (h : i < z) (c : b ≡ column l (z - 1)) where
+  pub shedding-next : b ≡ 32 → Shedding l i e (z - 1)
+  shedding-next k =
+      let xs : Bytes = columnsFor l i (z - 1 - i) in
+      let t : columnsFor l i (z - i) ≡ xs ++ spaces 1 = last-column l i z h ∙ ap (λ (d : ℕ). xs ++ (d ∷ [])) (sym c ∙ k) in
+      record { high = omega (arith, s .high); same = s .same ∙ ap beforeSpaces t ∙ shed-append xs 1 }
+
+  pub shedding-stop : (b ≡ 32 → ⊥) → beforeSpaces (columnsFor l i (e - i)) ≡ columnsFor l i (z - i)
+  unfolding beforeSpaces
+  shedding-stop k =
+      let d : ℕ = column l (z - 1) in
+      let t = last-column l i z h in
+      s .same ∙ ap beforeSpaces t ∙ shed-front (columnsFor l i (z - 1 - i)) d [] (before-ink d [] (ne-eqb d 32 (λ x. k (c ∙ x)))) ∙ sym t
+
+pub shedding-end : (l : Line) (i e z : ℕ) → Shedding l i e z → z ≤ i → beforeSpaces (columnsFor l i (e - i)) ≡ columnsFor l i (i - i)
+unfolding beforeSpaces
+shedding-end l i e z s h = s .same ∙ rw (columns-over l i z h, columns-over l i i (omega arith))
+
+-- ---- the columns that the line has
+pub line-short : (l : Line) (e : ℕ) → length l < e - 1 → LineEnd l e (length l + 1)
+unfolding LineEnd
+line-short l e h k = omega arith
+
+pub line-long : (l : Line) (e : ℕ) → LineEnd l e e
+unfolding LineEnd
+line-long l e k = absurd (omega arith)
+
+-- columns past the end of the line are spaces
+past-shed : (l : Line) (i e r : ℕ) → r ≤ e → length l < r → beforeSpaces (columnsFor l i (e - i)) ≡ beforeSpaces (columnsFor l i (r - i))
+unfolding beforeSpaces
+past-shed l i e r h n = by (leb i r) refl
+  where
+    by : (t : Bool) → leb i r ≡ t → beforeSpaces (columnsFor l i (e - i)) ≡ beforeSpaces (columnsFor l i (r - i))
+    by true t =
+        let k : i ≤ r = leb-true i r t in
+        let p : e - i ≡ r - i + (e - r) = omega arith in
+        let q : i + (r - i) ≡ r = omega arith in
+        let past : columnsFor l (i + (r - i)) (e - r) ≡ spaces (e - r) = rw q (columns-past l r (e - r) n) in
+        rw p (ap beforeSpaces (columns-join l i (r - i) (e - r) ∙ ap (λ (x : Bytes). columnsFor l i (r - i) ++ x) past) ∙ shed-append (columnsFor l i (r - i)) (e - r))
+    by false t =
+        let k : r < i = leb-false i r t in
+        rw (columns-over l i r (omega arith), columns-past l i (e - i) (omega arith)) (spaces-shed (e - i))
+
+pub line-shed : (l : Line) (i e r : ℕ) → r ≤ e → LineEnd l e r → beforeSpaces (columnsFor l i (e - i)) ≡ beforeSpaces (columnsFor l i (r - i))
+unfolding LineEnd
+line-shed l i e r h p = by (leb e r) refl
+  where
+    by : (t : Bool) → leb e r ≡ t → beforeSpaces (columnsFor l i (e - i)) ≡ beforeSpaces (columnsFor l i (r - i))
+    by true t =
+        let k : e ≤ r = leb-true e r t in
+        let q : e ≡ r = omega arith in
+        ap (λ (x : ℕ). beforeSpaces (columnsFor l i (x - i))) q
+    by false t = past-shed l i e r h (p (leb-false e r t))
+
+-- ---- the field without its trailing spaces, then without its leading ones
+shed-twice : (cs : Bytes) → beforeSpaces (beforeSpaces cs) ≡ beforeSpaces cs
+shed-twice cs = let q = trailed cs in sym (ap beforeSpaces (q .parts) ∙ shed-append (beforeSpaces cs) (q .count))
 
 blank-shed : (cs : Bytes) → afterSpaces cs ≡ [] → beforeSpaces cs ≡ []
 blank-shed cs h =
     let q = led cs in
     ap beforeSpaces (q .parts ∙ ap (λ (r : Bytes). spaces (q .count) ++ r) h ∙ append-nil _) ∙ spaces-shed (q .count)
 
-ink-kept : (cs : Bytes) (x : ℕ) (xs : Bytes) → afterSpaces cs ≡ x ∷ xs → beforeSpaces cs ≡ [] → ⊥
-ink-kept cs x xs e h =
-    let q = trailed cs in
-    let p : afterSpaces cs ≡ [] = ap afterSpaces (q .parts ∙ ap (λ (r : Bytes). r ++ spaces (q .count)) h) ∙ spaces-only (q .count) in
-    let z : _≡_ {A = ℕ} 0 1 = cc (p, e) in
-    omega arith
-
--- a byte that is no digit: with the spaces after it nothing, or malformed
-size-not : (b : ℕ) (rest : Bytes) → isDigit b ≡ false → sizeIn (before b rest) ≡ Size.Malformed
-unfolding sizeIn allDigits
-size-not b [] h = by (eqb b 32)
+-- where something is left, not all of it is spaces
+pub ink-left : (l : Line) (i e z a : ℕ) → beforeSpaces (columnsFor l i (e - i)) ≡ columnsFor l i (z - i) → i < z → afterSpaces (columnsFor l i (z - i)) ≡ columnsFor l a (z - a) → a < z
+ink-left l i e z a s h p = by (leb z a) refl
   where
-    by : (t : Bool) → sizeIn (cond t [] (b ∷ [])) ≡ Size.Malformed
-    by true = refl
-    by false = rw h
-size-not b (c ∷ cs) h = rw h
+    by : (t : Bool) → leb z a ≡ t → a < z
+    by true t =
+        let k : z ≤ a = leb-true z a t in
+        let none : afterSpaces (columnsFor l i (z - i)) ≡ [] = p ∙ columns-over l a z k in
+        let twice : beforeSpaces (columnsFor l i (z - i)) ≡ columnsFor l i (z - i) = ap beforeSpaces (sym s) ∙ shed-twice (columnsFor l i (e - i)) ∙ s in
+        let left : columnsFor l i (z - i) ≡ [] = sym twice ∙ blank-shed (columnsFor l i (z - i)) none in
+        absurd (omega (arith, columns-length l i (z - i), ap length left))
+    by false t = leb-false z a t
 
-after-not : (k b : ℕ) (rest : Bytes) → isDigit b ≡ false → (before b rest ≡ [] → ⊥) → sizeAfter k (before b rest) ≡ Size.Malformed
-unfolding sizeAfter allDigits
-after-not k b [] h n = by (eqb b 32) n
-  where
-    by : (t : Bool) → (_≡_ {A = Bytes} (cond t [] (b ∷ [])) [] → ⊥) → sizeAfter k (cond t [] (b ∷ [])) ≡ Size.Malformed
-    by true n = absurd (n refl)
-    by false n = rw h
-after-not k b (c ∷ cs) h n = rw h
+module _ (negatives : Bool) (l : Line) (i j e z : ℕ) (n : e ≤ j + 1) (p : LineEnd l (j + 1) e) (s : beforeSpaces (columnsFor l i (e - i)) ≡ columnsFor l i (z - i)) where
+  shed-field : beforeSpaces (columns l i j) ≡ columnsFor l i (z - i)
+  shed-field = rw (← add-one j) (line-shed l i (j + 1) e n p ∙ s)
 
-after-none : (k : ℕ) → sizeAfter k [] ≡ Size.Is k
-unfolding sizeAfter allDigits decimalAfter
-after-none k = refl
+  pub sized-blank : z ≤ i → SizedRead.Is false 0 ≡ sizedIn negatives (columns l i j)
+  unfolding sizedIn sizedFrom afterSpaces
+  sized-blank h = sym (rw (shed-field, columns-over l i z h))
 
-tail-is : (k b : ℕ) (bs : Bytes) → isDigit b ≡ false → sizeAfter k (beforeSpaces (b ∷ bs)) ≡ tailIn k (afterSpaces (b ∷ bs))
-unfolding tailIn beforeSpaces
-tail-is k b bs h = by (afterSpaces (b ∷ bs)) refl
-  where
-    by : (r : Bytes) → afterSpaces (b ∷ bs) ≡ r → sizeAfter k (beforeSpaces (b ∷ bs)) ≡ tailIn k r
-    by [] e = ap (sizeAfter k) (blank-shed (b ∷ bs) e) ∙ after-none k
-    by (x ∷ xs) e = after-not k b (beforeSpaces bs) h (ink-kept (b ∷ bs) x xs e)
+  module _ (a : ℕ) (r : SizedRead) (q : afterSpaces (columnsFor l i (z - i)) ≡ columnsFor l a (z - a)) where
+    pub sized-signed : negatives ≡ true → r ≡ sizedFrom true (columnsFor l a (z - a)) → r ≡ sizedIn negatives (columns l i j)
+    unfolding sizedIn
+    sized-signed t w = w ∙ sym (rw (shed-field, q, t))
 
-digit-low : (b : ℕ) → b < 48 → isDigit b ≡ false
-digit-low b low = rw (lt-leb 48 b low)
+    pub sized-plain : negatives ≡ false → i < z → r ≡ withSign false (sizeIn (columnsFor l a (z - a))) → r ≡ sizedIn negatives (columns l i j)
+    unfolding sizedIn sizedFrom
+    sized-plain t h w =
+        let k : a < z = ink-left l i e z a s h q in
+        w ∙ sym (rw (shed-field, q, t, columns-step l a z k))
 
-digit-high : (b : ℕ) → 48 ≤ b → 57 < b → isDigit b ≡ false
-digit-high b low high = rw (le-leb 48 b low, lt-leb b 57 high)
+-- ---- the sign
+module _ (l : Line) (i e b : ℕ) (r : SizedRead) (h : i < e) (c : b ≡ column l i) where
+  pub from-minus : b ≡ 45 → r ≡ withSign true (sizeIn (columnsFor l (i + 1) (e - (i + 1)))) → r ≡ sizedFrom true (columnsFor l i (e - i))
+  unfolding sizedFrom
+  from-minus k w = w ∙ sym (rw (columns-step l i e h, ← c, k))
 
-digit-ink : (b : ℕ) → 48 ≤ b → eqb b 32 ≡ false
-digit-ink b low = ne-eqb b 32 (λ e. omega arith)
+  pub from-plus : (b ≡ 45 → ⊥) → b ≡ 43 → r ≡ withSign false (sizeIn (columnsFor l (i + 1) (e - (i + 1)))) → r ≡ sizedFrom true (columnsFor l i (e - i))
+  unfolding sizedFrom
+  from-plus m k w = w ∙ sym (rw (columns-step l i e h, ← c, k))
 
--- ---- the walk over digits that spaces may follow: those from column i on are those from column a on, after digits that stand for k
-pub record Ending (l : Line) (i e k a : ℕ) : Type 0 where
-  pub low : i < a
-  pub high : a ≤ e
-  pub small : k < 10 ^ (a - i)
-  pub same : sizeIn (beforeSpaces (columnsFor l i (e - i))) ≡ sizeAfter k (beforeSpaces (columnsFor l a (e - a)))
-
-pub ending-none : (l : Line) (i e : ℕ) → e ≤ i → Size.Malformed ≡ sizeIn (beforeSpaces (columnsFor l i (e - i)))
-unfolding sizeIn beforeSpaces
-ending-none l i e h = sym (rw (columns-over l i e h))
-
-module _ (l : Line) (i e b : ℕ) (h : i < e) (s : b ≡ column l i) where
-  first-not : isDigit b ≡ false → sizeIn (beforeSpaces (columnsFor l i (e - i))) ≡ Size.Malformed
-  unfolding beforeSpaces
-  first-not n = rw (columns-step l i e h, ← s) (size-not b (beforeSpaces (columnsFor l (i + 1) (e - (i + 1)))) n)
-
-  pub first-low : b < 48 → Size.Malformed ≡ sizeIn (beforeSpaces (columnsFor l i (e - i)))
-  first-low low = sym (first-not (digit-low b low))
-
-  pub first-high : 48 ≤ b → 57 < b → Size.Malformed ≡ sizeIn (beforeSpaces (columnsFor l i (e - i)))
-  first-high low high = sym (first-not (digit-high b low high))
-
-  first-same : 48 ≤ b → b ≤ 57 → sizeIn (beforeSpaces (columnsFor l i (e - i))) ≡ sizeAfter (b - 48) (beforeSpaces (columnsFor l (i + 1) (e - (i + 1))))
-  unfolding sizeIn sizeAfter allDigits decimalAfter beforeSpaces
-  first-same low high =
-      let rest : Bytes = beforeSpaces (columnsFor l (i + 1) (e - (i + 1))) in
-      let z : 0 * 10 + (b - 48) ≡ b - 48 = omega arith in
-      rw (columns-step l i e h, ← s, before-ink b rest (digit-ink b low), le-leb 48 b low, le-leb b 57 high) (ap (λ (n : ℕ). sizeAfter n rest) z)
-
-  pub ending-start : 48 ≤ b → b ≤ 57 → Ending l i e (b - 48) (i + 1)
-  ending-start low high =
-      let z : i + 1 - i ≡ 1 = omega arith in
-      record { low = omega arith; high = omega arith; small = rw z (omega arith); same = first-same low high }
-
-module _ (l : Line) (i e k a b : ℕ) (c : Ending l i e k a) (h : a < e) (s : b ≡ column l a) where
-  pub ending-tail : (r : Size) → b < 48 → r ≡ tailIn k (afterSpaces (columnsFor l a (e - a))) → r ≡ sizeIn (beforeSpaces (columnsFor l i (e - i)))
-  ending-tail r low t = t ∙ sym (c .same ∙ rw (columns-step l a e h, ← s) (tail-is k b (columnsFor l (a + 1) (e - (a + 1))) (digit-low b low)))
-
-  pub ending-high : 48 ≤ b → 57 < b → Size.Malformed ≡ sizeIn (beforeSpaces (columnsFor l i (e - i)))
-  unfolding sizeAfter allDigits beforeSpaces
-  ending-high low high =
-      sym (c .same ∙ rw (columns-step l a e h, ← s, before-ink b (beforeSpaces (columnsFor l (a + 1) (e - (a + 1)))) (digit-ink b low), le-leb 48 b low, lt-leb b 57 high))
-
-  pub ending-next : 48 ≤ b → b ≤ 57 → Ending l i e (k * 10 + (b - 48)) (a + 1)
-  unfolding sizeAfter allDigits decimalAfter beforeSpaces
-  ending-next low high = record {
-    low = omega (arith, c .low);
-    high = omega arith;
-    small = omega (arith, power-more i a (omega (arith, c .low)), c .small);
-    same = c .same
-        ∙ rw (columns-step l a e h, ← s, before-ink b (beforeSpaces (columnsFor l (a + 1) (e - (a + 1)))) (digit-ink b low), le-leb 48 b low, le-leb b 57 high);
-  }
-
-pub ending-end : (l : Line) (i e k a : ℕ) → Ending l i e k a → e ≤ a → Size.Is k ≡ sizeIn (beforeSpaces (columnsFor l i (e - i)))
-unfolding beforeSpaces
-ending-end l i e k a c h = sym (c .same ∙ rw (columns-over l a e h) (after-none k))
-
-pub ending-times : (l : Line) (i e k a : ℕ) → Ending l i e k a → a < e → e ≤ i + 9 → Fits w32 (k * 10)
-ending-times l i e k a c h w = record { fits = omega (arith, turn-small i e k a (c .small) h w) }
-
-pub ending-plus : (l : Line) (i e k a b : ℕ) → Ending l i e k a → a < e → e ≤ i + 9 → b ≤ 57 → Fits w32 (k * 10 + (b - 48))
-ending-plus l i e k a b c h w high = record { fits = omega (arith, turn-small i e k a (c .small) h w) }
-
--- ---- the field
-pub sized-blank : (negatives : Bool) (l : Line) (i j a : ℕ) → afterSpaces (columnsFor l i (j + 1 - i)) ≡ columnsFor l a (j + 1 - a) → j + 1 ≤ a → SizedRead.Is false 0 ≡ sizedIn negatives (columns l i j)
-unfolding sizedIn sizedFrom
-sized-blank negatives l i j a p h = sym (rw (← add-one j, p, columns-over l a (j + 1) h))
-
-module _ (negatives : Bool) (t : Sign) (l : Line) (i j a : ℕ) (r : SizedRead) (p : afterSpaces (columnsFor l i (j + 1 - i)) ≡ columnsFor l a (j + 1 - a)) (h : a < j + 1)
-    (m : t ≡ signIn negatives (column l a)) where
-  pub sized-plain : t ≡ Sign.None → r ≡ withSign false (sizeIn (beforeSpaces (columnsFor l a (j + 1 - a)))) → r ≡ sizedIn negatives (columns l i j)
-  unfolding sizedIn sizedFrom sizedAs
-  sized-plain s e = e ∙ sym (rw (← add-one j, p, columns-step l a (j + 1) h, ← m, s))
-
-  pub sized-plus : t ≡ Sign.Plus → r ≡ withSign false (sizeIn (beforeSpaces (columnsFor l (a + 1) (j + 1 - (a + 1))))) → r ≡ sizedIn negatives (columns l i j)
-  unfolding sizedIn sizedFrom sizedAs
-  sized-plus s e = e ∙ sym (rw (← add-one j, p, columns-step l a (j + 1) h, ← m, s))
-
-  pub sized-minus : t ≡ Sign.Minus → r ≡ withSign true (sizeIn (beforeSpaces (columnsFor l (a + 1) (j + 1 - (a + 1))))) → r ≡ sizedIn negatives (columns l i j)
-  unfolding sizedIn sizedFrom sizedAs
-  sized-minus s e = e ∙ sym (rw (← add-one j, p, columns-step l a (j + 1) h, ← m, s))
+  pub from-bare : (b ≡ 45 → ⊥) → (b ≡ 43 → ⊥) → r ≡ withSign false (sizeIn (columnsFor l i (e - i))) → r ≡ sizedFrom true (columnsFor l i (e - i))
+  unfolding sizedFrom
+  from-bare m p w = w ∙ sym (rw (columns-step l i e h, ← c, ne-eqb b 45 m, ne-eqb b 43 p))
 
 -- ---- sign and size are the reading
-sized-digits : (minus : Bool) (bs : Bytes) → integerOf (withSign minus (sizeIn (beforeSpaces bs))) ≡ digitsRead minus bs
+sized-digits : (minus : Bool) (ds : Bytes) → integerOf (withSign minus (sizeIn ds)) ≡ digitsRead minus ds
 unfolding integerOf digitsRead withSign sizeIn
-sized-digits minus bs = by (someDigits (beforeSpaces bs)) refl
+sized-digits minus ds = by (someDigits ds) refl
   where
-    by : (t : Bool) → someDigits (beforeSpaces bs) ≡ t → integerOf (withSign minus (sizeIn (beforeSpaces bs))) ≡ digitsRead minus bs
+    by : (t : Bool) → someDigits ds ≡ t → integerOf (withSign minus (sizeIn ds)) ≡ digitsRead minus ds
     by true e = rw e
     by false e = rw e
 
 sized-from : (negatives : Bool) (cs : Bytes) → integerOf (sizedFrom negatives cs) ≡ afterBlank negatives cs
-unfolding integerOf sizedFrom sizedAs signIn afterBlank
+unfolding integerOf sizedFrom afterBlank
 sized-from negatives [] = refl
 sized-from negatives (b ∷ bs) = by (negatives && eqb b 45) (negatives && eqb b 43)
   where
-    by : (s t : Bool) → integerOf (sizedAs (cond s Sign.Minus (cond t Sign.Plus Sign.None)) b bs) ≡ cond s (digitsRead true bs) (cond t (digitsRead false bs) (digitsRead false (b ∷ bs)))
+    by : (s t : Bool) → integerOf (cond s (withSign true (sizeIn bs)) (cond t (withSign false (sizeIn bs)) (withSign false (sizeIn (b ∷ bs)))))
+        ≡ cond s (digitsRead true bs) (cond t (digitsRead false bs) (digitsRead false (b ∷ bs)))
     by true t = sized-digits true bs
     by false true = sized-digits false bs
     by false false = sized-digits false (b ∷ bs)
 
 pub integer-of : (negatives : Bool) (cs : Bytes) → integerIn negatives cs ≡ integerOf (sizedIn negatives cs)
 unfolding integerIn sizedIn
-integer-of negatives cs = sym (sized-from negatives (afterSpaces cs))
+integer-of negatives cs = sym (sized-from negatives (afterSpaces (beforeSpaces cs)))
 
 -- without negatives there is no sign
 sign-is : (t m : Bool) (g : Size) (k : ℕ) → withSign t g ≡ SizedRead.Is m k → (m ≡ t) × (g ≡ Size.Is k)
@@ -281,13 +262,13 @@ sign-is t m (Size.Is n) k h = (cc, cc)
 sign-is t m Size.Malformed k h = absurd (let z : _≡_ {A = ℕ} 0 1 = cc in omega arith)
 
 no-sign-from : (cs : Bytes) (m : Bool) (k : ℕ) → sizedFrom false cs ≡ SizedRead.Is m k → m ≡ false
-unfolding sizedFrom sizedAs signIn
+unfolding sizedFrom
 no-sign-from [] m k h = cc
-no-sign-from (b ∷ bs) m k h = sign-is false m (sizeIn (beforeSpaces (b ∷ bs))) k h .0
+no-sign-from (b ∷ bs) m k h = sign-is false m (sizeIn (b ∷ bs)) k h .0
 
 no-sign : (cs : Bytes) (m : Bool) (k : ℕ) → sizedIn false cs ≡ SizedRead.Is m k → m ≡ false
 unfolding sizedIn
-no-sign cs m k h = no-sign-from (afterSpaces cs) m k h
+no-sign cs m k h = no-sign-from (afterSpaces (beforeSpaces cs)) m k h
 
 -- ---- the range, asked of a size
 pub number-sized : (least most : ℕ) (cs : Bytes) (s : SizedRead) (m : Bool) (k : ℕ) (r : NumberRead) → s ≡ sizedIn false cs → s ≡ SizedRead.Is m k → r ≡ ranged least most (is (pos k)) → r ≡ numberIn least most cs
@@ -341,28 +322,25 @@ spaces-length (b ∷ bs) = by (eqb b 32) (spaces-length bs)
 shed-length : (cs : Bytes) → length (beforeSpaces cs) ≤ length cs
 shed-length cs = let q = trailed cs in omega (arith, ap length (q .parts), length-append (beforeSpaces cs) (spaces (q .count)))
 
--- digits that spaces may follow, among at most n bytes
-shed-below : (n : ℕ) (t m : Bool) (cs : Bytes) (k : ℕ) → length cs ≤ n → withSign t (sizeIn (beforeSpaces cs)) ≡ SizedRead.Is m k → k < 10 ^ n
-shed-below n t m cs k w h =
-    omega (
-      arith,
-      size-below (beforeSpaces cs) k (sign-is t m (sizeIn (beforeSpaces cs)) k h .1),
-      ten-mono {m = length (beforeSpaces cs)} {n = n} (omega (arith, shed-length cs)),
-    )
+-- digits among at most n bytes
+some-below : (n : ℕ) (t m : Bool) (ds : Bytes) (k : ℕ) → length ds ≤ n → withSign t (sizeIn ds) ≡ SizedRead.Is m k → k < 10 ^ n
+some-below n t m ds k w h = omega (arith, size-below ds k (sign-is t m (sizeIn ds) k h .1), ten-mono {m = length ds} {n = n} w)
 
 from-below : (negatives m : Bool) (cs : Bytes) (k : ℕ) → sizedFrom negatives cs ≡ SizedRead.Is m k → k < 10 ^ length cs
-unfolding sizedFrom sizedAs
+unfolding sizedFrom
 from-below negatives m [] k h = let z : 0 ≡ k = cc in omega arith
-from-below negatives m (b ∷ bs) k h = by (signIn negatives b) h
+from-below negatives m (b ∷ bs) k h = by (negatives && eqb b 45) (negatives && eqb b 43) h
   where
-    by : (s : Sign) → sizedAs s b bs ≡ SizedRead.Is m k → k < 10 ^ suc (length bs)
-    by Sign.None h = shed-below (suc (length bs)) false m (b ∷ bs) k (omega arith) h
-    by Sign.Plus h = shed-below (suc (length bs)) false m bs k (omega arith) h
-    by Sign.Minus h = shed-below (suc (length bs)) true m bs k (omega arith) h
+    by : (s t : Bool) → cond s (withSign true (sizeIn bs)) (cond t (withSign false (sizeIn bs)) (withSign false (sizeIn (b ∷ bs)))) ≡ SizedRead.Is m k → k < 10 ^ suc (length bs)
+    by true t h = some-below (suc (length bs)) true m bs k (omega arith) h
+    by false true h = some-below (suc (length bs)) false m bs k (omega arith) h
+    by false false h = some-below (suc (length bs)) false m (b ∷ bs) k (omega arith) h
 
 sized-below : (negatives m : Bool) (cs : Bytes) (k : ℕ) → sizedIn negatives cs ≡ SizedRead.Is m k → k < 10 ^ length cs
 unfolding sizedIn
-sized-below negatives m cs k h = omega (arith, from-below negatives m (afterSpaces cs) k h, ten-mono (spaces-length cs))
+sized-below negatives m cs k h =
+    let ds : Bytes = beforeSpaces cs in
+    omega (arith, from-below negatives m (afterSpaces ds) k h, ten-mono {m = length (afterSpaces ds)} {n = length cs} (omega (arith, spaces-length ds, shed-length cs)))
 
 -- the size of a field of at most nine columns
 pub sized-small : (negatives m : Bool) (l : Line) (i j k : ℕ) (s : SizedRead) → s ≡ sizedIn negatives (columns l i j) → s ≡ SizedRead.Is m k → j + 1 ≤ i + 9 → k < 1000000000
@@ -374,31 +352,15 @@ pub ruleset passing-laws = (passing-start, passing-next, passing-stop, passing-e
 
 pub ruleset counting-laws = (digits-none, counting-start, counting-low, counting-high, counting-next, counting-end, counting-times, counting-plus)
 
-pub ruleset tail-laws = (tail-blank, tail-ink)
+pub ruleset shedding-laws = (shedding-start, shedding-next, shedding-stop, shedding-end)
 
-pub ruleset ending-laws = (ending-none, first-low, first-high, ending-start, ending-tail, ending-high, ending-next, ending-end, ending-times, ending-plus)
+pub ruleset line-laws = (line-short, line-long)
 
-pub ruleset sized-laws = (sized-blank, sized-plain, sized-plus, sized-minus)
+pub ruleset sized-laws = (sized-blank, sized-signed, sized-plain, ink-left)
+
+pub ruleset from-laws = (from-minus, from-plus, from-bare)
 
 pub ruleset range-laws = (number-sized, number-malformed, signed-sized, signed-malformed, sized-small)
-
--- ---- the sign
-module _ (negatives : Bool) (b k : ℕ) (n : negatives ≡ true) (e : b ≡ k) where
-  pub sign-minus : b ≡ 45 → Sign.Minus ≡ signIn negatives k
-  unfolding signIn
-  sign-minus h = sym (rw (n, ← e, h))
-
-  pub sign-plus : (b ≡ 45 → ⊥) → b ≡ 43 → Sign.Plus ≡ signIn negatives k
-  unfolding signIn
-  sign-plus m h = sym (rw (n, ← e, h))
-
-  pub sign-bare : (b ≡ 45 → ⊥) → (b ≡ 43 → ⊥) → Sign.None ≡ signIn negatives k
-  unfolding signIn
-  sign-bare m p = sym (rw (n, ← e, ne-eqb b 45 m, ne-eqb b 43 p))
-
-pub sign-never : (negatives : Bool) (k : ℕ) → negatives ≡ false → Sign.None ≡ signIn negatives k
-unfolding signIn
-sign-never negatives k n = sym (rw n)
 
 pub sign-case : (minus : Bool) (x y : Size) (k : ℕ) → x ≡ y → x ≡ Size.Is k → SizedRead.Is minus k ≡ withSign minus y
 unfolding withSign
@@ -447,50 +409,62 @@ module _ (below above k : ℕ) where
   unfolding signedRanged
   between-plain m z t h e = rw (t, e) (sym (rw (le-leb k above h)))
 
--- ---- the usual field: two spaces and a digit
-columns-three : (l : Line) (i : ℕ) → columns l i (i + 2) ≡ column l i ∷ column l (suc i) ∷ column l (suc (suc i)) ∷ []
+-- ---- the usual field: spaces, then one digit or two
+columns-three : (l : Line) (i : ℕ) → 1 ≤ i → i + 2 ≤ length l → columns l i (i + 2) ≡ getD l (i - 1) 0 ∷ getD l i 0 ∷ getD l (i + 1) 0 ∷ []
 unfolding columnsFor
-columns-three l i =
+columns-three l i h n =
     let e : suc (i + 2) - i ≡ 3 = omega arith in
-    rw e
-
-pub lone-none : (l : Line) (i : ℕ) → LoneDigit l i 10
-unfolding LoneDigit
-lone-none l i h = absurd (omega arith)
-
-pub lone-found : (l : Line) (i : ℕ) → 1 ≤ i → i + 2 ≤ length l → getD l (i - 1) 0 ≡ 32 → getD l i 0 ≡ 32 → 48 ≤ getD l (i + 1) 0 → getD l (i + 1) 0 ≤ 57
-    → LoneDigit l i (getD l (i + 1) 0 - 48)
-unfolding LoneDigit
-lone-found l i h n a b low high k =
     let p : suc i - 1 ≡ i = omega arith in
     let q : suc (suc i) - 1 ≡ i + 1 = omega arith in
-    let r : 48 + (getD l (i + 1) 0 - 48) ≡ getD l (i + 1) 0 = omega arith in
-    columns-three l i ∙ rw (p, q, r, getD-any l (i - 1) 32 0 (omega arith), a, getD-any l i 32 0 (omega arith), b, getD-any l (i + 1) 32 0 (omega arith))
+    rw (e, p, q, getD-any l (i - 1) 32 0 (omega arith), getD-any l i 32 0 (omega arith), getD-any l (i + 1) 32 0 (omega arith))
 
-lone-digits : (k : ℕ) → k ≤ 9 → Digits ((48 + k) ∷ []) k
+pub short-none : (l : Line) (i : ℕ) → ShortNumber l i 100
+unfolding ShortNumber
+short-none l i h = absurd (omega arith)
+
+one-digit : (c : ℕ) → 48 ≤ c → c ≤ 57 → Digits (c ∷ []) (c - 48)
 unfolding decimalAfter Each
-lone-digits k h = record { some = omega arith; each = (omega arith, tt); number = omega arith }
+one-digit c low high = record { some = omega arith; each = ((low, high), tt); number = omega arith }
 
-lone-read : (negatives : Bool) (k : ℕ) → k ≤ 9 → integerIn negatives (32 ∷ 32 ∷ (48 + k) ∷ []) ≡ is (pos k)
-lone-read negatives k h = integer-read negatives (Integer.plain 2 ((48 + k) ∷ []) 0 k refl (lone-digits k h))
+two-digits : (b c : ℕ) → 48 ≤ b → b ≤ 57 → 48 ≤ c → c ≤ 57 → Digits (b ∷ c ∷ []) ((b - 48) * 10 + (c - 48))
+unfolding decimalAfter Each
+two-digits b c low high low′ high′ = record { some = omega arith; each = ((low, high), ((low′, high′), tt)); number = omega arith }
 
-pub lone-number : (least most : ℕ) (l : Line) (i j k : ℕ) (r : NumberRead) → LoneDigit l i k → k ≤ 9 → j ≡ i + 2 → r ≡ ranged least most (is (pos k)) → r ≡ numberIn least most (columns l i j)
-unfolding LoneDigit numberIn
-lone-number least most l i j k r d h e w = w ∙ sym (rw (e, d h, lone-read false k h))
+module _ (l : Line) (i : ℕ) (h : 1 ≤ i) (n : i + 2 ≤ length l) (a : getD l (i - 1) 0 ≡ 32) (low : 48 ≤ getD l (i + 1) 0) (high : getD l (i + 1) 0 ≤ 57) where
+  pub short-one : getD l i 0 ≡ 32 → ShortNumber l i (getD l (i + 1) 0 - 48)
+  unfolding ShortNumber
+  short-one b k negatives =
+      let c : ℕ = getD l (i + 1) 0 in
+      rw (columns-three l i h n, a, b) (integer-read negatives (Integer.plain 2 (c ∷ []) 0 (c - 48) refl (one-digit c low high)))
 
-pub lone-signed : (below above : ℕ) (l : Line) (i j k : ℕ) (r : SignedRead) → LoneDigit l i k → k ≤ 9 → j ≡ i + 2 → r ≡ signedRanged below above (is (signed false k)) → r ≡ signedIn below above (columns l i j)
-unfolding LoneDigit signedIn
-lone-signed below above l i j k r d h e w = w ∙ sym (rw (e, d h, lone-read true k h))
+  pub short-two : 48 ≤ getD l i 0 → getD l i 0 ≤ 57 → ShortNumber l i ((getD l i 0 - 48) * 10 + (getD l (i + 1) 0 - 48))
+  unfolding ShortNumber
+  short-two low′ high′ k negatives =
+      let b : ℕ = getD l i 0 in
+      let c : ℕ = getD l (i + 1) 0 in
+      rw (columns-three l i h n, a) (integer-read negatives (Integer.plain 1 (b ∷ c ∷ []) 0 ((b - 48) * 10 + (c - 48)) refl (two-digits b c low′ high′ low high)))
 
-pub ruleset lone-laws = (lone-none, lone-found)
+pub short-times : (b : ℕ) → b ≤ 57 → Fits w32 ((b - 48) * 10)
+short-times b h = record { fits = omega arith }
 
-pub ruleset usual-laws = (lone-number, lone-signed)
+pub short-plus : (b c : ℕ) → b ≤ 57 → c ≤ 57 → Fits w32 ((b - 48) * 10 + (c - 48))
+short-plus b c h k = record { fits = omega arith }
+
+pub short-within : (least most : ℕ) (l : Line) (i j k : ℕ) (r : NumberRead) → ShortNumber l i k → k ≤ 99 → j ≡ i + 2 → r ≡ ranged least most (is (pos k)) → r ≡ numberIn least most (columns l i j)
+unfolding ShortNumber numberIn
+short-within least most l i j k r d h e w = w ∙ sym (rw (e, d h false))
+
+pub short-between : (below above : ℕ) (l : Line) (i j k : ℕ) (r : SignedRead) → ShortNumber l i k → k ≤ 99 → j ≡ i + 2 → r ≡ signedRanged below above (is (signed false k)) → r ≡ signedIn below above (columns l i j)
+unfolding ShortNumber signedIn
+short-between below above l i j k r d h e w = w ∙ sym (rw (e, d h true))
+
+pub ruleset short-laws = (short-none, short-one, short-two, short-times, short-plus)
+
+pub ruleset usual-laws = (short-within, short-between)
 
 pub ruleset within-laws = (within-low, within-high, within-both)
 
 pub ruleset between-laws = (between-low, between-high, between-minus, between-plain)
-
-pub ruleset sign-at-laws = (sign-minus, sign-plus, sign-bare, sign-never)
 
 pub ruleset sign-laws = (sign-case, sign-none)
 

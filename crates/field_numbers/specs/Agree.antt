@@ -1,9 +1,10 @@
 -- The reading of an integer field finds exactly what the rule says, at any width; so a field stands for one number.
-use Prim.Native.Nat.{ℕ, zero, suc, _≤_, _<_}
+use Prim.Native.Nat.{ℕ, zero, suc, _+_, _≤_, _<_}
+use native.Mathlib.Nat.{zero-add, suc-add}
 use native.Mathlib.Omega.{arith}
-use mathlib.Core.Path.{_≡_, refl, ap, _∙_, subst}
+use mathlib.Core.Path.{_≡_, refl, sym, ap, _∙_, subst}
 use mathlib.Core.Logic.{_↔_}
-use mathlib.Core.List.{List, [], _∷_, _++_, append-nil}
+use mathlib.Core.List.{List, [], _∷_, _++_, append-assoc}
 use mathlib.Core.Bool.{Bool, true, false, cond, _&&_}
 use lib.Dec.{eqb, leb}
 use lib.IntN.{ℤ, pos, negsuc}
@@ -82,10 +83,33 @@ unfolding beforeSpaces
 spaces-shed zero = refl
 spaces-shed (suc j) = rw (spaces-shed j)
 
-pub digits-shed : (ds : Bytes) (j : ℕ) → Each Digit ds → beforeSpaces (ds ++ spaces j) ≡ ds
+pub shed-append : (xs : Bytes) (j : ℕ) → beforeSpaces (xs ++ spaces j) ≡ beforeSpaces xs
+unfolding beforeSpaces
+shed-append [] j = spaces-shed j
+shed-append (x ∷ xs) j = ap (before x) (shed-append xs j)
+
+-- what ends in a byte that is no space keeps all that stands before it
+pub shed-front : (front : Bytes) (d : ℕ) (ds : Bytes) → beforeSpaces (d ∷ ds) ≡ d ∷ ds → beforeSpaces (front ++ (d ∷ ds)) ≡ front ++ (d ∷ ds)
+unfolding beforeSpaces
+shed-front [] d ds h = h
+shed-front (b ∷ []) d ds h = ap (before b) h
+shed-front (b ∷ c ∷ front) d ds h = ap (before b) (shed-front (c ∷ front) d ds h)
+
+each-shed : (ds : Bytes) → Each Digit ds → beforeSpaces ds ≡ ds
 unfolding beforeSpaces Each
-digits-shed [] j h = spaces-shed j
-digits-shed (d ∷ ds) j h = ap (before d) (digits-shed ds j (h .1)) ∙ before-ink d ds (digit-not d 32 (omega arith) (h .0))
+each-shed [] h = refl
+each-shed (d ∷ ds) h = ap (before d) (each-shed ds (h .1)) ∙ before-ink d ds (digit-not d 32 (omega arith) (h .0))
+
+front-shed : (front ds : Bytes) (k : ℕ) → Digits ds k → beforeSpaces (front ++ ds) ≡ front ++ ds
+front-shed front [] k h = let z : 1 ≤ 0 = h .some in absurd (omega arith)
+front-shed front (d ∷ ds) k h = shed-front front d ds (each-shed (d ∷ ds) (h .each))
+
+plain-shed : (front ds : Bytes) (j k : ℕ) → Digits ds k → beforeSpaces (front ++ (ds ++ spaces j)) ≡ front ++ ds
+plain-shed front ds j k h = ap beforeSpaces (sym (append-assoc front ds (spaces j))) ∙ shed-append (front ++ ds) j ∙ front-shed front ds k h
+
+sign-shed : (i s : ℕ) (ds : Bytes) (j k : ℕ) → Digits ds k → beforeSpaces (spaces i ++ (s ∷ (ds ++ spaces j))) ≡ spaces i ++ (s ∷ ds)
+sign-shed i s ds j k h =
+    ap beforeSpaces (sym (append-assoc (spaces i) (s ∷ []) (ds ++ spaces j))) ∙ plain-shed (spaces i ++ (s ∷ [])) ds j k h ∙ append-assoc (spaces i) (s ∷ []) ds
 
 -- bytes, and then so many spaces
 pub record Trailed (ds cs : Bytes) : Type 0 where
@@ -117,9 +141,9 @@ some-digits [] h = absurd (let z : _≡_ {A = ℕ} 0 1 = cc in omega arith)
 some-digits (d ∷ ds) h = record { some = omega arith; each = digit-each (d ∷ ds) h; number = refl }
 
 -- digits as they are read, with the sign before them
-pub digits-read : (minus : Bool) (ds : Bytes) (j k : ℕ) → Digits ds k → digitsRead minus (ds ++ spaces j) ≡ is (signed minus k)
+pub digits-read : (minus : Bool) (ds : Bytes) (k : ℕ) → Digits ds k → digitsRead minus ds ≡ is (signed minus k)
 unfolding digitsRead
-digits-read minus ds j k h = rw (digits-shed ds j (h .each), digits-some ds k h, h .number)
+digits-read minus ds k h = rw (digits-some ds k h, h .number)
 
 record Read (minus : Bool) (ds : Bytes) (z : ℤ) : Type 0 where
   digits : Digits ds (decimalAfter 0 ds)
@@ -129,59 +153,64 @@ read-by : (minus : Bool) (ds : Bytes) (z : ℤ) (t : Bool) → someDigits ds ≡
 read-by minus ds z true t h = record { digits = some-digits ds t; number = cc }
 read-by minus ds z false t h = absurd (let z : _≡_ {A = ℕ} 0 1 = cc in omega arith)
 
-read-digits : (minus : Bool) (bs : Bytes) (z : ℤ) → digitsRead minus bs ≡ is z → Read minus (beforeSpaces bs) z
+read-digits : (minus : Bool) (ds : Bytes) (z : ℤ) → digitsRead minus ds ≡ is z → Read minus ds z
 unfolding digitsRead
-read-digits minus bs z h = read-by minus (beforeSpaces bs) z (someDigits (beforeSpaces bs)) refl h
+read-digits minus ds z h = read-by minus ds z (someDigits ds) refl h
 
 -- ---- what the rule says is read
-plain-read : (negatives : Bool) (ds : Bytes) (j k : ℕ) → Digits ds k → afterBlank negatives (afterSpaces (ds ++ spaces j)) ≡ is (pos k)
+plain-read : (negatives : Bool) (ds : Bytes) (k : ℕ) → Digits ds k → afterBlank negatives (afterSpaces ds) ≡ is (pos k)
 unfolding afterBlank afterSpaces Each
-plain-read negatives [] j k h = let z : 1 ≤ 0 = h .some in absurd (omega arith)
-plain-read negatives (d ∷ ds) j k h =
+plain-read negatives [] k h = let z : 1 ≤ 0 = h .some in absurd (omega arith)
+plain-read negatives (d ∷ ds) k h =
     let t = h .each .0 in
-    rw (digit-not d 32 (omega arith) t, digit-not d 45 (omega arith) t, digit-not d 43 (omega arith) t, and-false negatives) (digits-read false (d ∷ ds) j k h)
+    rw (digit-not d 32 (omega arith) t, digit-not d 45 (omega arith) t, digit-not d 43 (omega arith) t, and-false negatives) (digits-read false (d ∷ ds) k h)
 
 pub integer-read : (negatives : Bool) {cs : Bytes} {z : ℤ} → Integer negatives cs z → integerIn negatives cs ≡ is z
 unfolding integerIn afterBlank afterSpaces
-integer-read negatives (Integer.blank i e) = rw (e, spaces-only i)
-integer-read negatives (Integer.plain i ds j k e h) = rw (e, pass-spaces i (ds ++ spaces j)) (plain-read negatives ds j k h)
-integer-read negatives (Integer.plus i ds j k n e h) = rw (e, pass-spaces i (43 ∷ (ds ++ spaces j)), n) (digits-read false ds j k h)
-integer-read negatives (Integer.minus i ds j k n e h) = rw (e, pass-spaces i (45 ∷ (ds ++ spaces j)), n) (digits-read true ds j k h)
+integer-read negatives (Integer.blank i e) = rw (e, spaces-shed i)
+integer-read negatives (Integer.plain i ds j k e h) = rw (e, plain-shed (spaces i) ds j k h, pass-spaces i ds) (plain-read negatives ds k h)
+integer-read negatives (Integer.plus i ds j k n e h) = rw (e, sign-shed i 43 ds j k h, pass-spaces i (43 ∷ ds), n) (digits-read false ds k h)
+integer-read negatives (Integer.minus i ds j k n e h) = rw (e, sign-shed i 45 ds j k h, pass-spaces i (45 ∷ ds), n) (digits-read true ds k h)
 
 -- ---- what is read is what the rule says
-module _ (negatives : Bool) (cs : Bytes) (z : ℤ) (i : ℕ) where
-  sign-parts : (s b : ℕ) (bs : Bytes) → eqb b s ≡ true → cs ≡ spaces i ++ (b ∷ bs) → cs ≡ spaces i ++ (s ∷ (beforeSpaces bs ++ spaces (trailed bs .count)))
-  sign-parts s b bs h e = e ∙ ap (λ (l : Bytes). spaces i ++ l) (ap (λ (c : ℕ). c ∷ bs) (eqb-true b s h) ∙ ap (λ (l : Bytes). s ∷ l) (trailed bs .parts))
+spaces-join : (i j : ℕ) → _≡_ {A = Bytes} (spaces i ++ spaces j) (spaces (i + j))
+spaces-join zero j = rw (zero-add j)
+spaces-join (suc i) j = rw (suc-add i j) (ap (λ (r : Bytes). 32 ∷ r) (spaces-join i j))
 
-  plus-rule : (b : ℕ) (bs : Bytes) (t : Bool) → (negatives && eqb b 43) ≡ t → cs ≡ spaces i ++ (b ∷ bs) → cond t (digitsRead false bs) (digitsRead false (b ∷ bs)) ≡ is z → Integer negatives cs z
+module _ (negatives : Bool) (cs : Bytes) (z : ℤ) (i j : ℕ) where
+  plus-rule : (b : ℕ) (bs : Bytes) (t : Bool) → (negatives && eqb b 43) ≡ t → cs ≡ spaces i ++ (b ∷ (bs ++ spaces j)) →
+      cond t (digitsRead false bs) (digitsRead false (b ∷ bs)) ≡ is z → Integer negatives cs z
   plus-rule b bs true t e h =
       let a = and-true negatives (eqb b 43) t in
       let r = read-digits false bs z h in
-      rw (r .number) (Integer.plus i (beforeSpaces bs) (trailed bs .count) (decimalAfter 0 (beforeSpaces bs)) (a .0) (sign-parts 43 b bs (a .1) e) (r .digits))
+      rw (r .number) (Integer.plus i bs j (decimalAfter 0 bs) (a .0) (rw (eqb-true b 43 (a .1)) at e) (r .digits))
   plus-rule b bs false t e h =
       let r = read-digits false (b ∷ bs) z h in
-      let q = trailed (b ∷ bs) in
-      rw (r .number)
-      (Integer.plain i (beforeSpaces (b ∷ bs)) (q .count) (decimalAfter 0 (beforeSpaces (b ∷ bs))) (e ∙ ap (λ (l : Bytes). spaces i ++ l) (q .parts)) (r .digits))
+      rw (r .number) (Integer.plain i (b ∷ bs) j (decimalAfter 0 (b ∷ bs)) e (r .digits))
 
-  ink-rule : (b : ℕ) (bs : Bytes) (t : Bool) → (negatives && eqb b 45) ≡ t → cs ≡ spaces i ++ (b ∷ bs) →
+  ink-rule : (b : ℕ) (bs : Bytes) (t : Bool) → (negatives && eqb b 45) ≡ t → cs ≡ spaces i ++ (b ∷ (bs ++ spaces j)) →
       cond t (digitsRead true bs) (cond (negatives && eqb b 43) (digitsRead false bs) (digitsRead false (b ∷ bs))) ≡ is z → Integer negatives cs z
   ink-rule b bs true t e h =
       let a = and-true negatives (eqb b 45) t in
       let r = read-digits true bs z h in
-      rw (r .number) (Integer.minus i (beforeSpaces bs) (trailed bs .count) (decimalAfter 0 (beforeSpaces bs)) (a .0) (sign-parts 45 b bs (a .1) e) (r .digits))
+      rw (r .number) (Integer.minus i bs j (decimalAfter 0 bs) (a .0) (rw (eqb-true b 45 (a .1)) at e) (r .digits))
   ink-rule b bs false t e h = plus-rule b bs (negatives && eqb b 43) refl e h
 
-  rest-rule : (rest : Bytes) → cs ≡ spaces i ++ rest → afterBlank negatives rest ≡ is z → Integer negatives cs z
+  rest-rule : (rest : Bytes) → cs ≡ spaces i ++ (rest ++ spaces j) → afterBlank negatives rest ≡ is z → Integer negatives cs z
   unfolding afterBlank
   rest-rule [] e h =
       let w : z ≡ pos 0 = cc in
-      rw w (Integer.blank i (e ∙ append-nil _))
+      rw w (Integer.blank (i + j) (e ∙ spaces-join i j))
   rest-rule (b ∷ bs) e h = ink-rule b bs (negatives && eqb b 45) refl e h
 
 pub read-integer : (negatives : Bool) (cs : Bytes) (z : ℤ) → integerIn negatives cs ≡ is z → Integer negatives cs z
 unfolding integerIn
-read-integer negatives cs z h = let l = led cs in rest-rule negatives cs z (l .count) (afterSpaces cs) (l .parts) h
+read-integer negatives cs z h =
+    let t = trailed cs in
+    let l = led (beforeSpaces cs) in
+    let e : cs ≡ spaces (l .count) ++ (afterSpaces (beforeSpaces cs) ++ spaces (t .count)) =
+    t .parts ∙ ap (λ (r : Bytes). r ++ spaces (t .count)) (l .parts) ∙ append-assoc (spaces (l .count)) (afterSpaces (beforeSpaces cs)) (spaces (t .count)) in
+    rest-rule negatives cs z (l .count) (t .count) (afterSpaces (beforeSpaces cs)) e h
 
 pub integer-agrees : (negatives : Bool) (cs : Bytes) (z : ℤ) → (integerIn negatives cs ≡ is z) ↔ Integer negatives cs z
 integer-agrees negatives cs z = (read-integer negatives cs z, integer-read negatives)

@@ -44,15 +44,11 @@ abbrev pub signed : Bool → ℕ → ℤ
 signed true k = negℤ (pos k)
 signed false k = pos k
 
--- digits and nothing else
-abbrev pub exactRead : Bool → Bytes → IntegerRead
-exactRead minus ds = cond (someDigits ds) (is (signed minus (decimalAfter 0 ds))) malformed
-
--- digits, then spaces, with a sign read before them
+-- digits and nothing else, with a sign read before them
 unfoldable pub digitsRead : Bool → Bytes → IntegerRead
-digitsRead minus bs = exactRead minus (beforeSpaces bs)
+digitsRead minus ds = cond (someDigits ds) (is (signed minus (decimalAfter 0 ds))) malformed
 
--- a field without its leading spaces
+-- a field without the spaces on both sides
 unfoldable pub afterBlank : Bool → Bytes → IntegerRead
 afterBlank negatives [] = is (pos 0)
 afterBlank negatives (b ∷ bs) =
@@ -60,7 +56,7 @@ afterBlank negatives (b ∷ bs) =
     (cond (negatives && eqb b (byte "+")) (digitsRead false bs) (digitsRead false (b ∷ bs)))
 
 unfoldable pub integerIn : Bool → Bytes → IntegerRead
-integerIn negatives cs = afterBlank negatives (afterSpaces cs)
+integerIn negatives cs = afterBlank negatives (afterSpaces (beforeSpaces cs))
 
 -- a number from `least` to `most`
 unfoldable pub ranged : ℕ → ℕ → IntegerRead → NumberRead
