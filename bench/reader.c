@@ -36,31 +36,29 @@ static int refuse(struct reader *r, int number, int column)
     return 0;
 }
 
-/* Spaces, perhaps a minus, digits up to the last column; or all spaces, which is zero. */
+/* Spaces, perhaps a sign, digits, spaces; or all spaces, which is zero. */
 static int integer(const char *field, int width, int negatives, int *value)
 {
-    int i = 0, minus = 0, sum = 0;
+    int i = 0, minus = 0, sum = 0, digits;
     while (i < width && field[i] == ' ')
         i++;
     *value = 0;
     if (i == width)
         return 1;
-    if (negatives && field[i] == '-') {
-        minus = 1;
-        i++;
-    }
-    if (i == width)
-        return 0;
-    for (; i < width; i++) {
-        if (field[i] < '0' || field[i] > '9')
-            return 0;
+    if (negatives && (field[i] == '-' || field[i] == '+'))
+        minus = field[i++] == '-';
+    for (digits = i; i < width && field[i] >= '0' && field[i] <= '9'; i++)
         sum = 10 * sum + (field[i] - '0');
-    }
+    if (i == digits)
+        return 0;
+    for (; i < width; i++)
+        if (field[i] != ' ')
+            return 0;
     *value = minus ? -sum : sum;
     return 1;
 }
 
-/* An integer field with its range; the minus is good only where the range has negatives. */
+/* An integer field with its range; a sign is good only where the range has negatives. */
 static int within(struct reader *r, const char *s, int column, int width, int low, int high, int *value)
 {
     if (!integer(s + column - 1, width, low < 0, value))

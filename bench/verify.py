@@ -2,9 +2,10 @@
 
     python3 bench/verify.py [SEED] [N]      N files, each judged as both kinds (default: seed 1, 4,000 files)
 
-The files are the oracle's: good ones, aimed damage, cuts and blind damage; then one small record with every field set to
-numbers around its limits, and with every column of every line written over. Many cases go to one process. Inputs around
-the reader's buffer go in as standard input, one process each.
+The files are the oracle's: good ones, aimed damage, cuts and blind damage; then one small record with every integer field set
+to numbers around its limits at each place of its columns, and to every text of spaces, signs and a few digits, and with every
+column of every line written over. Many cases go to one process. Inputs around the reader's buffer go in as standard input, one
+process each.
 """
 
 import collections
@@ -19,8 +20,9 @@ sys.dont_write_bytecode = True
 
 from counter_cases import around_the_buffer
 from ctfile import check
-from damage import FIELDS, damaged, put
+from damage import damaged, put
 from generate import all_symbols, file_rows, good_drafts, to_bytes
+from spelled import every_text, integer_fields, positions
 from vectors import SWEEP_LINES, sweep_file
 
 OUT = os.path.join(HERE, "out")
@@ -48,27 +50,27 @@ def files(rng, count):
 
 
 def small_files():
-    """One record with a field set to a number, or a byte written over a column, as (name, bytes)."""
+    """One record with a field set to a text, or a byte written over a column, as (name, bytes)."""
     numbers = [-99, -9, *range(-17, 18), 99, 100, 998, 999]
-    fields = [(place, first, last - first + 1) for place, rows in FIELDS.items() for first, last, _ in rows]
-    fields += [("bond", 10, 3), ("property", 7, 3), ("property", 11, 3), ("property", 15, 3)]
-    for place, first, width in fields:
-        for text in [" " * width] + [str(number).rjust(width) for number in numbers]:
-            for tag in [b"CHG", b"RAD", b"ISO"] if place == "property" else [b""]:
-                yield "%s column %d" % (place, first), changed(place, first, text[-width:], tag)
+    for field in integer_fields(2):
+        texts = set(every_text(field.width))
+        for number in numbers:
+            texts.update(positions(str(number)[-field.width:], field.width) + positions(("+%d" % number)[-field.width:], field.width))
+        for text in sorted(texts):
+            yield "%s column %d" % (field.place, field.first), changed(field.place, field.first, text, field.tag)
     for kind in range(10):
         for stereo in range(10):
             yield "bond type %d, stereo %d" % (kind, stereo), changed("bond", 7, "%3d%3d" % (kind, stereo))
     for place in SWEEP_LINES:
         for column in range(1, 82 if place != b"value" else 202):
-            for byte in b"#9- \x1f\x7f\x80":
+            for byte in b"#9-+ \x1f\x7f\x80":
                 yield "%s column %d, byte %d" % (place.decode(), column, byte), changed(place.decode(), column, bytes([byte]))
 
 
 def changed(place, column, text, tag=b""):
-    """The record with a text put into one of its lines; for a property line also with that tag."""
-    old = SWEEP_LINES[place.encode()]
-    return sweep_file(place.encode(), put(put(old, 4, tag), column, text))
+    """The record with a text put into one of its lines; given a tag, into a property line of that kind."""
+    line = b"M  " + tag + b"  2   2   1   1   1" if tag else SWEEP_LINES[place.encode()]
+    return sweep_file(place.encode(), put(line, column, text))
 
 
 def line(answer):

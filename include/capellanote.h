@@ -20,7 +20,7 @@
       4  byte not allowed (allowed are 32 to 126)
       5  reserved tag in the first header line
       6  version isn't V2000
-      7  field malformed
+      7  field malformed (an integer is spaces, a + or - where negatives may stand, digits, spaces; or spaces alone, for 0)
       8  number outside its range or list
       9  symbol unknown
      10  bond ends equal

@@ -1,5 +1,5 @@
 -- What is written of a coordinate is read as that coordinate: ten columns of allowed bytes.
-use Prim.Native.Nat.{ℕ, zero, suc, _+_, _*_, _/_, _%_, _≤_}
+use Prim.Native.Nat.{ℕ, suc, _+_, _*_, _/_, _%_, _≤_}
 use native.Mathlib.Nat.{div-div-eq-div-mul}
 use native.Mathlib.Omega.{arith}
 use mathlib.Core.Path.{_≡_, refl, sym, ap, _∙_, subst}
@@ -8,11 +8,11 @@ use mathlib.Core.Bool.{Bool, true, false}
 use lib.ListN.{length, length-append}
 use lib.IntN.{ℤ, pos, negsuc, negℤ}
 use Rattle.text.specs.Laws.{each-append}
-use Rattle.text.specs.Text.{Bytes, Each, bytes}
-use Rattle.text.specs.Columns.{spaces, Allowed}
-use Rattle.field_numbers.specs.Number.{Digits, Integer, Between, decimalAfter}
-use Rattle.field_numbers.specs.Write.{textBy, sizedText}
-use Rattle.field_numbers.specs.Written.{text-length, text-allowed, number-back, signed-back}
+use Rattle.text.specs.Text.{Bytes, Each}
+use Rattle.text.specs.Columns.{Allowed}
+use Rattle.field_numbers.specs.Number.{Digits, Between, decimalAfter}
+use Rattle.field_numbers.specs.Write.{sizedText}
+use Rattle.field_numbers.specs.Written.{text-length, text-allowed, Shape, shape}
 use Rattle.field_coordinates.specs.declared.CoordinateRead.{CoordinateRead}
 use Rattle.field_coordinates.specs.Coordinate.{Pointed, Coordinate}
 use Rattle.field_coordinates.specs.Read.{coordinateIn}
@@ -38,45 +38,11 @@ coordinate-allowed (pos k) = text-bytes false k
 coordinate-allowed (negsuc k) = text-bytes true (suc k)
 
 -- the digits before the point
-abbrev sign : Bool → Bytes
-sign true = bytes "-"
-sign false = []
+plain-text : (k : ℕ) → k ≤ 99999 → Shape false (sizedText 5 false k) k
+plain-text k h = shape false 4 k (omega arith)
 
-record Whole (minus : Bool) (cs : Bytes) (k : ℕ) : Type 0 where
-  count : ℕ
-  ds : Bytes
-  parts : cs ≡ spaces count ++ (sign minus ++ ds)
-  digits : Digits ds k
-
-plain-whole : (negatives : Bool) (cs : Bytes) (z : ℤ) (k : ℕ) → Integer negatives cs z → z ≡ pos (suc k) → Whole false cs (suc k)
-plain-whole negatives cs z k (Integer.blank i e) h = absurd (let w : _≡_ {A = ℕ} 0 1 = cc in omega arith)
-plain-whole negatives cs z k (Integer.plain i ds j e d) h =
-    let q : j ≡ suc k = cc in
-    record { count = i; ds = ds; parts = e; digits = subst (Digits ds) q d }
-plain-whole negatives cs z k (Integer.minus i ds zero n e d) h = absurd (let w : _≡_ {A = ℕ} 0 1 = cc in omega arith)
-plain-whole negatives cs z k (Integer.minus i ds (suc j) n e d) h = absurd (let w : _≡_ {A = ℕ} 0 1 = cc in omega arith)
-
-minus-whole : (negatives : Bool) (cs : Bytes) (z : ℤ) (k : ℕ) → Integer negatives cs z → z ≡ negsuc k → Whole true cs (suc k)
-minus-whole negatives cs z k (Integer.blank i e) h = absurd (let w : _≡_ {A = ℕ} 0 1 = cc in omega arith)
-minus-whole negatives cs z k (Integer.plain i ds j e d) h = absurd (let w : _≡_ {A = ℕ} 0 1 = cc in omega arith)
-minus-whole negatives cs z k (Integer.minus i ds zero n e d) h = absurd (let w : _≡_ {A = ℕ} 0 1 = cc in omega arith)
-minus-whole negatives cs z k (Integer.minus i ds (suc j) n e d) h =
-    let q : suc j ≡ suc k = cc in
-    record { count = i; ds = ds; parts = e; digits = subst (Digits ds) q d }
-
-zero-digit : Digits (bytes "0") 0
-unfolding Each decimalAfter
-zero-digit = record { some = omega arith; each = ((omega arith, omega arith), tt); number = refl }
-
-plain-text : (k : ℕ) → k ≤ 99999 → Whole false (sizedText 5 false k) k
-unfolding textBy
-plain-text zero h = record { count = 4; ds = bytes "0"; parts = refl; digits = zero-digit }
-plain-text (suc k) h = plain-whole false (sizedText 5 false (suc k)) (pos (suc k)) k (number-back false 5 (suc k) (omega arith)) refl
-
-minus-text : (k : ℕ) → k ≤ 9999 → Whole true (sizedText 5 true k) k
-unfolding textBy
-minus-text zero h = record { count = 3; ds = bytes "0"; parts = refl; digits = zero-digit }
-minus-text (suc k) h = minus-whole true (sizedText 5 true (suc k)) (negsuc k) k (signed-back 5 (negsuc k) (omega arith)) refl
+minus-text : (k : ℕ) → k ≤ 9999 → Shape true (sizedText 5 true k) k
+minus-text k h = shape true 3 k (omega arith)
 
 -- the digits after it
 part-digits : (k : ℕ) → Digits (lastDigit (k / 1000) ∷ lastDigit (k / 100) ∷ lastDigit (k / 10) ∷ lastDigit k ∷ []) (k % 10000)

@@ -1,25 +1,25 @@
--- Laws on the columns of an integer field, from column a up to column e: its spaces, its sign, its digits.
+-- Laws on the columns of an integer field, from column a up to column e: its spaces, its sign, its digits, the spaces after them.
 use Prim.Native.Nat.{ℕ, zero, suc, _+_, _-_, _*_, _^_, _≤_, _<_, zero-le}
 use native.Mathlib.Nat.{not-suc-le-zero, le-of-suc-le-suc, lt-of-lt-of-le, mul-le-mul-right, mul-assoc, pow-suc, pow-succ', pow-le-pow-right}
 use native.Mathlib.Numerals.{add-one}
 use native.Mathlib.Omega.{arith}
-use mathlib.Core.Path.{_≡_, refl, sym, _∙_}
-use mathlib.Core.List.{[], _∷_}
+use mathlib.Core.Path.{_≡_, refl, sym, ap, _∙_}
+use mathlib.Core.List.{[], _∷_, _++_, append-nil}
 use mathlib.Core.Bool.{Bool, true, false, cond, _&&_}
 use lib.Dec.{eqb, leb}
-use lib.ListN.{length, getD}
+use lib.ListN.{length, length-append, getD}
 use lib.IntN.{ℤ, pos, negℤ}
-use borrow.Author.Tests.{leb-true, eq-eqb, ne-eqb, le-leb, lt-leb}
+use borrow.Author.Tests.{leb-true, leb-false, eq-eqb, ne-eqb, le-leb, lt-leb}
 use mir.Syntax.{w32}
 use mir.Val.{Fits}
 use Rattle.text.specs.Text.{Bytes, Line, Each}
-use Rattle.text.specs.Columns.{column, columns, columnsFor}
+use Rattle.text.specs.Columns.{column, columns, columnsFor, spaces}
 use Rattle.text.specs.Laws.{and-true, getD-any}
-use Rattle.text.specs.Agree.{columns-length, columns-step, columns-over}
+use Rattle.text.specs.Agree.{columns-length, columns-step, columns-over, columns-join, columns-past}
 use Rattle.field_numbers.specs.Number.{Digits, Integer, decimalAfter}
-use Rattle.field_numbers.specs.Read.{is, isDigit, allDigits, someDigits, afterSpaces, signed, digitsRead, afterBlank, integerIn, ranged, numberIn, signedRanged, signedIn}
-use Rattle.field_numbers.specs.Agree.{integer-read}
-use Rattle.field_numbers.specs.Parts.{sizeAfter, sizeIn, withSign, sizedFrom, sizedIn, integerOf, LoneDigit}
+use Rattle.field_numbers.specs.Read.{is, isDigit, allDigits, someDigits, afterSpaces, beforeSpaces, signed, digitsRead, afterBlank, integerIn, ranged, numberIn, signedRanged, signedIn}
+use Rattle.field_numbers.specs.Agree.{integer-read, led, before-ink, spaces-shed, shed-append, shed-front, trailed}
+use Rattle.field_numbers.specs.Parts.{sizeAfter, sizeIn, withSign, sizedFrom, sizedIn, integerOf, LineEnd, ShortNumber}
 use Rattle.field_numbers.specs.declared.NumberRead.{NumberRead}
 use Rattle.field_numbers.specs.declared.SignedRead.{SignedRead}
 use Rattle.field_numbers.specs.declared.Size.{Size}
@@ -50,7 +50,7 @@ pub passing-end : (l : Line) (i e a : ℕ) → Passing l i e a → e ≤ a → a
 unfolding afterSpaces
 passing-end l i e a p h = p .same ∙ rw (columns-over l a e h, columns-over l e e (omega arith))
 
--- ---- the walk over digits: those from column i on are those from column a on, after digits that stand for k
+-- ---- the walk over digits and nothing else: those from column i on are those from column a on, after digits that stand for k
 pub record Counting (l : Line) (i e k a : ℕ) : Type 0 where
   pub low : i ≤ a
   pub high : a ≤ e
@@ -98,29 +98,138 @@ unfolding sizeAfter allDigits decimalAfter
 counting-end l i e k a c h = sym (c .same ∙ rw (columns-over l a e h))
 
 -- in a turn k has at most eight digits
-counting-small : (l : Line) (i e k a : ℕ) → Counting l i e k a → a < e → e ≤ i + 9 → k < 100000000
-counting-small l i e k a c h w = omega (arith, c .small, ten-mono {m = a - i} {n = 8} (omega arith))
+turn-small : (i e k a : ℕ) → k < 10 ^ (a - i) → a < e → e ≤ i + 9 → k < 100000000
+turn-small i e k a s h w = omega (arith, s, ten-mono {m = a - i} {n = 8} (omega arith))
 
 pub counting-times : (l : Line) (i e k a : ℕ) → Counting l i e k a → a < e → e ≤ i + 9 → Fits w32 (k * 10)
-counting-times l i e k a c h w = record { fits = omega (arith, counting-small l i e k a c h w) }
+counting-times l i e k a c h w = record { fits = omega (arith, turn-small i e k a (c .small) h w) }
 
 pub counting-plus : (l : Line) (i e k a b : ℕ) → Counting l i e k a → a < e → e ≤ i + 9 → b ≤ 57 → Fits w32 (k * 10 + (b - 48))
-counting-plus l i e k a b c h w high = record { fits = omega (arith, counting-small l i e k a c h w) }
+counting-plus l i e k a b c h w high = record { fits = omega (arith, turn-small i e k a (c .small) h w) }
 
--- ---- the field
-pub sized-blank : (negatives : Bool) (l : Line) (i j a : ℕ) → afterSpaces (columnsFor l i (j + 1 - i)) ≡ columnsFor l a (j + 1 - a) → j + 1 ≤ a → SizedRead.Is false 0 ≡ sizedIn negatives (columns l i j)
-unfolding sizedIn sizedFrom
-sized-blank negatives l i j a p h = sym (rw (← add-one j, p, columns-over l a (j + 1) h))
+-- ---- the walk over trailing spaces from the right: what stands before them up to column e is what stands before them up to column z
+pub record Shedding (l : Line) (i e z : ℕ) : Type 0 where
+  pub high : z ≤ e
+  pub same : beforeSpaces (columnsFor l i (e - i)) ≡ beforeSpaces (columnsFor l i (z - i))
 
-pub sized-minus : (negatives t : Bool) (l : Line) (i j a : ℕ) (r : SizedRead) → afterSpaces (columnsFor l i (j + 1 - i)) ≡ columnsFor l a (j + 1 - a) → a < j + 1
-    → t ≡ (negatives && eqb (column l a) 45) → t ≡ true → r ≡ withSign true (sizeIn (columnsFor l (a + 1) (j + 1 - (a + 1)))) → r ≡ sizedIn negatives (columns l i j)
-unfolding sizedIn sizedFrom
-sized-minus negatives t l i j a r p h m s e = e ∙ sym (rw (← add-one j, p, columns-step l a (j + 1) h, ← m, s))
+last-column : (l : Line) (i z : ℕ) → i < z → columnsFor l i (z - i) ≡ columnsFor l i (z - 1 - i) ++ (column l (z - 1) ∷ [])
+unfolding columnsFor
+last-column l i z h =
+    let p : z - i ≡ z - 1 - i + 1 = omega arith in
+    let q : i + (z - 1 - i) ≡ z - 1 = omega arith in
+    rw p (columns-join l i (z - 1 - i) 1 ∙ rw q)
 
-pub sized-plain : (negatives t : Bool) (l : Line) (i j a : ℕ) (r : SizedRead) → afterSpaces (columnsFor l i (j + 1 - i)) ≡ columnsFor l a (j + 1 - a) → a < j + 1
-    → t ≡ (negatives && eqb (column l a) 45) → t ≡ false → r ≡ withSign false (sizeIn (columnsFor l a (j + 1 - a))) → r ≡ sizedIn negatives (columns l i j)
-unfolding sizedIn sizedFrom
-sized-plain negatives t l i j a r p h m s e = e ∙ sym (rw (← add-one j, p, columns-step l a (j + 1) h, ← m, s))
+pub shedding-start : (l : Line) (i e : ℕ) → Shedding l i e e
+shedding-start l i e = record { high = omega arith; same = refl }
+
+module _ (l : Line) (i e z b : ℕ) (s : Shedding l i e z) (h : i < z) (c : b ≡ column l (z - 1)) where
+  pub shedding-next : b ≡ 32 → Shedding l i e (z - 1)
+  shedding-next k =
+      let xs : Bytes = columnsFor l i (z - 1 - i) in
+      let t : columnsFor l i (z - i) ≡ xs ++ spaces 1 = last-column l i z h ∙ ap (λ (d : ℕ). xs ++ (d ∷ [])) (sym c ∙ k) in
+      record { high = omega (arith, s .high); same = s .same ∙ ap beforeSpaces t ∙ shed-append xs 1 }
+
+  pub shedding-stop : (b ≡ 32 → ⊥) → beforeSpaces (columnsFor l i (e - i)) ≡ columnsFor l i (z - i)
+  unfolding beforeSpaces
+  shedding-stop k =
+      let d : ℕ = column l (z - 1) in
+      let t = last-column l i z h in
+      s .same ∙ ap beforeSpaces t ∙ shed-front (columnsFor l i (z - 1 - i)) d [] (before-ink d [] (ne-eqb d 32 (λ x. k (c ∙ x)))) ∙ sym t
+
+pub shedding-end : (l : Line) (i e z : ℕ) → Shedding l i e z → z ≤ i → beforeSpaces (columnsFor l i (e - i)) ≡ columnsFor l i (i - i)
+unfolding beforeSpaces
+shedding-end l i e z s h = s .same ∙ rw (columns-over l i z h, columns-over l i i (omega arith))
+
+-- ---- the columns that the line has
+pub line-short : (l : Line) (e : ℕ) → length l < e - 1 → LineEnd l e (length l + 1)
+unfolding LineEnd
+line-short l e h k = omega arith
+
+pub line-long : (l : Line) (e : ℕ) → LineEnd l e e
+unfolding LineEnd
+line-long l e k = absurd (omega arith)
+
+-- columns past the end of the line are spaces
+past-shed : (l : Line) (i e r : ℕ) → r ≤ e → length l < r → beforeSpaces (columnsFor l i (e - i)) ≡ beforeSpaces (columnsFor l i (r - i))
+unfolding beforeSpaces
+past-shed l i e r h n = by (leb i r) refl
+  where
+    by : (t : Bool) → leb i r ≡ t → beforeSpaces (columnsFor l i (e - i)) ≡ beforeSpaces (columnsFor l i (r - i))
+    by true t =
+        let k : i ≤ r = leb-true i r t in
+        let p : e - i ≡ r - i + (e - r) = omega arith in
+        let q : i + (r - i) ≡ r = omega arith in
+        let past : columnsFor l (i + (r - i)) (e - r) ≡ spaces (e - r) = rw q (columns-past l r (e - r) n) in
+        rw p (ap beforeSpaces (columns-join l i (r - i) (e - r) ∙ ap (λ (x : Bytes). columnsFor l i (r - i) ++ x) past) ∙ shed-append (columnsFor l i (r - i)) (e - r))
+    by false t =
+        let k : r < i = leb-false i r t in
+        rw (columns-over l i r (omega arith), columns-past l i (e - i) (omega arith)) (spaces-shed (e - i))
+
+pub line-shed : (l : Line) (i e r : ℕ) → r ≤ e → LineEnd l e r → beforeSpaces (columnsFor l i (e - i)) ≡ beforeSpaces (columnsFor l i (r - i))
+unfolding LineEnd
+line-shed l i e r h p = by (leb e r) refl
+  where
+    by : (t : Bool) → leb e r ≡ t → beforeSpaces (columnsFor l i (e - i)) ≡ beforeSpaces (columnsFor l i (r - i))
+    by true t =
+        let k : e ≤ r = leb-true e r t in
+        let q : e ≡ r = omega arith in
+        ap (λ (x : ℕ). beforeSpaces (columnsFor l i (x - i))) q
+    by false t = past-shed l i e r h (p (leb-false e r t))
+
+-- ---- the field without its trailing spaces, then without its leading ones
+shed-twice : (cs : Bytes) → beforeSpaces (beforeSpaces cs) ≡ beforeSpaces cs
+shed-twice cs = let q = trailed cs in sym (ap beforeSpaces (q .parts) ∙ shed-append (beforeSpaces cs) (q .count))
+
+blank-shed : (cs : Bytes) → afterSpaces cs ≡ [] → beforeSpaces cs ≡ []
+blank-shed cs h =
+    let q = led cs in
+    ap beforeSpaces (q .parts ∙ ap (λ (r : Bytes). spaces (q .count) ++ r) h ∙ append-nil _) ∙ spaces-shed (q .count)
+
+-- where something is left, not all of it is spaces
+pub ink-left : (l : Line) (i e z a : ℕ) → beforeSpaces (columnsFor l i (e - i)) ≡ columnsFor l i (z - i) → i < z → afterSpaces (columnsFor l i (z - i)) ≡ columnsFor l a (z - a) → a < z
+ink-left l i e z a s h p = by (leb z a) refl
+  where
+    by : (t : Bool) → leb z a ≡ t → a < z
+    by true t =
+        let k : z ≤ a = leb-true z a t in
+        let none : afterSpaces (columnsFor l i (z - i)) ≡ [] = p ∙ columns-over l a z k in
+        let twice : beforeSpaces (columnsFor l i (z - i)) ≡ columnsFor l i (z - i) = ap beforeSpaces (sym s) ∙ shed-twice (columnsFor l i (e - i)) ∙ s in
+        let left : columnsFor l i (z - i) ≡ [] = sym twice ∙ blank-shed (columnsFor l i (z - i)) none in
+        absurd (omega (arith, columns-length l i (z - i), ap length left))
+    by false t = leb-false z a t
+
+module _ (negatives : Bool) (l : Line) (i j e z : ℕ) (n : e ≤ j + 1) (p : LineEnd l (j + 1) e) (s : beforeSpaces (columnsFor l i (e - i)) ≡ columnsFor l i (z - i)) where
+  shed-field : beforeSpaces (columns l i j) ≡ columnsFor l i (z - i)
+  shed-field = rw (← add-one j) (line-shed l i (j + 1) e n p ∙ s)
+
+  pub sized-blank : z ≤ i → SizedRead.Is false 0 ≡ sizedIn negatives (columns l i j)
+  unfolding sizedIn sizedFrom afterSpaces
+  sized-blank h = sym (rw (shed-field, columns-over l i z h))
+
+  module _ (a : ℕ) (r : SizedRead) (q : afterSpaces (columnsFor l i (z - i)) ≡ columnsFor l a (z - a)) where
+    pub sized-signed : negatives ≡ true → r ≡ sizedFrom true (columnsFor l a (z - a)) → r ≡ sizedIn negatives (columns l i j)
+    unfolding sizedIn
+    sized-signed t w = w ∙ sym (rw (shed-field, q, t))
+
+    pub sized-plain : negatives ≡ false → i < z → r ≡ withSign false (sizeIn (columnsFor l a (z - a))) → r ≡ sizedIn negatives (columns l i j)
+    unfolding sizedIn sizedFrom
+    sized-plain t h w =
+        let k : a < z = ink-left l i e z a s h q in
+        w ∙ sym (rw (shed-field, q, t, columns-step l a z k))
+
+-- ---- the sign
+module _ (l : Line) (i e b : ℕ) (r : SizedRead) (h : i < e) (c : b ≡ column l i) where
+  pub from-minus : b ≡ 45 → r ≡ withSign true (sizeIn (columnsFor l (i + 1) (e - (i + 1)))) → r ≡ sizedFrom true (columnsFor l i (e - i))
+  unfolding sizedFrom
+  from-minus k w = w ∙ sym (rw (columns-step l i e h, ← c, k))
+
+  pub from-plus : (b ≡ 45 → ⊥) → b ≡ 43 → r ≡ withSign false (sizeIn (columnsFor l (i + 1) (e - (i + 1)))) → r ≡ sizedFrom true (columnsFor l i (e - i))
+  unfolding sizedFrom
+  from-plus m k w = w ∙ sym (rw (columns-step l i e h, ← c, k))
+
+  pub from-bare : (b ≡ 45 → ⊥) → (b ≡ 43 → ⊥) → r ≡ withSign false (sizeIn (columnsFor l i (e - i))) → r ≡ sizedFrom true (columnsFor l i (e - i))
+  unfolding sizedFrom
+  from-bare m p w = w ∙ sym (rw (columns-step l i e h, ← c, ne-eqb b 45 m, ne-eqb b 43 p))
 
 -- ---- sign and size are the reading
 sized-digits : (minus : Bool) (ds : Bytes) → integerOf (withSign minus (sizeIn ds)) ≡ digitsRead minus ds
@@ -134,15 +243,17 @@ sized-digits minus ds = by (someDigits ds) refl
 sized-from : (negatives : Bool) (cs : Bytes) → integerOf (sizedFrom negatives cs) ≡ afterBlank negatives cs
 unfolding integerOf sizedFrom afterBlank
 sized-from negatives [] = refl
-sized-from negatives (b ∷ bs) = by (negatives && eqb b 45)
+sized-from negatives (b ∷ bs) = by (negatives && eqb b 45) (negatives && eqb b 43)
   where
-    by : (t : Bool) → integerOf (cond t (withSign true (sizeIn bs)) (withSign false (sizeIn (b ∷ bs)))) ≡ cond t (digitsRead true bs) (digitsRead false (b ∷ bs))
-    by true = sized-digits true bs
-    by false = sized-digits false (b ∷ bs)
+    by : (s t : Bool) → integerOf (cond s (withSign true (sizeIn bs)) (cond t (withSign false (sizeIn bs)) (withSign false (sizeIn (b ∷ bs)))))
+        ≡ cond s (digitsRead true bs) (cond t (digitsRead false bs) (digitsRead false (b ∷ bs)))
+    by true t = sized-digits true bs
+    by false true = sized-digits false bs
+    by false false = sized-digits false (b ∷ bs)
 
 pub integer-of : (negatives : Bool) (cs : Bytes) → integerIn negatives cs ≡ integerOf (sizedIn negatives cs)
 unfolding integerIn sizedIn
-integer-of negatives cs = sym (sized-from negatives (afterSpaces cs))
+integer-of negatives cs = sym (sized-from negatives (afterSpaces (beforeSpaces cs)))
 
 -- without negatives there is no sign
 sign-is : (t m : Bool) (g : Size) (k : ℕ) → withSign t g ≡ SizedRead.Is m k → (m ≡ t) × (g ≡ Size.Is k)
@@ -157,7 +268,7 @@ no-sign-from (b ∷ bs) m k h = sign-is false m (sizeIn (b ∷ bs)) k h .0
 
 no-sign : (cs : Bytes) (m : Bool) (k : ℕ) → sizedIn false cs ≡ SizedRead.Is m k → m ≡ false
 unfolding sizedIn
-no-sign cs m k h = no-sign-from (afterSpaces cs) m k h
+no-sign cs m k h = no-sign-from (afterSpaces (beforeSpaces cs)) m k h
 
 -- ---- the range, asked of a size
 pub number-sized : (least most : ℕ) (cs : Bytes) (s : SizedRead) (m : Bool) (k : ℕ) (r : NumberRead) → s ≡ sizedIn false cs → s ≡ SizedRead.Is m k → r ≡ ranged least most (is (pos k)) → r ≡ numberIn least most cs
@@ -208,18 +319,28 @@ spaces-length (b ∷ bs) = by (eqb b 32) (spaces-length bs)
     by true h = omega arith
     by false h = omega arith
 
+shed-length : (cs : Bytes) → length (beforeSpaces cs) ≤ length cs
+shed-length cs = let q = trailed cs in omega (arith, ap length (q .parts), length-append (beforeSpaces cs) (spaces (q .count)))
+
+-- digits among at most n bytes
+some-below : (n : ℕ) (t m : Bool) (ds : Bytes) (k : ℕ) → length ds ≤ n → withSign t (sizeIn ds) ≡ SizedRead.Is m k → k < 10 ^ n
+some-below n t m ds k w h = omega (arith, size-below ds k (sign-is t m (sizeIn ds) k h .1), ten-mono {m = length ds} {n = n} w)
+
 from-below : (negatives m : Bool) (cs : Bytes) (k : ℕ) → sizedFrom negatives cs ≡ SizedRead.Is m k → k < 10 ^ length cs
 unfolding sizedFrom
 from-below negatives m [] k h = let z : 0 ≡ k = cc in omega arith
-from-below negatives m (b ∷ bs) k h = by (negatives && eqb b 45) h
+from-below negatives m (b ∷ bs) k h = by (negatives && eqb b 45) (negatives && eqb b 43) h
   where
-    by : (t : Bool) → cond t (withSign true (sizeIn bs)) (withSign false (sizeIn (b ∷ bs))) ≡ SizedRead.Is m k → k < 10 ^ suc (length bs)
-    by true h = omega (arith, size-below bs k (sign-is true m (sizeIn bs) k h .1), ten-mono {m = length bs} {n = suc (length bs)} (omega arith))
-    by false h = size-below (b ∷ bs) k (sign-is false m (sizeIn (b ∷ bs)) k h .1)
+    by : (s t : Bool) → cond s (withSign true (sizeIn bs)) (cond t (withSign false (sizeIn bs)) (withSign false (sizeIn (b ∷ bs)))) ≡ SizedRead.Is m k → k < 10 ^ suc (length bs)
+    by true t h = some-below (suc (length bs)) true m bs k (omega arith) h
+    by false true h = some-below (suc (length bs)) false m bs k (omega arith) h
+    by false false h = some-below (suc (length bs)) false m (b ∷ bs) k (omega arith) h
 
 sized-below : (negatives m : Bool) (cs : Bytes) (k : ℕ) → sizedIn negatives cs ≡ SizedRead.Is m k → k < 10 ^ length cs
 unfolding sizedIn
-sized-below negatives m cs k h = omega (arith, from-below negatives m (afterSpaces cs) k h, ten-mono (spaces-length cs))
+sized-below negatives m cs k h =
+    let ds : Bytes = beforeSpaces cs in
+    omega (arith, from-below negatives m (afterSpaces ds) k h, ten-mono {m = length (afterSpaces ds)} {n = length cs} (omega (arith, spaces-length ds, shed-length cs)))
 
 -- the size of a field of at most nine columns
 pub sized-small : (negatives m : Bool) (l : Line) (i j k : ℕ) (s : SizedRead) → s ≡ sizedIn negatives (columns l i j) → s ≡ SizedRead.Is m k → j + 1 ≤ i + 9 → k < 1000000000
@@ -231,15 +352,15 @@ pub ruleset passing-laws = (passing-start, passing-next, passing-stop, passing-e
 
 pub ruleset counting-laws = (digits-none, counting-start, counting-low, counting-high, counting-next, counting-end, counting-times, counting-plus)
 
-pub ruleset sized-laws = (sized-blank, sized-minus, sized-plain)
+pub ruleset shedding-laws = (shedding-start, shedding-next, shedding-stop, shedding-end)
+
+pub ruleset line-laws = (line-short, line-long)
+
+pub ruleset sized-laws = (sized-blank, sized-signed, sized-plain, ink-left)
+
+pub ruleset from-laws = (from-minus, from-plus, from-bare)
 
 pub ruleset range-laws = (number-sized, number-malformed, signed-sized, signed-malformed, sized-small)
-
-pub minus-is : (negatives : Bool) (b k : ℕ) → negatives ≡ true → b ≡ k → eqb b 45 ≡ (negatives && eqb k 45)
-minus-is negatives b k n e = rw (n, e)
-
-pub minus-not : (negatives : Bool) (k : ℕ) → negatives ≡ false → false ≡ (negatives && eqb k 45)
-minus-not negatives k n = rw n
 
 pub sign-case : (minus : Bool) (x y : Size) (k : ℕ) → x ≡ y → x ≡ Size.Is k → SizedRead.Is minus k ≡ withSign minus y
 unfolding withSign
@@ -288,50 +409,62 @@ module _ (below above k : ℕ) where
   unfolding signedRanged
   between-plain m z t h e = rw (t, e) (sym (rw (le-leb k above h)))
 
--- ---- the usual field: two spaces and a digit
-columns-three : (l : Line) (i : ℕ) → columns l i (i + 2) ≡ column l i ∷ column l (suc i) ∷ column l (suc (suc i)) ∷ []
+-- ---- the usual field: spaces, then one digit or two
+columns-three : (l : Line) (i : ℕ) → 1 ≤ i → i + 2 ≤ length l → columns l i (i + 2) ≡ getD l (i - 1) 0 ∷ getD l i 0 ∷ getD l (i + 1) 0 ∷ []
 unfolding columnsFor
-columns-three l i =
+columns-three l i h n =
     let e : suc (i + 2) - i ≡ 3 = omega arith in
-    rw e
-
-pub lone-none : (l : Line) (i : ℕ) → LoneDigit l i 10
-unfolding LoneDigit
-lone-none l i h = absurd (omega arith)
-
-pub lone-found : (l : Line) (i : ℕ) → 1 ≤ i → i + 2 ≤ length l → getD l (i - 1) 0 ≡ 32 → getD l i 0 ≡ 32 → 48 ≤ getD l (i + 1) 0 → getD l (i + 1) 0 ≤ 57
-    → LoneDigit l i (getD l (i + 1) 0 - 48)
-unfolding LoneDigit
-lone-found l i h n a b low high k =
     let p : suc i - 1 ≡ i = omega arith in
     let q : suc (suc i) - 1 ≡ i + 1 = omega arith in
-    let r : 48 + (getD l (i + 1) 0 - 48) ≡ getD l (i + 1) 0 = omega arith in
-    columns-three l i ∙ rw (p, q, r, getD-any l (i - 1) 32 0 (omega arith), a, getD-any l i 32 0 (omega arith), b, getD-any l (i + 1) 32 0 (omega arith))
+    rw (e, p, q, getD-any l (i - 1) 32 0 (omega arith), getD-any l i 32 0 (omega arith), getD-any l (i + 1) 32 0 (omega arith))
 
-lone-digits : (k : ℕ) → k ≤ 9 → Digits ((48 + k) ∷ []) k
+pub short-none : (l : Line) (i : ℕ) → ShortNumber l i 100
+unfolding ShortNumber
+short-none l i h = absurd (omega arith)
+
+one-digit : (c : ℕ) → 48 ≤ c → c ≤ 57 → Digits (c ∷ []) (c - 48)
 unfolding decimalAfter Each
-lone-digits k h = record { some = omega arith; each = (omega arith, tt); number = omega arith }
+one-digit c low high = record { some = omega arith; each = ((low, high), tt); number = omega arith }
 
-lone-read : (negatives : Bool) (k : ℕ) → k ≤ 9 → integerIn negatives (32 ∷ 32 ∷ (48 + k) ∷ []) ≡ is (pos k)
-lone-read negatives k h = integer-read negatives (Integer.plain 2 ((48 + k) ∷ []) k refl (lone-digits k h))
+two-digits : (b c : ℕ) → 48 ≤ b → b ≤ 57 → 48 ≤ c → c ≤ 57 → Digits (b ∷ c ∷ []) ((b - 48) * 10 + (c - 48))
+unfolding decimalAfter Each
+two-digits b c low high low′ high′ = record { some = omega arith; each = ((low, high), ((low′, high′), tt)); number = omega arith }
 
-pub lone-number : (least most : ℕ) (l : Line) (i j k : ℕ) (r : NumberRead) → LoneDigit l i k → k ≤ 9 → j ≡ i + 2 → r ≡ ranged least most (is (pos k)) → r ≡ numberIn least most (columns l i j)
-unfolding LoneDigit numberIn
-lone-number least most l i j k r d h e w = w ∙ sym (rw (e, d h, lone-read false k h))
+module _ (l : Line) (i : ℕ) (h : 1 ≤ i) (n : i + 2 ≤ length l) (a : getD l (i - 1) 0 ≡ 32) (low : 48 ≤ getD l (i + 1) 0) (high : getD l (i + 1) 0 ≤ 57) where
+  pub short-one : getD l i 0 ≡ 32 → ShortNumber l i (getD l (i + 1) 0 - 48)
+  unfolding ShortNumber
+  short-one b k negatives =
+      let c : ℕ = getD l (i + 1) 0 in
+      rw (columns-three l i h n, a, b) (integer-read negatives (Integer.plain 2 (c ∷ []) 0 (c - 48) refl (one-digit c low high)))
 
-pub lone-signed : (below above : ℕ) (l : Line) (i j k : ℕ) (r : SignedRead) → LoneDigit l i k → k ≤ 9 → j ≡ i + 2 → r ≡ signedRanged below above (is (signed false k)) → r ≡ signedIn below above (columns l i j)
-unfolding LoneDigit signedIn
-lone-signed below above l i j k r d h e w = w ∙ sym (rw (e, d h, lone-read true k h))
+  pub short-two : 48 ≤ getD l i 0 → getD l i 0 ≤ 57 → ShortNumber l i ((getD l i 0 - 48) * 10 + (getD l (i + 1) 0 - 48))
+  unfolding ShortNumber
+  short-two low′ high′ k negatives =
+      let b : ℕ = getD l i 0 in
+      let c : ℕ = getD l (i + 1) 0 in
+      rw (columns-three l i h n, a) (integer-read negatives (Integer.plain 1 (b ∷ c ∷ []) 0 ((b - 48) * 10 + (c - 48)) refl (two-digits b c low′ high′ low high)))
 
-pub ruleset lone-laws = (lone-none, lone-found)
+pub short-times : (b : ℕ) → b ≤ 57 → Fits w32 ((b - 48) * 10)
+short-times b h = record { fits = omega arith }
 
-pub ruleset usual-laws = (lone-number, lone-signed)
+pub short-plus : (b c : ℕ) → b ≤ 57 → c ≤ 57 → Fits w32 ((b - 48) * 10 + (c - 48))
+short-plus b c h k = record { fits = omega arith }
+
+pub short-within : (least most : ℕ) (l : Line) (i j k : ℕ) (r : NumberRead) → ShortNumber l i k → k ≤ 99 → j ≡ i + 2 → r ≡ ranged least most (is (pos k)) → r ≡ numberIn least most (columns l i j)
+unfolding ShortNumber numberIn
+short-within least most l i j k r d h e w = w ∙ sym (rw (e, d h false))
+
+pub short-between : (below above : ℕ) (l : Line) (i j k : ℕ) (r : SignedRead) → ShortNumber l i k → k ≤ 99 → j ≡ i + 2 → r ≡ signedRanged below above (is (signed false k)) → r ≡ signedIn below above (columns l i j)
+unfolding ShortNumber signedIn
+short-between below above l i j k r d h e w = w ∙ sym (rw (e, d h true))
+
+pub ruleset short-laws = (short-none, short-one, short-two, short-times, short-plus)
+
+pub ruleset usual-laws = (short-within, short-between)
 
 pub ruleset within-laws = (within-low, within-high, within-both)
 
 pub ruleset between-laws = (between-low, between-high, between-minus, between-plain)
-
-pub ruleset minus-laws = (minus-is, minus-not)
 
 pub ruleset sign-laws = (sign-case, sign-none)
 

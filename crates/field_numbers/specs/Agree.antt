@@ -1,9 +1,10 @@
 -- The reading of an integer field finds exactly what the rule says, at any width; so a field stands for one number.
-use Prim.Native.Nat.{ℕ, zero, suc, _≤_, _<_}
+use Prim.Native.Nat.{ℕ, zero, suc, _+_, _≤_, _<_}
+use native.Mathlib.Nat.{zero-add, suc-add}
 use native.Mathlib.Omega.{arith}
-use mathlib.Core.Path.{_≡_, refl, ap, _∙_, subst}
+use mathlib.Core.Path.{_≡_, refl, sym, ap, _∙_, subst}
 use mathlib.Core.Logic.{_↔_}
-use mathlib.Core.List.{List, [], _∷_, _++_, append-nil}
+use mathlib.Core.List.{List, [], _∷_, _++_, append-assoc}
 use mathlib.Core.Bool.{Bool, true, false, cond, _&&_}
 use lib.Dec.{eqb, leb}
 use lib.IntN.{ℤ, pos, negsuc}
@@ -12,7 +13,7 @@ use Rattle.text.specs.Text.{Bytes, Line, Each}
 use Rattle.text.specs.Columns.{columns, spaces}
 use Rattle.text.specs.Laws.{and-true}
 use Rattle.field_numbers.specs.Number.{Digit, Digits, Integer, Number, Signed, Listed, SignedListed, Between, decimalAfter}
-use Rattle.field_numbers.specs.Read.{IntegerRead, is, malformed, isDigit, allDigits, someDigits, afterSpaces, signed, digitsRead, afterBlank, integerIn, ranged, numberIn, isBetween, signedRanged, signedIn}
+use Rattle.field_numbers.specs.Read.{IntegerRead, is, malformed, isDigit, allDigits, someDigits, afterSpaces, before, beforeSpaces, signed, digitsRead, afterBlank, integerIn, ranged, numberIn, isBetween, signedRanged, signedIn}
 use Rattle.field_numbers.specs.declared.NumberRead.{NumberRead}
 use Rattle.field_numbers.specs.declared.SignedRead.{SignedRead}
 
@@ -41,7 +42,7 @@ digit-each (b ∷ bs) h =
     let a = and-true (isDigit b) (allDigits bs) h in
     (is-digit b (a .0), digit-each bs (a .1))
 
--- a digit is neither a space nor a `-`
+-- a digit is neither a space nor a sign
 pub digit-not : (d k : ℕ) → k < 48 → Digit d → eqb d k ≡ false
 digit-not d k h t = let l : 48 ≤ d = t .0 in ne-eqb d k (λ e. omega arith)
 
@@ -71,6 +72,64 @@ pub led : (cs : Bytes) → Led cs (afterSpaces cs)
 unfolding afterSpaces
 led [] = record { count = 0; parts = refl }
 led (b ∷ bs) = led-by b bs (eqb b 32) refl (led bs)
+
+-- ---- trailing spaces
+pub before-ink : (b : ℕ) (rest : Bytes) → eqb b 32 ≡ false → before b rest ≡ b ∷ rest
+before-ink b [] h = rw h
+before-ink b (c ∷ cs) h = refl
+
+pub spaces-shed : (j : ℕ) → beforeSpaces (spaces j) ≡ []
+unfolding beforeSpaces
+spaces-shed zero = refl
+spaces-shed (suc j) = rw (spaces-shed j)
+
+pub shed-append : (xs : Bytes) (j : ℕ) → beforeSpaces (xs ++ spaces j) ≡ beforeSpaces xs
+unfolding beforeSpaces
+shed-append [] j = spaces-shed j
+shed-append (x ∷ xs) j = ap (before x) (shed-append xs j)
+
+-- what ends in a byte that is no space keeps all that stands before it
+pub shed-front : (front : Bytes) (d : ℕ) (ds : Bytes) → beforeSpaces (d ∷ ds) ≡ d ∷ ds → beforeSpaces (front ++ (d ∷ ds)) ≡ front ++ (d ∷ ds)
+unfolding beforeSpaces
+shed-front [] d ds h = h
+shed-front (b ∷ []) d ds h = ap (before b) h
+shed-front (b ∷ c ∷ front) d ds h = ap (before b) (shed-front (c ∷ front) d ds h)
+
+each-shed : (ds : Bytes) → Each Digit ds → beforeSpaces ds ≡ ds
+unfolding beforeSpaces Each
+each-shed [] h = refl
+each-shed (d ∷ ds) h = ap (before d) (each-shed ds (h .1)) ∙ before-ink d ds (digit-not d 32 (omega arith) (h .0))
+
+front-shed : (front ds : Bytes) (k : ℕ) → Digits ds k → beforeSpaces (front ++ ds) ≡ front ++ ds
+front-shed front [] k h = let z : 1 ≤ 0 = h .some in absurd (omega arith)
+front-shed front (d ∷ ds) k h = shed-front front d ds (each-shed (d ∷ ds) (h .each))
+
+plain-shed : (front ds : Bytes) (j k : ℕ) → Digits ds k → beforeSpaces (front ++ (ds ++ spaces j)) ≡ front ++ ds
+plain-shed front ds j k h = ap beforeSpaces (sym (append-assoc front ds (spaces j))) ∙ shed-append (front ++ ds) j ∙ front-shed front ds k h
+
+sign-shed : (i s : ℕ) (ds : Bytes) (j k : ℕ) → Digits ds k → beforeSpaces (spaces i ++ (s ∷ (ds ++ spaces j))) ≡ spaces i ++ (s ∷ ds)
+sign-shed i s ds j k h =
+    ap beforeSpaces (sym (append-assoc (spaces i) (s ∷ []) (ds ++ spaces j))) ∙ plain-shed (spaces i ++ (s ∷ [])) ds j k h ∙ append-assoc (spaces i) (s ∷ []) ds
+
+-- bytes, and then so many spaces
+pub record Trailed (ds cs : Bytes) : Type 0 where
+  pub count : ℕ
+  pub parts : cs ≡ ds ++ spaces count
+
+trail-last : (b : ℕ) (bs : Bytes) (t : Bool) → eqb b 32 ≡ t → Trailed [] bs → Trailed (cond t [] (b ∷ [])) (b ∷ bs)
+trail-last b bs true e l =
+    let s : b ≡ 32 = eqb-true b 32 e in
+    record { count = suc (l .count); parts = rw s (ap (λ (r : Bytes). 32 ∷ r) (l .parts)) }
+trail-last b bs false e l = record { count = l .count; parts = ap (λ (r : Bytes). b ∷ r) (l .parts) }
+
+trail-by : (b : ℕ) (bs rest : Bytes) → Trailed rest bs → Trailed (before b rest) (b ∷ bs)
+trail-by b bs [] l = trail-last b bs (eqb b 32) refl l
+trail-by b bs (c ∷ cs) l = record { count = l .count; parts = ap (λ (r : Bytes). b ∷ r) (l .parts) }
+
+pub trailed : (cs : Bytes) → Trailed (beforeSpaces cs) cs
+unfolding beforeSpaces
+trailed [] = record { count = 0; parts = refl }
+trailed (b ∷ bs) = trail-by b bs (beforeSpaces bs) (trailed bs)
 
 -- ---- digits
 pub digits-some : (ds : Bytes) (k : ℕ) → Digits ds k → someDigits ds ≡ true
@@ -104,35 +163,54 @@ unfolding afterBlank afterSpaces Each
 plain-read negatives [] k h = let z : 1 ≤ 0 = h .some in absurd (omega arith)
 plain-read negatives (d ∷ ds) k h =
     let t = h .each .0 in
-    rw (digit-not d 32 (omega arith) t, digit-not d 45 (omega arith) t, and-false negatives) (digits-read false (d ∷ ds) k h)
+    rw (digit-not d 32 (omega arith) t, digit-not d 45 (omega arith) t, digit-not d 43 (omega arith) t, and-false negatives) (digits-read false (d ∷ ds) k h)
 
 pub integer-read : (negatives : Bool) {cs : Bytes} {z : ℤ} → Integer negatives cs z → integerIn negatives cs ≡ is z
 unfolding integerIn afterBlank afterSpaces
-integer-read negatives (Integer.blank i e) = rw (e, spaces-only i)
-integer-read negatives (Integer.plain i ds k e h) = rw (e, pass-spaces i ds) (plain-read negatives ds k h)
-integer-read negatives (Integer.minus i ds k n e h) = rw (e, pass-spaces i (45 ∷ ds), n) (digits-read true ds k h)
+integer-read negatives (Integer.blank i e) = rw (e, spaces-shed i)
+integer-read negatives (Integer.plain i ds j k e h) = rw (e, plain-shed (spaces i) ds j k h, pass-spaces i ds) (plain-read negatives ds k h)
+integer-read negatives (Integer.plus i ds j k n e h) = rw (e, sign-shed i 43 ds j k h, pass-spaces i (43 ∷ ds), n) (digits-read false ds k h)
+integer-read negatives (Integer.minus i ds j k n e h) = rw (e, sign-shed i 45 ds j k h, pass-spaces i (45 ∷ ds), n) (digits-read true ds k h)
 
 -- ---- what is read is what the rule says
-module _ (negatives : Bool) (cs : Bytes) (z : ℤ) (i : ℕ) where
-  ink-rule : (b : ℕ) (bs : Bytes) (t : Bool) → (negatives && eqb b 45) ≡ t → cs ≡ spaces i ++ (b ∷ bs) → cond t (digitsRead true bs) (digitsRead false (b ∷ bs)) ≡ is z → Integer negatives cs z
+spaces-join : (i j : ℕ) → _≡_ {A = Bytes} (spaces i ++ spaces j) (spaces (i + j))
+spaces-join zero j = rw (zero-add j)
+spaces-join (suc i) j = rw (suc-add i j) (ap (λ (r : Bytes). 32 ∷ r) (spaces-join i j))
+
+module _ (negatives : Bool) (cs : Bytes) (z : ℤ) (i j : ℕ) where
+  plus-rule : (b : ℕ) (bs : Bytes) (t : Bool) → (negatives && eqb b 43) ≡ t → cs ≡ spaces i ++ (b ∷ (bs ++ spaces j)) →
+      cond t (digitsRead false bs) (digitsRead false (b ∷ bs)) ≡ is z → Integer negatives cs z
+  plus-rule b bs true t e h =
+      let a = and-true negatives (eqb b 43) t in
+      let r = read-digits false bs z h in
+      rw (r .number) (Integer.plus i bs j (decimalAfter 0 bs) (a .0) (rw (eqb-true b 43 (a .1)) at e) (r .digits))
+  plus-rule b bs false t e h =
+      let r = read-digits false (b ∷ bs) z h in
+      rw (r .number) (Integer.plain i (b ∷ bs) j (decimalAfter 0 (b ∷ bs)) e (r .digits))
+
+  ink-rule : (b : ℕ) (bs : Bytes) (t : Bool) → (negatives && eqb b 45) ≡ t → cs ≡ spaces i ++ (b ∷ (bs ++ spaces j)) →
+      cond t (digitsRead true bs) (cond (negatives && eqb b 43) (digitsRead false bs) (digitsRead false (b ∷ bs))) ≡ is z → Integer negatives cs z
   ink-rule b bs true t e h =
       let a = and-true negatives (eqb b 45) t in
       let r = read-digits true bs z h in
-      rw (r .number) (Integer.minus i bs (decimalAfter 0 bs) (a .0) (rw (eqb-true b 45 (a .1)) at e) (r .digits))
-  ink-rule b bs false t e h =
-      let r = read-digits false (b ∷ bs) z h in
-      rw (r .number) (Integer.plain i (b ∷ bs) (decimalAfter 0 (b ∷ bs)) e (r .digits))
+      rw (r .number) (Integer.minus i bs j (decimalAfter 0 bs) (a .0) (rw (eqb-true b 45 (a .1)) at e) (r .digits))
+  ink-rule b bs false t e h = plus-rule b bs (negatives && eqb b 43) refl e h
 
-  rest-rule : (rest : Bytes) → cs ≡ spaces i ++ rest → afterBlank negatives rest ≡ is z → Integer negatives cs z
+  rest-rule : (rest : Bytes) → cs ≡ spaces i ++ (rest ++ spaces j) → afterBlank negatives rest ≡ is z → Integer negatives cs z
   unfolding afterBlank
   rest-rule [] e h =
       let w : z ≡ pos 0 = cc in
-      rw w (Integer.blank i (e ∙ append-nil _))
+      rw w (Integer.blank (i + j) (e ∙ spaces-join i j))
   rest-rule (b ∷ bs) e h = ink-rule b bs (negatives && eqb b 45) refl e h
 
 pub read-integer : (negatives : Bool) (cs : Bytes) (z : ℤ) → integerIn negatives cs ≡ is z → Integer negatives cs z
 unfolding integerIn
-read-integer negatives cs z h = let l = led cs in rest-rule negatives cs z (l .count) (afterSpaces cs) (l .parts) h
+read-integer negatives cs z h =
+    let t = trailed cs in
+    let l = led (beforeSpaces cs) in
+    let e : cs ≡ spaces (l .count) ++ (afterSpaces (beforeSpaces cs) ++ spaces (t .count)) =
+    t .parts ∙ ap (λ (r : Bytes). r ++ spaces (t .count)) (l .parts) ∙ append-assoc (spaces (l .count)) (afterSpaces (beforeSpaces cs)) (spaces (t .count)) in
+    rest-rule negatives cs z (l .count) (t .count) (afterSpaces (beforeSpaces cs)) e h
 
 pub integer-agrees : (negatives : Bool) (cs : Bytes) (z : ℤ) → (integerIn negatives cs ≡ is z) ↔ Integer negatives cs z
 integer-agrees negatives cs z = (read-integer negatives cs z, integer-read negatives)

@@ -22,12 +22,14 @@ pub record Digits (ds : Bytes) (k : ℕ) : Type 0 where
   pub each : Each Digit ds
   pub number : k ≡ decimalAfter 0 ds
 
--- All spaces stand for zero. Else spaces come first, then a `-` if the range has negatives, then digits up to the field's last column.
+-- All spaces stand for zero. Else spaces come first, then a `+` or a `-` or none, the signs only if the range has negatives, then digits, then spaces.
 pub data Integer (negatives : Bool) : Bytes → ℤ → Type 0 where
   blank : {cs : Bytes} (i : ℕ) → cs ≡ spaces i → Integer negatives cs (pos 0)
-  plain : {cs : Bytes} (i : ℕ) (ds : Bytes) (k : ℕ) → cs ≡ spaces i ++ ds → Digits ds k → Integer negatives cs (pos k)
-  minus : {cs : Bytes} (i : ℕ) (ds : Bytes) (k : ℕ) →
-      negatives ≡ true → cs ≡ spaces i ++ (bytes "-" ++ ds) → Digits ds k → Integer negatives cs (negℤ (pos k))
+  plain : {cs : Bytes} (i : ℕ) (ds : Bytes) (j k : ℕ) → cs ≡ spaces i ++ (ds ++ spaces j) → Digits ds k → Integer negatives cs (pos k)
+  plus : {cs : Bytes} (i : ℕ) (ds : Bytes) (j k : ℕ) →
+      negatives ≡ true → cs ≡ spaces i ++ (bytes "+" ++ (ds ++ spaces j)) → Digits ds k → Integer negatives cs (pos k)
+  minus : {cs : Bytes} (i : ℕ) (ds : Bytes) (j k : ℕ) →
+      negatives ≡ true → cs ≡ spaces i ++ (bytes "-" ++ (ds ++ spaces j)) → Digits ds k → Integer negatives cs (negℤ (pos k))
 
 -- columns i to j hold the number k, from `least` to `most`
 pub record Number (l : Line) (i j : ℕ) (least most : ℕ) (k : ℕ) : Type 0 where

@@ -30,6 +30,16 @@ unfoldable pub afterSpaces : Bytes → Bytes
 afterSpaces [] = []
 afterSpaces (b ∷ bs) = cond (eqb b (byte " ")) (afterSpaces bs) (b ∷ bs)
 
+-- a byte before others: a space before none is none
+abbrev pub before : ℕ → Bytes → Bytes
+before b [] = cond (eqb b (byte " ")) [] (b ∷ [])
+before b (c ∷ cs) = b ∷ c ∷ cs
+
+-- what stands before the trailing spaces
+unfoldable pub beforeSpaces : Bytes → Bytes
+beforeSpaces [] = []
+beforeSpaces (b ∷ bs) = before b (beforeSpaces bs)
+
 abbrev pub signed : Bool → ℕ → ℤ
 signed true k = negℤ (pos k)
 signed false k = pos k
@@ -38,13 +48,15 @@ signed false k = pos k
 unfoldable pub digitsRead : Bool → Bytes → IntegerRead
 digitsRead minus ds = cond (someDigits ds) (is (signed minus (decimalAfter 0 ds))) malformed
 
--- a field without its leading spaces
+-- a field without the spaces on both sides
 unfoldable pub afterBlank : Bool → Bytes → IntegerRead
 afterBlank negatives [] = is (pos 0)
-afterBlank negatives (b ∷ bs) = cond (negatives && eqb b (byte "-")) (digitsRead true bs) (digitsRead false (b ∷ bs))
+afterBlank negatives (b ∷ bs) =
+    cond (negatives && eqb b (byte "-")) (digitsRead true bs)
+    (cond (negatives && eqb b (byte "+")) (digitsRead false bs) (digitsRead false (b ∷ bs)))
 
 unfoldable pub integerIn : Bool → Bytes → IntegerRead
-integerIn negatives cs = afterBlank negatives (afterSpaces cs)
+integerIn negatives cs = afterBlank negatives (afterSpaces (beforeSpaces cs))
 
 -- a number from `least` to `most`
 unfoldable pub ranged : ℕ → ℕ → IntegerRead → NumberRead

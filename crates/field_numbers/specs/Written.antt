@@ -71,12 +71,12 @@ digits-snoc ds k h = record {
 }
 
 -- ---- the columns before the digits
-abbrev sign : Bool → Bytes
+abbrev pub sign : Bool → Bytes
 sign true = 45 ∷ []
 sign false = []
 
 -- w columns and one for the `-`
-abbrev room : Bool → ℕ → ℕ
+abbrev pub room : Bool → ℕ → ℕ
 room true w = suc w
 room false w = w
 
@@ -98,12 +98,12 @@ unfolding textBy
 lead true w k = rw (spaces-text w k)
 lead false w k = spaces-text w k ∙ sym (append-nil _)
 
--- ---- the shape of what is written
-record Shape (m : Bool) (cs : Bytes) (k : ℕ) : Type 0 where
-  count : ℕ
-  ds : Bytes
-  parts : cs ≡ spaces count ++ (sign m ++ ds)
-  digits : Digits ds k
+-- ---- the shape of what is written: spaces, a `-` or none, and digits up to the last column, which is narrower than what is read
+pub record Shape (m : Bool) (cs : Bytes) (k : ℕ) : Type 0 where
+  pub count : ℕ
+  pub ds : Bytes
+  pub parts : cs ≡ spaces count ++ (sign m ++ ds)
+  pub digits : Digits ds k
 
 one-digit : (m : Bool) (w k : ℕ) → k ≤ 9 → Shape m (textBy (room m w) false m (k / 10) ++ ((48 + k % 10) ∷ [])) k
 one-digit m w k h = record {
@@ -127,7 +127,7 @@ shape-by : (t m : Bool) (w k : ℕ) → ltb 9 k ≡ t → (9 < k → Shape m (te
 shape-by true m w k e more = more-digits m (textBy (room m w) true m (k / 10)) k (more (ltb-true 9 k e))
 shape-by false m w k e more = one-digit m w k (ltb-false 9 k e)
 
-shape : (m : Bool) (w k : ℕ) → k < 10 ^ suc w → Shape m (textBy (room m (suc w)) true m k) k
+pub shape : (m : Bool) (w k : ℕ) → k < 10 ^ suc w → Shape m (textBy (room m (suc w)) true m k) k
 unfolding textBy
 shape m zero k h = rw (room-suc m 0) (shape-by (ltb 9 k) m 0 k refl (λ l. absurd (omega arith)))
 shape m (suc w) k h =
@@ -135,13 +135,18 @@ shape m (suc w) k h =
     rw (room-suc m (suc w)) (shape-by (ltb 9 k) m (suc w) k refl (λ l. shape m w (k / 10) (omega arith)))
 
 -- ---- what is written is what the rule says of that number
+no-tail : (front ds : Bytes) → front ++ ds ≡ front ++ (ds ++ spaces 0)
+no-tail front ds = ap (λ (l : Bytes). front ++ l) (sym (append-nil ds))
+
 pub number-back : (negatives : Bool) (w k : ℕ) → k < 10 ^ w → Integer negatives (numberText w k) (pos k)
 unfolding textBy
 number-back negatives zero k h = let e : k ≡ 0 = omega arith in rw e (Integer.blank 0 refl)
-number-back negatives (suc w) k h = let s = shape false w k h in Integer.plain (s .count) (s .ds) k (s .parts) (s .digits)
+number-back negatives (suc w) k h = let s = shape false w k h in Integer.plain (s .count) (s .ds) 0 k (s .parts ∙ no-tail (spaces (s .count)) (s .ds)) (s .digits)
 
 negative-back : (w k : ℕ) → k < 10 ^ suc w → Integer true (sizedText (suc (suc w)) true k) (negℤ (pos k))
-negative-back w k h = let s = shape true w k h in Integer.minus (s .count) (s .ds) k refl (s .parts) (s .digits)
+negative-back w k h =
+    let s = shape true w k h in
+    Integer.minus (s .count) (s .ds) 0 k refl (s .parts ∙ no-tail (spaces (s .count)) (45 ∷ s .ds)) (s .digits)
 
 pub signed-back : (w : ℕ) (z : ℤ) → Fitting w z → Integer true (signedText w z) z
 signed-back w (pos k) h = number-back true w k h

@@ -1,14 +1,13 @@
 // Integer fields of a line: read by columns, written right-aligned.
 ghost use mathlib.Core.Path.{_≡_};
-ghost use mathlib.Core.Bool.{_&&_};
+ghost use mathlib.Core.Bool.{true};
 ghost use Prim.Native.Nat.{_+_, _-_, _≤_, _<_};
-ghost use lib.Dec.{eqb};
 ghost use lib.IntN.{pos};
 ghost use lib.ListN.{length};
 ghost use lib.Seq.{sets};
-ghost use Rattle.text.specs.Columns.{column, columns, columnsFor};
-ghost use Rattle.field_numbers.specs.Read.{afterSpaces, is, signed, ranged, numberIn, signedRanged, signedIn};
-ghost use Rattle.field_numbers.specs.Parts.{sizeIn, withSign, sizedIn, LoneDigit};
+ghost use Rattle.text.specs.Columns.{columns, columnsFor};
+ghost use Rattle.field_numbers.specs.Read.{afterSpaces, beforeSpaces, is, signed, ranged, numberIn, signedRanged, signedIn};
+ghost use Rattle.field_numbers.specs.Parts.{sizeIn, withSign, sizedFrom, sizedIn, LineEnd, ShortNumber};
 ghost use Rattle.field_numbers.specs.Write.{sizedText, numberText, signedText, firstDigit};
 
 // A number of a range without negatives, as columns hold it.
@@ -69,31 +68,7 @@ pub fn inner_spaces_end(line: &[u8], i: usize, e: usize) -> usize
     e
 }
 
-// The digits in columns i to e - 1.
-pub fn digits(line: &[u8], i: usize, e: usize) -> Size
-    requires { ⌜ (1 ≤ i) × (i ≤ e) × (e ≤ i + 9) ⌝ }
-    ensures { λ r. ⌜ r ≡ sizeIn (columnsFor (now (line .entry)) i (e - i)) ⌝ }
-{
-    if e <= i {
-        return Size::Malformed;
-    }
-    let mut k: u32 = 0;
-    let mut a = i;
-    while a < e {
-        let b = text::column(line, a);
-        if b < 48 {
-            return Size::Malformed;
-        }
-        if 57 < b {
-            return Size::Malformed;
-        }
-        k = k * 10 + ((b - 48) as u32);
-        a += 1;
-    }
-    Size::Is(k)
-}
-
-// The same in columns that the line has.
+// The digits in columns i to e - 1, all of which the line has.
 pub fn inner_digits(line: &[u8], i: usize, e: usize) -> Size
     requires { ⌜ (1 ≤ i) × (i ≤ e) × (e ≤ i + 9) × (e ≤ length (now line) + 1) ⌝ }
     ensures { λ r. ⌜ r ≡ sizeIn (columnsFor (now (line .entry)) i (e - i)) ⌝ }
@@ -117,46 +92,79 @@ pub fn inner_digits(line: &[u8], i: usize, e: usize) -> Size
     Size::Is(k)
 }
 
-// Whether column i has a `-` that may stand there.
-fn minus_at(line: &[u8], i: usize, negatives: bool) -> bool
-    requires { ⌜ 1 ≤ i ⌝ }
-    ensures { λ r. ⌜ r ≡ (negatives && eqb (column (now (line .entry)) i) 45) ⌝ }
+// Column e, or the column after the line's last if that comes before.
+fn line_end(line: &[u8], e: usize) -> usize
+    requires { ⌜ 1 ≤ e ⌝ }
+    ensures { λ r. ⌜ LineEnd (now (line .entry)) e r ⌝ }
+    ensures { λ r. ⌜ (r ≤ e) × (r ≤ length (now (line .entry)) + 1) ⌝ }
 {
-    if negatives {
-        text::column(line, i) == 45
-    } else {
-        false
+    let last = e - 1;
+    if line.len() < last {
+        return line.len() + 1;
     }
+    e
 }
 
-// The digits in columns i to e - 1, with the sign that stands before them.
+// The column after the last one that is no space, or i: columns i to e - 1 are looked at, all of which the line has.
+fn inner_ink_end(line: &[u8], i: usize, e: usize) -> usize
+    requires { ⌜ (1 ≤ i) × (e ≤ length (now line) + 1) ⌝ }
+    ensures { λ r. ⌜ beforeSpaces (columnsFor (now (line .entry)) i (e - i)) ≡ columnsFor (now (line .entry)) i (r - i) ⌝ }
+    ensures { λ r. ⌜ (i ≤ r) × (r - i ≤ e - i) ⌝ }
+{
+    let mut z = e;
+    while i < z {
+        if text::inner_column(line, z - 1) != 32 {
+            return z;
+        }
+        z -= 1;
+    }
+    i
+}
+
+// The digits in columns i to e - 1, all of which the line has, with the sign that stands before them.
 fn sized_digits(line: &[u8], i: usize, e: usize, minus: bool) -> SizedRead
-    requires { ⌜ (1 ≤ i) × (i ≤ e) × (e ≤ i + 9) ⌝ }
+    requires { ⌜ (1 ≤ i) × (i ≤ e) × (e ≤ i + 9) × (e ≤ length (now line) + 1) ⌝ }
     ensures { λ r. ⌜ r ≡ withSign minus (sizeIn (columnsFor (now (line .entry)) i (e - i))) ⌝ }
 {
-    match digits(line, i, e) {
+    match inner_digits(line, i, e) {
         Size::Is(k) => SizedRead::Is { minus, size: k },
         Size::Malformed => SizedRead::Malformed,
     }
 }
 
-// The integer field in columns i to j.
-pub fn sized(line: &[u8], i: usize, j: usize, negatives: bool) -> SizedRead
+// The same where a sign may stand in column i.
+fn signed_digits(line: &[u8], i: usize, e: usize) -> SizedRead
+    requires { ⌜ (1 ≤ i) × (i < e) × (e ≤ i + 9) × (e ≤ length (now line) + 1) ⌝ }
+    ensures { λ r. ⌜ r ≡ sizedFrom true (columnsFor (now (line .entry)) i (e - i)) ⌝ }
+{
+    let b = text::inner_column(line, i);
+    if b == 45 {
+        return sized_digits(line, i + 1, e, true);
+    }
+    if b == 43 {
+        return sized_digits(line, i + 1, e, false);
+    }
+    sized_digits(line, i, e, false)
+}
+
+// The integer field in columns i to j, without the spaces on both sides.
+fn sized(line: &[u8], i: usize, j: usize, negatives: bool) -> SizedRead
     requires { ⌜ (1 ≤ i) × (i ≤ j + 1) × (j ≤ 1000) × (j + 1 ≤ i + 9) ⌝ }
     ensures { λ r. ⌜ r ≡ sizedIn negatives (columns (now (line .entry)) i j) ⌝ }
 {
-    let e = j + 1;
-    let a = spaces_end(line, i, e);
-    if e <= a {
+    let e = line_end(line, j + 1);
+    let z = inner_ink_end(line, i, e);
+    if z <= i {
         return SizedRead::Is {
             minus: false,
             size: 0,
         };
     }
-    if minus_at(line, a, negatives) {
-        return sized_digits(line, a + 1, e, true);
+    let a = inner_spaces_end(line, i, z);
+    if negatives {
+        return signed_digits(line, a, z);
     }
-    sized_digits(line, a, e, false)
+    sized_digits(line, a, z, false)
 }
 
 fn within(k: u32, least: u32, most: u32) -> NumberRead
@@ -171,40 +179,49 @@ fn within(k: u32, least: u32, most: u32) -> NumberRead
     NumberRead::Is(k)
 }
 
-// The digit of the usual field, two spaces and a digit in columns i to i + 2; 10 for any other.
-fn lone_digit(line: &[u8], i: usize) -> u32
+// The number of the usual field, spaces and then one digit or two in columns i to i + 2; 100 for any other.
+fn short_number(line: &[u8], i: usize) -> u32
     requires { ⌜ (1 ≤ i) × (i ≤ 1000) ⌝ }
-    ensures { λ r. ⌜ LoneDigit (now (line .entry)) i r ⌝ }
+    ensures { λ r. ⌜ ShortNumber (now (line .entry)) i r ⌝ }
 {
     if line.len() < i + 2 {
-        return 10;
+        return 100;
     }
     if line[i - 1] != 32 {
-        return 10;
+        return 100;
     }
-    if line[i] != 32 {
-        return 10;
+    let c = line[i + 1];
+    if c < 48 {
+        return 100;
     }
-    let b = line[i + 1];
+    if 57 < c {
+        return 100;
+    }
+    let b = line[i];
+    if b == 32 {
+        return (c - 48) as u32;
+    }
     if b < 48 {
-        return 10;
+        return 100;
     }
     if 57 < b {
-        return 10;
+        return 100;
     }
-    (b - 48) as u32
+    (b - 48) as u32 * 10 + (c - 48) as u32
 }
 
-// The number in columns i to j, of a range without negatives.
+// The number in columns i to j, of a range without negatives. Any other field than the usual is asked for at two places, so that the
+// compiler leaves its reading out of line and puts this function in place at each field of a line.
 pub fn number(line: &[u8], i: usize, j: usize, least: u32, most: u32) -> NumberRead
     requires { ⌜ (1 ≤ i) × (i ≤ j + 1) × (j ≤ 1000) × (j + 1 ≤ i + 9) ⌝ }
     ensures { λ r. ⌜ r ≡ numberIn least most (columns (now (line .entry)) i j) ⌝ }
 {
     if j == i + 2 {
-        let k = lone_digit(line, i);
-        if k <= 9 {
+        let k = short_number(line, i);
+        if k <= 99 {
             return within(k, least, most);
         }
+        return any_number(line, i, j, least, most);
     }
     any_number(line, i, j, least, most)
 }
@@ -249,8 +266,8 @@ pub fn signed_number(line: &[u8], i: usize, j: usize, below: u32, above: u32) ->
     ensures { λ r. ⌜ r ≡ signedIn below above (columns (now (line .entry)) i j) ⌝ }
 {
     if j == i + 2 {
-        let k = lone_digit(line, i);
-        if k <= 9 {
+        let k = short_number(line, i);
+        if k <= 99 {
             return between(false, k, below, above);
         }
     }

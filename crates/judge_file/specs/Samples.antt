@@ -13,7 +13,7 @@ use Rattle.text.specs.Find.{firstFrom, badColumn, inkColumn}
 use Rattle.text.specs.Cut.{ended, split, cut}
 use Rattle.text.specs.Written.{text}
 use Rattle.field_numbers.specs.Number.{decimalAfter}
-use Rattle.field_numbers.specs.Read.{allDigits, afterSpaces, digitsRead, afterBlank, integerIn, ranged, numberIn, signedRanged, signedIn}
+use Rattle.field_numbers.specs.Read.{allDigits, afterSpaces, beforeSpaces, digitsRead, afterBlank, integerIn, ranged, numberIn, signedRanged, signedIn}
 use Rattle.field_numbers.specs.Write.{textBy}
 use Rattle.field_coordinates.specs.Write.{pointText}
 use Rattle.field_symbols.specs.Write.{symbolText}
@@ -154,8 +154,13 @@ samples =
     refuses molfile (127 ∷ (bytes "$$$$" ++ (replicate 76 120 ++ (LF ∷ [])))) 3 1 81 ∷
     refuses molfile (bytes "$$$$" ++ (127 ∷ LF ∷ [])) 4 1 5 ∷
     refuses molfile (lines ("of $RXN" ∷ [])) 5 1 1 ∷
-    -- 7: digits that do not reach the last column; 8: a list of atoms
-    refuses molfile (headed (" 1   0  0  0  0  0  0  0  0  0999 V2000" ∷ [])) 7 4 1 ∷
+    -- numbers on the left of their fields, and a `+` before a charge
+    reads molfile (carbons "1  0  0  0  0  0  0  0  0  0  999 V2000" 1 ("M  CHG1   1   +1" ∷ "M  END" ∷ [])) (atomEntries 6) (pos 1 ∷ []) ∷
+    -- 7: a `+` where no `-` may stand, a space between digits, a sign alone, a space after a sign; 8: a list of atoms
+    refuses molfile (headed ("+1   0  0  0  0  0  0  0  0  0999 V2000" ∷ [])) 7 4 1 ∷
+    refuses molfile (headed ("1 2  0  0  0  0  0  0  0  0  0999 V2000" ∷ [])) 7 4 1 ∷
+    refuses molfile (carbons "  1  0  0  0  0  0  0  0  0  0999 V2000" 1 ("M  CHG  1   1   -" ∷ [])) 7 6 15 ∷
+    refuses molfile (carbons "  1  0  0  0  0  0  0  0  0  0999 V2000" 1 ("M  CHG  1   1 + 1" ∷ [])) 7 6 15 ∷
     refuses molfile (headed ("  0  0  1  0  0  0  0  0  0  0999 V2000" ∷ [])) 8 4 7 ∷
     -- 12 before the columns to its right
     refuses molfile (headed ("  1  1  x  0  0  0  0  0  0  0999 V2000" ∷ [])) 12 4 4 ∷
@@ -199,7 +204,7 @@ samples =
     []
 
 pub samples-judged : map (λ s. show (s .look) (verdict (s .kind) limit (s .text))) samples ≡ map (λ s. s .is) samples
-unfolding columnsFor firstFrom badColumn inkColumn ended split cut decimalAfter allDigits afterSpaces digitsRead afterBlank integerIn ranged numberIn
+unfolding columnsFor firstFrom badColumn inkColumn ended split cut decimalAfter allDigits afterSpaces beforeSpaces digitsRead afterBlank integerIn ranged numberIn
     signedRanged signedIn pointRead beforePoint inked coordinateIn sameBytes among symbolIn listed M.among M.numberIn M.atomsFrom M.meaning pairTaken then need
     numberAt signedAt elem listedAt elemSigned signedListedAt coordinateAt symbolAt spaceAt spacesFrom within begins contains firstHeaderOf countsOf atomOf
     bondOf entryNumberAt entriesOf listOf propertyOf blankb nameOn opened spaced arrowed headerOf itemOf valueOf toBonds toAtoms lineOf turnOf run verdict

@@ -147,7 +147,7 @@ module _ (n x y : ℕ) (few : n ≤ 999) (x-low : 1 ≤ x) (x-high : x ≤ n) (y
         };
         first = record { field = rw x-at (number-back false 3 x (omega arith)); low = x-low; high = x-high };
         second = record { field = rw y-at (number-back false 3 y (omega arith)); low = y-low; high = y-high };
-        type = record { field = Integer.plain 2 (49 ∷ []) 1 one-field one; low = omega arith; high = omega arith };
+        type = record { field = Integer.plain 2 (49 ∷ []) 0 1 one-field one; low = omega arith; high = omega arith };
         stereo = record { field = Integer.blank 3 (past 10 (omega arith)); listed = OneOf.this };
         topology = record { field = Integer.blank 3 (past 16 (omega arith)); low = omega arith; high = omega arith };
         centre = record { field = Integer.blank 3 (past 19 (omega arith)); listed = OneOf.later OneOf.this };

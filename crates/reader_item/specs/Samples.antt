@@ -7,7 +7,7 @@ use Rattle.text.specs.Columns.{columnsFor}
 use Rattle.text.specs.Find.{firstFrom, badColumn, inkColumn, lineTo, lineAt, sameBytes}
 use Rattle.text.specs.Cut.{ended, split, cut}
 use Rattle.field_numbers.specs.Number.{decimalAfter}
-use Rattle.field_numbers.specs.Read.{allDigits, afterSpaces, digitsRead, afterBlank, integerIn, ranged, numberIn, signedRanged, signedIn}
+use Rattle.field_numbers.specs.Read.{allDigits, afterSpaces, beforeSpaces, digitsRead, afterBlank, integerIn, ranged, numberIn, signedRanged, signedIn}
 use Rattle.field_coordinates.specs.Read.{pointRead, beforePoint, inked, coordinateIn}
 use Rattle.field_symbols.specs.Read.{among, symbolIn}
 use Rattle.rules.specs.Record.{listed}
@@ -63,7 +63,7 @@ samples =
     []
 
 pub samples-found : map (λ s. foundOf (s .text) (bytes (s .name))) samples ≡ map (λ s. s .is) samples
-unfolding columnsFor firstFrom badColumn inkColumn lineTo lineAt sameBytes ended split cut decimalAfter allDigits afterSpaces digitsRead afterBlank integerIn ranged numberIn
+unfolding columnsFor firstFrom badColumn inkColumn lineTo lineAt sameBytes ended split cut decimalAfter allDigits afterSpaces beforeSpaces digitsRead afterBlank integerIn ranged numberIn
     signedRanged signedIn pointRead beforePoint inked coordinateIn among symbolIn listed pairTaken then need
     numberAt signedAt elem listedAt elemSigned signedListedAt coordinateAt symbolAt spaceAt spacesFrom within begins contains firstHeaderOf countsOf atomOf
     bondOf entryNumberAt entriesOf listOf propertyOf blankb nameOn opened spaced arrowed headerOf itemOf valueOf toBonds toAtoms lineOf turnOf oneFrom oneRecord

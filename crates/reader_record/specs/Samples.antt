@@ -9,7 +9,7 @@ use Rattle.text.specs.Columns.{columnsFor}
 use Rattle.text.specs.Find.{firstFrom, badColumn, inkColumn, sameBytes, lineTo, lineAt}
 use Rattle.text.specs.Cut.{ended, split, cut}
 use Rattle.field_numbers.specs.Number.{decimalAfter}
-use Rattle.field_numbers.specs.Read.{allDigits, afterSpaces, digitsRead, afterBlank, integerIn, ranged, numberIn, signedRanged, signedIn}
+use Rattle.field_numbers.specs.Read.{allDigits, afterSpaces, beforeSpaces, digitsRead, afterBlank, integerIn, ranged, numberIn, signedRanged, signedIn}
 use Rattle.field_coordinates.specs.Read.{pointRead, beforePoint, inked, coordinateIn}
 use Rattle.field_symbols.specs.Read.{among, symbolIn}
 use Rattle.rules.specs.Record.{listed, atomPlaces, bondPlaces}
@@ -116,7 +116,7 @@ done s =
     }
 
 pub samples-read : map done samples ≡ samples
-unfolding columnsFor firstFrom badColumn inkColumn sameBytes lineTo lineAt ended split cut decimalAfter allDigits afterSpaces digitsRead afterBlank integerIn
+unfolding columnsFor firstFrom badColumn inkColumn sameBytes lineTo lineAt ended split cut decimalAfter allDigits afterSpaces beforeSpaces digitsRead afterBlank integerIn
     ranged numberIn signedRanged signedIn pointRead beforePoint inked coordinateIn among symbolIn listed M.among M.numberIn M.atomsFrom M.meaning pairTaken then
     need numberAt signedAt elem listedAt elemSigned signedListedAt coordinateAt symbolAt spaceAt spacesFrom within begins contains firstHeaderOf countsOf atomOf
     bondOf entryNumberAt entriesOf listOf propertyOf blankb nameOn opened spaced arrowed headerOf itemOf valueOf flat toBonds toAtoms lineOf turnOf run verdict

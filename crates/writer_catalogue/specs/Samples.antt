@@ -11,7 +11,7 @@ use Rattle.text.specs.Find.{firstFrom, badColumn, inkColumn, sameBytes}
 use Rattle.text.specs.Cut.{ended, split, cut}
 use Rattle.text.specs.Written.{text}
 use Rattle.field_numbers.specs.Number.{decimalAfter}
-use Rattle.field_numbers.specs.Read.{allDigits, afterSpaces, digitsRead, afterBlank, integerIn, ranged, numberIn, signedRanged, signedIn}
+use Rattle.field_numbers.specs.Read.{allDigits, afterSpaces, beforeSpaces, digitsRead, afterBlank, integerIn, ranged, numberIn, signedRanged, signedIn}
 use Rattle.field_numbers.specs.Write.{textBy}
 use Rattle.field_coordinates.specs.Read.{pointRead, beforePoint, inked, coordinateIn}
 use Rattle.field_coordinates.specs.Write.{pointText}
@@ -117,7 +117,7 @@ done x =
     }
 
 pub samples-written : map done samples ≡ samples
-unfolding columnsFor firstFrom badColumn inkColumn sameBytes ended split cut text decimalAfter allDigits afterSpaces digitsRead afterBlank integerIn ranged
+unfolding columnsFor firstFrom badColumn inkColumn sameBytes ended split cut text decimalAfter allDigits afterSpaces beforeSpaces digitsRead afterBlank integerIn ranged
     numberIn signedRanged signedIn textBy pointRead beforePoint inked coordinateIn pointText among symbolIn symbolText listed M.among M.numberIn M.atomsFrom
     M.meaning joined countsText atomText bondText entryFields propertyText headerText itemsLines moleculeLines recordLines fileLines C.chargeCode C.atomOf
     C.bondOf C.entriesFrom C.eights C.propertiesOf C.canon pairTaken then need numberAt signedAt elem listedAt elemSigned signedListedAt coordinateAt symbolAt

@@ -1,17 +1,17 @@
 -- `field_numbers::sized_digits` meets its contract.
-use Rattle.field_numbers.proofs.Fields.{sign-laws}
 use borrow.Author.Needs.{needs}
+use Rattle.field_numbers.proofs.Fields.{sign-laws}
 use Rattle.field_numbers.proofs.sized_digits.Statement.{statement}
 use Rattle.field_numbers.proofs.sized_digits.Tie as tie
 
-digits-requires : tie.Need-digits-requires
-digits-requires c κs = search needs
+inner-digits-requires : tie.Need-inner-digits-requires
+inner-digits-requires c κs = search (needs, sign-laws)
 
 enum-known-k : tie.Need-enum-known-k
-enum-known-k c = search needs
+enum-known-k c = search (needs, sign-laws)
 
 enum-told : tie.Need-enum-told
-enum-told c = search needs
+enum-told c = search (needs, sign-laws)
 
 returns : tie.Need-returns
 returns c = search (needs, sign-laws)
@@ -20,4 +20,5 @@ returns-2 : tie.Need-returns-2
 returns-2 c = search (needs, sign-laws)
 
 pub sized-digits-spec : {M : Type 1} → statement M
-sized-digits-spec = tie.close (tie.spec digits-requires enum-known-k enum-told returns returns-2)
+sized-digits-spec =
+    tie.close (tie.spec inner-digits-requires enum-known-k enum-told returns returns-2)
