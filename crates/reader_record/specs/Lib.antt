@@ -3,6 +3,7 @@ pub mod Reading
 pub mod Stretch
 pub mod Promise
 pub mod Told
+pub mod Rows
 pub mod Promised
 pub mod Follows
 pub mod Samples

@@ -1,5 +1,5 @@
 -- What a reading answers, and what both lent tables hold after it.
-use Prim.Native.Nat.{ℕ, zero, suc, _*_, _≤_}
+use Prim.Native.Nat.{ℕ, zero, suc, _≤_}
 use mathlib.Core.List.{List, []}
 use mathlib.Core.Bool.{Bool, cond}
 use lib.Dec.{ltb}
@@ -8,14 +8,12 @@ use lib.IntN.{ℤ}
 use Rattle.text.specs.Text.{Bytes}
 use Rattle.rules.specs.Record.{limit, atomPlaces, bondPlaces}
 use Rattle.rules.specs.Meaning.{meaning}
-use Rattle.line_counts_bonds.specs.declared.Counts.{Counts}
-use Rattle.reader_tables.specs.Row.{flat}
+use Rattle.reader_tables.specs.Row.{flat, Holds}
 use Rattle.reader_tables.specs.Filled.{cleared, filled}
-use Rattle.reader_tables.specs.Mean.{Kept}
 use Rattle.judge_file.specs.Place.{FileKind, molfile, sdfile}
 use Rattle.reader_walk.specs.declared.Walked.{Walked}
 use Rattle.reader_walk.specs.Outcome.{Outcome, whole, refused, outcomeOf}
-use Rattle.reader_walk.specs.Walked.{walkOf}
+use Rattle.reader_walk.specs.Walked.{walkOf, Beside}
 use Rattle.reader_record.specs.declared.RecordRead.{RecordRead}
 
 -- ---- Tables with room
@@ -46,6 +44,31 @@ atomsBy t o = rowsIn atomPlaces t (atomRows o)
 
 unfoldable pub bondsBy : List ℤ → Outcome → List ℤ
 bondsBy t o = rowsIn bondPlaces t (bondRowsOf o)
+
+-- ---- Rows without zeros behind them
+
+-- tables that were ta₀ and tb₀ begin with the record's rows; what follows these up to the limit is anything, and past it nothing changed
+pub record RowsLeft (ta₀ ta tb₀ tb : List ℤ) (o : Outcome) : Type 0 where
+  pub atoms : Beside atomPlaces ta₀ ta
+  pub bonds : Beside bondPlaces tb₀ tb
+  pub atom-rows : Holds ta (atomRows o)
+  pub bond-rows : Holds tb (bondRowsOf o)
+
+-- how many rows an answer tells of
+abbrev pub atomsRead : RecordRead → ℕ
+atomsRead (RecordRead.Read n m chiral len k h a b) = n
+atomsRead (RecordRead.Refused e i column) = 0
+
+abbrev pub bondsRead : RecordRead → ℕ
+bondsRead (RecordRead.Read n m chiral len k h a b) = m
+bondsRead (RecordRead.Refused e i column) = 0
+
+-- these are within the limit, and the tables have room up to it
+pub record Clearing (r : RecordRead) (ta tb : List ℤ) : Type 0 where
+  pub few-atoms : atomsRead r ≤ limit
+  pub few-bonds : bondsRead r ≤ limit
+  pub atom-room : atomPlaces ≤ length ta
+  pub bond-room : bondPlaces ≤ length tb
 
 -- ---- Tables of any length
 
@@ -80,12 +103,3 @@ atomsAfter kind lb s t = byKind kind t (λ (k : FileKind). atomsAs k lb s t)
 -- the table of bonds that was t
 unfoldable pub bondsAfter : ℕ → ℕ → Bytes → List ℤ → List ℤ
 bondsAfter kind la s t = byKind kind t (λ (k : FileKind). bondsAs k la s t)
-
--- ---- An accepted record, before its rows get their meaning
-
-pub record Settling (c : Counts) (ta tb : List ℤ) (t : List ℕ) : Type 0 where
-  pub few-atoms : c .atoms ≤ limit
-  pub few-bonds : c .bonds ≤ limit
-  pub atom-room : atomPlaces ≤ length ta
-  pub bond-room : bondPlaces ≤ length tb
-  pub kept : Kept (c .atoms) t

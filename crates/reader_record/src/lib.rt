@@ -2,14 +2,12 @@
 ghost use mathlib.Core.Path.{_≡_};
 ghost use Prim.Native.Nat.{_*_, _≤_};
 ghost use lib.ListN.{length};
-ghost use Rattle.rules.specs.Record.{atomPlaces, bondPlaces};
-ghost use Rattle.reader_tables.specs.Mean.{meant};
+ghost use Rattle.rules.specs.Record.{limit, atomPlaces, bondPlaces};
 ghost use Rattle.reader_walk.specs.Stands.{kindOf};
 ghost use Rattle.reader_walk.specs.Walked.{walkOf};
 ghost use Rattle.reader_walk.specs.Outcome.{outcomeOf};
-ghost use Rattle.reader_record.specs.Promise.{ReadPromise};
-ghost use Rattle.reader_record.specs.Read.{zeroed, answered, atomsBy, bondsBy, readAs, atomsAs, bondsAs, readOf, atomsAfter, bondsAfter, Settling};
-use line_counts_bonds::Counts;
+ghost use Rattle.reader_record.specs.Promise.{ReadPromise, RowsPromise};
+ghost use Rattle.reader_record.specs.Read.{zeroed, answered, atomsBy, bondsBy, readAs, atomsAs, bondsAs, readOf, atomsAfter, bondsAfter, atomsRead, bondsRead, RowsLeft, Clearing};
 use reader_walk::Walked;
 use rules::ATOMS;
 use rules::BONDS;
@@ -42,35 +40,48 @@ fn zero_rows(table: &mut [i32], from: usize, to: usize)
     reader_tables::clear(table, from, to);
 }
 
-// After an accepted record: its rows get their meaning, the others are cleared.
-fn settle(counts: Counts, atoms: &mut [i32], bonds: &mut [i32], listed: &[u32; LISTED])
-    requires { ⌜ Settling counts (now atoms) (now bonds) (now listed) ⌝ }
-    ensures { λ r. ⌜ now (atoms .exit) ≡ zeroed (meant (counts .atoms) (now (atoms .entry)) (now (listed .entry))) (16 * (counts .atoms)) atomPlaces ⌝ }
-    ensures { λ r. ⌜ now (bonds .exit) ≡ zeroed (now (bonds .entry)) (6 * (counts .bonds)) bondPlaces ⌝ }
+// Zeros behind n rows of atoms and m rows of bonds, up to the limit.
+fn clear_rest(n: u32, m: u32, atoms: &mut [i32], bonds: &mut [i32])
+    requires { ⌜ (n ≤ limit) × (m ≤ limit) × (atomPlaces ≤ length (now atoms)) × (bondPlaces ≤ length (now bonds)) ⌝ }
+    ensures { λ r. ⌜ now (atoms .exit) ≡ zeroed (now (atoms .entry)) (16 * n) atomPlaces ⌝ }
+    ensures { λ r. ⌜ now (bonds .exit) ≡ zeroed (now (bonds .entry)) (6 * m) bondPlaces ⌝ }
 {
-    let n = counts.atoms as usize;
-    let m = counts.bonds as usize;
-    reader_tables::mean(atoms, counts.atoms, listed);
+    let n = n as usize;
+    let m = m as usize;
     zero_rows(atoms, 16 * n, ATOMS);
     zero_rows(bonds, 6 * m, BONDS);
 }
 
-// After a refusal: no row is left.
-fn clear_all(atoms: &mut [i32], bonds: &mut [i32])
-    requires { ⌜ (atomPlaces ≤ length (now atoms)) × (bondPlaces ≤ length (now bonds)) ⌝ }
-    ensures { λ r. ⌜ now (atoms .exit) ≡ zeroed (now (atoms .entry)) 0 atomPlaces ⌝ }
-    ensures { λ r. ⌜ now (bonds .exit) ≡ zeroed (now (bonds .entry)) 0 bondPlaces ⌝ }
+// Zeros behind the rows that were read; after a refusal no row is left.
+fn clear_after(got: RecordRead, atoms: &mut [i32], bonds: &mut [i32])
+    requires { ⌜ Clearing got (now atoms) (now bonds) ⌝ }
+    ensures { λ r. ⌜ now (atoms .exit) ≡ zeroed (now (atoms .entry)) (16 * atomsRead got) atomPlaces ⌝ }
+    ensures { λ r. ⌜ now (bonds .exit) ≡ zeroed (now (bonds .entry)) (6 * bondsRead got) bondPlaces ⌝ }
 {
-    zero_rows(atoms, 0, ATOMS);
-    zero_rows(bonds, 0, BONDS);
+    match got {
+        RecordRead::Read {
+            n,
+            m,
+            chiral: _,
+            length: _,
+            lines: _,
+            header_end: _,
+            items_start: _,
+            items_end: _,
+        } => clear_rest(n, m, atoms, bonds),
+        RecordRead::Refused {
+            no: _,
+            line: _,
+            column: _,
+        } => clear_rest(0, 0, atoms, bonds),
+    }
 }
 
-// One record from the front of a text, into tables that have room.
+// The plain reading: one record from the front of a text, its rows at the front of tables that have room. What stands behind the rows is not cleared.
 fn read_front(sd: bool, s: &[u8], atoms: &mut [i32], bonds: &mut [i32]) -> RecordRead
     requires { ⌜ (atomPlaces ≤ length (now atoms)) × (bondPlaces ≤ length (now bonds)) ⌝ }
     ensures { λ r. ⌜ r ≡ answered (walkOf (kindOf sd) (now (s .entry))) ⌝ }
-    ensures { λ r. ⌜ now (atoms .exit) ≡ atomsBy (now (atoms .entry)) (outcomeOf (kindOf sd) (now (s .entry))) ⌝ }
-    ensures { λ r. ⌜ now (bonds .exit) ≡ bondsBy (now (bonds .entry)) (outcomeOf (kindOf sd) (now (s .entry))) ⌝ }
+    ensures { λ r. ⌜ RowsLeft (now (atoms .entry)) (now (atoms .exit)) (now (bonds .entry)) (now (bonds .exit)) (outcomeOf (kindOf sd) (now (s .entry))) ⌝ }
 {
     let mut listed = [0u32; LISTED];
     match reader_walk::walk_record(sd, s, atoms, bonds, &mut listed) {
@@ -82,7 +93,7 @@ fn read_front(sd: bool, s: &[u8], atoms: &mut [i32], bonds: &mut [i32]) -> Recor
             items_start,
             items_end,
         } => {
-            settle(counts, atoms, bonds, &listed);
+            reader_tables::mean(atoms, counts.atoms, &listed);
             RecordRead::Read {
                 n: counts.atoms,
                 m: counts.bonds,
@@ -94,11 +105,42 @@ fn read_front(sd: bool, s: &[u8], atoms: &mut [i32], bonds: &mut [i32]) -> Recor
                 items_end,
             }
         }
-        Walked::Refused { no, line, column } => {
-            clear_all(atoms, bonds);
-            RecordRead::Refused { no, line, column }
-        }
+        Walked::Refused { no, line, column } => RecordRead::Refused { no, line, column },
     }
+}
+
+// The same for callers that look at the rows of the record alone. Tables without room are left as they are.
+pub fn read_rows(sd: bool, s: &[u8], atoms: &mut [i32], bonds: &mut [i32]) -> RecordRead
+    ensures { λ r. ⌜ r ≡ readAs (kindOf sd) (length (now (atoms .entry))) (length (now (bonds .entry))) (now (s .entry)) ⌝ }
+    ensures { λ r. ⌜ RowsPromise (kindOf sd) (now (s .entry)) (now (atoms .entry)) (now (bonds .entry)) (now (atoms .exit)) (now (bonds .exit)) ⌝ }
+{
+    if atoms.len() < ATOMS {
+        return RecordRead::Refused {
+            no: 2,
+            line: 0,
+            column: 0,
+        };
+    }
+    if bonds.len() < BONDS {
+        return RecordRead::Refused {
+            no: 2,
+            line: 0,
+            column: 0,
+        };
+    }
+    read_front(sd, s, atoms, bonds)
+}
+
+// The plain reading, and then zeros behind the rows.
+fn read_cleared(sd: bool, s: &[u8], atoms: &mut [i32], bonds: &mut [i32]) -> RecordRead
+    requires { ⌜ (atomPlaces ≤ length (now atoms)) × (bondPlaces ≤ length (now bonds)) ⌝ }
+    ensures { λ r. ⌜ r ≡ answered (walkOf (kindOf sd) (now (s .entry))) ⌝ }
+    ensures { λ r. ⌜ now (atoms .exit) ≡ atomsBy (now (atoms .entry)) (outcomeOf (kindOf sd) (now (s .entry))) ⌝ }
+    ensures { λ r. ⌜ now (bonds .exit) ≡ bondsBy (now (bonds .entry)) (outcomeOf (kindOf sd) (now (s .entry))) ⌝ }
+{
+    let got = read_front(sd, s, atoms, bonds);
+    clear_after(got, atoms, bonds);
+    got
 }
 
 // Tables without room are left as they are.
@@ -121,7 +163,7 @@ fn read_as(sd: bool, s: &[u8], atoms: &mut [i32], bonds: &mut [i32]) -> RecordRe
             column: 0,
         };
     }
-    read_front(sd, s, atoms, bonds)
+    read_cleared(sd, s, atoms, bonds)
 }
 
 // One record from the front of a text: kind 0 is a molfile, kind 1 an SDfile.

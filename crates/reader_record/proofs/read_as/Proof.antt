@@ -10,8 +10,8 @@ returns c = search (needs, room-laws)
 returns-2 : tie.Need-returns-2
 returns-2 c = search (needs, room-laws)
 
-read-front-requires : tie.Need-read-front-requires
-read-front-requires c κs = search needs
+read-cleared-requires : tie.Need-read-cleared-requires
+read-cleared-requires c κs = search needs
 
 same-length : tie.Need-same-length
 same-length c = search needs
@@ -24,4 +24,4 @@ returns-3 c = search (needs, room-laws)
 
 pub read-as-spec : {M : Type 1} → statement M
 read-as-spec =
-    tie.close (tie.spec returns returns-2 read-front-requires same-length same-length-2 returns-3)
+    tie.close (tie.spec returns returns-2 read-cleared-requires same-length same-length-2 returns-3)

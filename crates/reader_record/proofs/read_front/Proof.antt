@@ -1,5 +1,5 @@
 -- `reader_record::read_front` meets its contract.
-use Rattle.reader_record.specs.Reading.{walked-laws, refused-laws}
+use Rattle.reader_record.specs.Rows.{walked-laws}
 use borrow.Author.Needs.{needs}
 use Rattle.reader_record.proofs.read_front.Statement.{statement}
 use Rattle.reader_record.proofs.read_front.Tie as tie
@@ -10,14 +10,11 @@ walk-record-requires c κs = search needs
 enum-known-counts : tie.Need-enum-known-counts
 enum-known-counts c = search needs
 
-settle-requires : tie.Need-settle-requires
-settle-requires c κs = search (needs, walked-laws)
+mean-requires : tie.Need-mean-requires
+mean-requires c κs = search (needs, walked-laws)
 
 enum-known-no : tie.Need-enum-known-no
 enum-known-no c = search needs
-
-clear-all-requires : tie.Need-clear-all-requires
-clear-all-requires c κs = search needs
 
 same-length : tie.Need-same-length
 same-length c = search needs
@@ -35,7 +32,7 @@ same-length-4 : tie.Need-same-length-4
 same-length-4 c = search needs
 
 returns-2 : tie.Need-returns-2
-returns-2 c = search refused-laws
+returns-2 c = search (needs, walked-laws)
 
 pub read-front-spec : {M : Type 1} → statement M
 read-front-spec =
@@ -43,9 +40,8 @@ read-front-spec =
     (tie.spec
     walk-record-requires
     enum-known-counts
-    settle-requires
+    mean-requires
     enum-known-no
-    clear-all-requires
     same-length
     same-length-2
     returns

@@ -1,5 +1,5 @@
 -- `reader_record::zero_rows` meets its contract.
-use Rattle.reader_record.specs.Reading.{settle-laws}
+use Rattle.reader_record.specs.Rows.{zeroed-is}
 use borrow.Author.Needs.{needs}
 use Rattle.reader_record.proofs.zero_rows.Statement.{statement}
 use Rattle.reader_record.proofs.zero_rows.Tie as tie
@@ -11,7 +11,7 @@ same-length : tie.Need-same-length
 same-length c = search needs
 
 returns : tie.Need-returns
-returns c = search (needs, settle-laws)
+returns c = search (needs, zeroed-is)
 
 pub zero-rows-spec : {M : Type 1} → statement M
 zero-rows-spec = tie.close (tie.spec clear-requires same-length returns)

@@ -1,17 +1,7 @@
--- `reader_record::settle` meets its contract.
-use Rattle.reader_record.specs.Reading.{settle-laws}
+-- `reader_record::clear_rest` meets its contract.
 use borrow.Author.Needs.{needs}
-use Rattle.reader_record.proofs.settle.Statement.{statement}
-use Rattle.reader_record.proofs.settle.Tie as tie
-
-cast-n : tie.Need-cast-n
-cast-n c = search needs
-
-cast-m : tie.Need-cast-m
-cast-m c = search needs
-
-mean-requires : tie.Need-mean-requires
-mean-requires c κs = search needs
+use Rattle.reader_record.proofs.clear_rest.Statement.{statement}
+use Rattle.reader_record.proofs.clear_rest.Tie as tie
 
 mul-zero-rows : tie.Need-mul-zero-rows
 mul-zero-rows c = search needs
@@ -32,15 +22,12 @@ same-length-2 : tie.Need-same-length-2
 same-length-2 c = search needs
 
 returns : tie.Need-returns
-returns c = search (needs, settle-laws)
+returns c = search needs
 
-pub settle-spec : {M : Type 1} → statement M
-settle-spec =
+pub clear-rest-spec : {M : Type 1} → statement M
+clear-rest-spec =
     tie.close
     (tie.spec
-    cast-n
-    cast-m
-    mean-requires
     mul-zero-rows
     zero-rows-requires
     mul-zero-rows-2
