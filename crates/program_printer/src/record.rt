@@ -83,10 +83,6 @@ fn refused(no: u8) -> Stepped {
     Stepped::Failed(Verdict::Changed)
 }
 
-fn kind_of(sd: bool) -> u8 {
-    if sd { 1 } else { 0 }
-}
-
 fn place_of(pass: Pass) -> Place {
     Place {
         record: plus(pass.records, 1),
@@ -134,7 +130,7 @@ fn front_of(place: Place, got: RecordRead) -> Front {
 
 // The record at the front of s, read into the tables. What is promised of them is not asked for here.
 fn read_front(pass: Pass, s: &[u8], atoms: &mut [i32; ATOMS], bonds: &mut [i32; BONDS]) -> Front {
-    let got = reader_record::read_record(kind_of(pass.sd), s, atoms, bonds);
+    let got = reader_record::read_rows(pass.sd, s, atoms, bonds);
     front_of(place_of(pass), got)
 }
 
@@ -271,7 +267,7 @@ fn copy(
             column: 0,
         };
     }
-    writer_copy::copy_record(kind_of(sd), s, atoms, bonds, &mut room[used..])
+    writer_copy::copy_rows(sd, s, atoms, bonds, &mut room[used..])
 }
 
 fn put_copy(

@@ -22,9 +22,10 @@ use Rattle.reader_walk.specs.Walked.{walkedBy, walkOf}
 use Rattle.reader_walk.specs.Promise as W
 use Rattle.reader_walk.specs.Promise.{same-refusal}
 use Rattle.reader_record.specs.declared.RecordRead.{RecordRead}
-use Rattle.reader_record.specs.Read.{rowsIn, answered, atomsBy, bondsBy, readAs, atomsAs, bondsAs, readOf, atomsAfter, bondsAfter}
+use Rattle.reader_record.specs.Read.{rowsIn, answered, atomsBy, bondsBy, readAs, atomsAs, bondsAs, readOf, atomsAfter, bondsAfter, RowsLeft}
 use Rattle.reader_record.specs.Reading.{enough, atoms-enough, bonds-enough, short-atoms, short-bonds, atoms-short, atoms-beside, bonds-beside, bonds-short}
 use Rattle.reader_record.specs.Reading.{kind-mol, kind-sd, kind-none, atoms-mol, atoms-sd, atoms-none, bonds-mol, bonds-sd, bonds-none}
+use Rattle.reader_record.specs.Rows.{cleared-left}
 use Rattle.reader_record.specs.Promise as P
 use Rattle.reader_record.specs.Promise.{Reply, Said, accepted, numbersOf, Begins, Told, Refusal, Roomy, Reads, Untouched, kindNumber, ReadPromise}
 use Rattle.reader_record.specs.Told.{itemLines, linesOf, replyOf, told-reply, begins-told, begins-outcome, whole-lines, outcome-begins, outcome-refused}
@@ -147,6 +148,18 @@ module _ (s : Bytes) (ta tb : List ℤ) where
 
       bonds-are : (k : FileKind) → kind ≡ kindNumber k → tb′ ≡ bondsAs k la s tb
       bonds-are k h = g ∙ ap (λ (i : ℕ). bondsAfter i la s tb) h ∙ by-kind k .2
+
+  -- a kind and tables that a record is read into: the walk answers, and the tables begin with the rows
+  pub after-answer : (kind : ℕ) (k : FileKind) → kind ≡ kindNumber k → Roomy ta tb → readOf kind la lb s ≡ answered (walkOf k s)
+  after-answer kind k h y = ap (λ (i : ℕ). readOf i la lb s) h ∙ by-kind k .0 ∙ sym (enough k s la lb (answered (walkOf k s)) (y .atoms) (y .bonds) refl)
+
+  pub after-left : (kind : ℕ) (k : FileKind) (ta′ tb′ : List ℤ) → kind ≡ kindNumber k → Roomy ta tb → ta′ ≡ atomsAfter kind lb s ta → tb′ ≡ bondsAfter kind la s tb →
+      RowsLeft ta ta′ tb tb′ (outcomeOf k s)
+  after-left kind k ta′ tb′ h y f g =
+      let o = outcomeOf k s in
+      let ea = f ∙ ap (λ (i : ℕ). atomsAfter i lb s ta) h ∙ by-kind k .1 ∙ sym (atoms-enough k s lb ta (atomsBy ta o) (y .atoms) (y .bonds) refl) in
+      let eb = g ∙ ap (λ (i : ℕ). bondsAfter i la s tb) h ∙ by-kind k .2 ∙ sym (bonds-enough k s la tb (bondsBy tb o) (y .atoms) (y .bonds) refl) in
+      subst (λ (z : List ℤ). RowsLeft ta ta′ tb z o) (sym eb) (subst (λ (z : List ℤ). RowsLeft ta z tb (bondsBy tb o) o) (sym ea) (cleared-left k s ta tb y))
 
 -- as the code comes to its three ends
 pub promise-mol : (s : Bytes) (ta tb : List ℤ) (kind : ℕ) (r : RecordRead) (ta′ tb′ : List ℤ) → kind ≡ 0 → r ≡ readAs molfile (length ta) (length tb) s →

@@ -1,11 +1,12 @@
 -- A record walked, and its rows given their meaning: the tables begin with the rows of its reading. Once the rest is cleared, they are as they are promised.
-use Prim.Native.Nat.{ℕ, suc, _*_, _≤_, _<_}
+use Prim.Native.Nat.{ℕ, suc, _-_, _*_, _≤_, _<_}
 use native.Mathlib.Omega.{arith}
 use mathlib.Core.Path.{_≡_, refl, sym, ap, _∙_, subst}
-use mathlib.Core.List.{List, []}
+use mathlib.Core.List.{List, [], _++_}
 use mathlib.Core.Bool.{Bool}
-use lib.ListN.{length}
-use lib.IntN.{ℤ}
+use lib.ListN.{length, drop, replicate}
+use lib.Seq.{take-at}
+use lib.IntN.{ℤ, pos}
 use Rattle.text.specs.Text.{Bytes, Line}
 use Rattle.rules.specs.Forms.{Atom, Bond}
 use Rattle.rules.specs.Record.{Molecule, Raw, limit, Atoms, Bonds, Parts1to5, Molfile, Record, atomPlaces, bondPlaces}
@@ -16,7 +17,7 @@ use Rattle.reader_tables.specs.Held.{bond-rows-flat, length-bond-rows}
 use Rattle.reader_tables.specs.Filled.{cleared}
 use Rattle.reader_tables.specs.Mean.{meant, Kept}
 use Rattle.reader_tables.specs.Meant.{shows-kept, meant-holds, meant-length, meant-past, length-meant-rows}
-use Rattle.reader_tables.specs.Cleared.{cleared-filled}
+use Rattle.reader_tables.specs.Cleared.{cleared-filled, length-filled, filled-past}
 use Rattle.judge_file.specs.Place.{FileKind, molfile, sdfile}
 use Rattle.reader_walk.specs.declared.Walked.{Walked}
 use Rattle.reader_walk.specs.Outcome.{Outcome, whole, refused, outcomeOf}
@@ -227,6 +228,27 @@ module _ (kind : FileKind) (s : Bytes) (ta₀ tb₀ ta tb : List ℤ) (r : Recor
   rows-bonds u e = e ∙ zeroed-rows bondPlaces (6 * bondsRead r) tb₀ tb (bondRowsOf (outcomeOf kind s)) (left .bonds) (left .bond-rows) (tells .bonds)
 
 pub ruleset cleared-laws = (rows-clearing, rows-atoms, rows-bonds)
+
+-- cleared tables begin with the rows too
+filled-beside : (cap : ℕ) (t vs : List ℤ) → cap ≤ length t → length vs ≤ cap → Beside cap t (rowsIn cap t vs)
+unfolding rowsIn
+filled-beside cap t vs h k = record { room = h; size = length-filled cap t vs h k; past = filled-past cap t vs k }
+
+filled-holds : (cap : ℕ) (t vs : List ℤ) → Holds (rowsIn cap t vs) vs
+unfolding rowsIn
+filled-holds cap t vs = take-at vs (replicate (cap - length vs) (pos 0) ++ drop cap t) (length vs) refl
+
+pub cleared-left : (kind : FileKind) (s : Bytes) (ta tb : List ℤ) → Roomy ta tb → RowsLeft ta (atomsBy ta (outcomeOf kind s)) tb (bondsBy tb (outcomeOf kind s)) (outcomeOf kind s)
+unfolding atomsBy bondsBy
+cleared-left kind s ta tb y =
+    let o = outcomeOf kind s in
+    let c = counted kind s o refl in
+    record {
+      atoms = filled-beside atomPlaces ta (atomRows o) (y .atoms) (omega (arith, c .atoms, c .few-atoms));
+      bonds = filled-beside bondPlaces tb (bondRowsOf o) (y .bonds) (omega (arith, c .bonds, c .few-bonds));
+      atom-rows = filled-holds atomPlaces ta (atomRows o);
+      bond-rows = filled-holds bondPlaces tb (bondRowsOf o);
+    }
 
 module _ (r : RecordRead) (ta tb : List ℤ) (g : Clearing r ta tb) where
   pub clearing-atom-room : atomPlaces ≤ length ta

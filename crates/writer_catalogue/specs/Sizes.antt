@@ -24,7 +24,8 @@ use Rattle.judge_parts.specs.Part.{good}
 use Rattle.judge_parts.specs.Written.{textOf, writtenHeaders, writtenItems, headersText, itemsText}
 use Rattle.judge_parts.specs.PartAgree.{good-headers, good-items}
 use Rattle.reader_record.specs.declared.RecordRead.{RecordRead}
-use Rattle.reader_record.specs.Read.{readOf, atomsAfter, bondsAfter}
+use Rattle.reader_record.specs.Read.{readAs}
+use Rattle.reader_record.specs.Promise.{RowsPromise}
 use Rattle.writer_record.specs.declared.Written.{Written}
 use Rattle.writer_record.specs.Write.{canonText}
 use Rattle.writer_record.specs.Measure.{sized, afterHeaders, text-length}
@@ -173,11 +174,11 @@ module _ (t : Bytes) (ta tb : List ℤ) (n m chiral len j h a b : ℕ) (f : Fron
       (text-length (record { atoms = ta; bonds = tb; n = n; m = m; chiral = chiral; headers = take (h - 0) (drop 0 t); items = take (b - a) (drop a t) }) (meaning (f .x) .headers) (meaning (f .x) .items)
       ∙ ap (λ (y : Reading). length (canonText y)) (sym (f .accepted .tables)))
 
-module _ (t : Bytes) (ta tb ta′ tb′ : List ℤ) (ra : atomPlaces ≤ length ta) (rb : bondPlaces ≤ length tb) (ea : ta′ ≡ atomsAfter 1 (length tb) t ta) (eb : tb′ ≡ bondsAfter 1 (length ta) t tb)
-    (r : RecordRead) (er : r ≡ readOf 1 (length ta) (length tb) t) where
+module _ (t : Bytes) (ta tb ta′ tb′ : List ℤ) (ra : atomPlaces ≤ length ta) (rb : bondPlaces ≤ length tb) (p : RowsPromise sdfile t ta tb ta′ tb′)
+    (r : RecordRead) (er : r ≡ readAs sdfile (length ta) (length tb) t) where
   module _ (n m chiral len j h a b : ℕ) (q : r ≡ RecordRead.Read n m chiral len j h a b) where
     it : Front sdfile t ta′ tb′ n m chiral len j h a b
-    it = front t ta tb ta′ tb′ ra rb ea eb r er n m chiral len j h a b q
+    it = front t ta tb ta′ tb′ ra rb p r er n m chiral len j h a b q
 
     pub next-headers : h ≤ length t
     next-headers = it .headers-end
@@ -199,4 +200,4 @@ module _ (t : Bytes) (ta tb ta′ tb′ : List ℤ) (ra : atomPlaces ≤ length 
         ap₂ (λ (y w : ℕ). Measured.Record y j w) (f .size) z ∙ sym (ap (measuredBy t needed k) (f .is))
 
   pub next-refused : (e i c needed k : ℕ) → r ≡ RecordRead.Refused e i c → Measured.Refused e i c ≡ measuredBy t needed k (outcomeOf sdfile t)
-  next-refused e i c needed k q = rw (read-refused t ta tb ta′ tb′ ra rb ea eb r er e i c q)
+  next-refused e i c needed k q = rw (read-refused t ta tb ta′ tb′ ra rb p r er e i c q)

@@ -18,7 +18,8 @@ use Rattle.reader_walk.specs.Outcome.{Outcome, whole, refused, outcomeOf}
 use Rattle.reader_walk.specs.Walked.{Beside}
 use Rattle.writer_lines.specs.Laid.{Laid}
 use Rattle.reader_record.specs.declared.RecordRead.{RecordRead}
-use Rattle.reader_record.specs.Read.{readOf, atomsAfter, bondsAfter}
+use Rattle.reader_record.specs.Read.{readAs}
+use Rattle.reader_record.specs.Promise.{RowsPromise}
 use Rattle.writer_record.specs.declared.Written.{Written}
 use Rattle.writer_record.specs.Write.{Given, canonText}
 use Rattle.writer_record.specs.Measure.{recordText, Ready}
@@ -122,17 +123,17 @@ pub record WroteNext (t r₀ r : Bytes) (to : ℕ) (w : Wrote) : Type 0 where
 same-whole : {o : Outcome} {x y : Raw} {k j : ℕ} → o ≡ whole x k → o ≡ whole y j → (x ≡ y) × (k ≡ j)
 same-whole {o} {x} {y} {k} {j} p q = let e : whole x k ≡ whole y j = sym p ∙ q in (cc, cc)
 
-module _ (t : Bytes) (ta tb ta′ tb′ : List ℤ) (r : Bytes) (to : ℕ) (g : Next t ta tb r to) (ea : ta′ ≡ atomsAfter 1 (length tb) t ta) (eb : tb′ ≡ bondsAfter 1 (length ta) t tb)
-    (a : RecordRead) (er : a ≡ readOf 1 (length ta) (length tb) t) where
+module _ (t : Bytes) (ta tb ta′ tb′ : List ℤ) (r : Bytes) (to : ℕ) (g : Next t ta tb r to) (rows : RowsPromise sdfile t ta tb ta′ tb′)
+    (a : RecordRead) (er : a ≡ readAs sdfile (length ta) (length tb) t) where
   pub wrote-atoms : Beside atomPlaces ta ta′
-  wrote-atoms = read-atoms t ta tb ta′ tb′ (g .atoms) (g .bonds) ea eb
+  wrote-atoms = read-atoms t ta tb ta′ tb′ (g .atoms) (g .bonds) rows
 
   pub wrote-bonds : Beside bondPlaces tb tb′
-  wrote-bonds = read-bonds t ta tb ta′ tb′ (g .atoms) (g .bonds) ea eb
+  wrote-bonds = read-bonds t ta tb ta′ tb′ (g .atoms) (g .bonds) rows
 
   module _ (n m chiral len k h i j : ℕ) (q : a ≡ RecordRead.Read n m chiral len k h i j) where
     it : Front sdfile t ta′ tb′ n m chiral len k h i j
-    it = front t ta tb ta′ tb′ (g .atoms) (g .bonds) ea eb a er n m chiral len k h i j q
+    it = front t ta tb ta′ tb′ (g .atoms) (g .bonds) rows a er n m chiral len k h i j q
 
     pub wrote-headers : h ≤ length t
     wrote-headers = it .headers-end
@@ -159,6 +160,6 @@ module _ (t : Bytes) (ta tb ta′ tb′ : List ℤ) (r : Bytes) (to : ℕ) (g : 
   -- a record that begins the text is read
   pub wrote-never : (e i c : ℕ) (w : Wrote) → a ≡ RecordRead.Refused e i c → WroteNext t r r to w
   wrote-never e i c w q =
-      let o = read-refused t ta tb ta′ tb′ (g .atoms) (g .bonds) ea eb a er e i c q in
+      let o = read-refused t ta tb ta′ tb′ (g .atoms) (g .bonds) rows a er e i c q in
       let z : whole (g .x) (g .k) ≡ refused e i c = sym (g .is) ∙ o in
       absurd (let z : _≡_ {A = ℕ} 0 1 = cc in omega arith)

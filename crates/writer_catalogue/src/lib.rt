@@ -104,7 +104,7 @@ fn measure_next(
     ensures { λ r. ⌜ Beside atomPlaces (now (atoms .entry)) (now (atoms .exit)) ⌝ }
     ensures { λ r. ⌜ Beside bondPlaces (now (bonds .entry)) (now (bonds .exit)) ⌝ }
 {
-    match reader_record::read_record(1, t, atoms, bonds) {
+    match reader_record::read_rows(true, t, atoms, bonds) {
         RecordRead::Read {
             n,
             m,
@@ -205,7 +205,7 @@ fn write_next(t: &[u8], atoms: &mut [i32], bonds: &mut [i32], room: &mut [u8], t
     ensures { λ r. ⌜ Beside atomPlaces (now (atoms .entry)) (now (atoms .exit)) ⌝ }
     ensures { λ r. ⌜ Beside bondPlaces (now (bonds .entry)) (now (bonds .exit)) ⌝ }
 {
-    match reader_record::read_record(1, t, atoms, bonds) {
+    match reader_record::read_rows(true, t, atoms, bonds) {
         RecordRead::Read {
             n,
             m,

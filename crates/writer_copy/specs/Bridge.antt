@@ -1,31 +1,31 @@
 -- A record that was read can be written: the tables, its header lines and its items are what a writer is handed for its reading.
-use Prim.Native.Nat.{ℕ, zero, suc, _-_, _*_, _≤_}
+use Prim.Native.Nat.{ℕ, zero, suc, _-_, _≤_}
 use native.Mathlib.Omega.{arith}
 use mathlib.Core.Path.{_≡_, sym, ap, ap₂, _∙_, subst, refl}
 use mathlib.Core.List.{List, [], _∷_, _++_, append-assoc}
-use lib.ListN.{length, take, drop, replicate, length-append}
+use lib.ListN.{length, take, drop, take-append-drop}
 use lib.Seq.{take-at, drop-at}
-use lib.IntN.{ℤ, pos}
+use lib.IntN.{ℤ}
 use Rattle.text.specs.Text.{Bytes, Line}
-use Rattle.rules.specs.Record.{Raw, Molecule, Parts1to5, Record, limit, atomPlaces, bondPlaces}
+use Rattle.rules.specs.Record.{Raw, Molecule, Parts1to5, Record, limit}
 use Rattle.rules.specs.Meaning.{meaning}
 use Rattle.rules.specs.Canon.{Rows, Good, HeaderPart}
 use Rattle.rules.specs.Handed.{closed-items}
 use Rattle.rules.specs.Rewritten.{record-good}
 use Rattle.rules.specs.Rows.{rowsOf}
-use Rattle.reader_tables.specs.Row.{flat}
-use Rattle.reader_tables.specs.Cleared.{length-filled, filled-past}
+use Rattle.reader_tables.specs.Row.{flat, Holds}
 use Rattle.judge_file.specs.Place.{FileKind}
 use Rattle.judge_file.specs.Front.{parts-front}
 use Rattle.judge_file.specs.Witness.{record-end}
 use Rattle.judge_file.specs.WalkText.{afterLines}
 use Rattle.reader_walk.specs.Outcome as O
 use Rattle.reader_walk.specs.Outcome.{Outcome, whole, outcomeOf}
-use Rattle.reader_walk.specs.Walked.{walkedBy, Beside}
+use Rattle.reader_walk.specs.Walked.{walkedBy, walkOf}
 use Rattle.reader_record.specs.declared.RecordRead.{RecordRead}
-use Rattle.reader_record.specs.Read.{answered, rowsIn}
-use Rattle.reader_record.specs.Promise.{Reply, Said, accepted, refused, Begins, Told, Reads, Roomy}
-use Rattle.reader_record.specs.Told.{told-reply, begins-told, begins-outcome}
+use Rattle.reader_record.specs.Read.{answered, atomRows, bondRowsOf, RowsLeft}
+use Rattle.reader_record.specs.Promise.{Reply, numbersOf, Begins, Told}
+use Rattle.reader_record.specs.Promised.{reads}
+use Rattle.reader_record.specs.Told.{linesOf, told-reply, begins-told, begins-outcome}
 use Rattle.writer_record.specs.Write.{Given}
 use Rattle.writer_record.specs.Promise.{Accepted}
 
@@ -45,21 +45,10 @@ rows-flat width (suc n) P (t ∷ ts) rest r e =
     ∙ ap (rowsOf width n) (drop-at t (flat ts ++ rest) width (r .0 .0))
     ∙ rows-flat width n P ts rest (r .1) (omega arith))
 
-flat-length : (width : ℕ) (P : List ℤ → Type 0) (rows : List (List ℤ)) → Rows width P rows → length (flat rows) ≡ width * length rows
-unfolding flat Rows
-flat-length width P [] r = omega arith
-flat-length width P (t ∷ ts) r =
-    let i = flat-length width P ts (r .1) in
-    length-append t (flat ts) ∙ omega (arith, r .0 .0)
-
-rows-in : (width n cap : ℕ) (P : List ℤ → Type 0) (rows : List (List ℤ)) (t : List ℤ) → Rows width P rows → length rows ≡ n → rowsOf width n (rowsIn cap t (flat rows)) ≡ rows
-unfolding rowsIn
-rows-in width n cap P rows t r e = rows-flat width n P rows (replicate (cap - length (flat rows)) (pos 0) ++ drop cap t) r e
-
--- rows within the limit leave what is past it
-pub rows-beside : (cap : ℕ) (t vs : List ℤ) → cap ≤ length t → length vs ≤ cap → Beside cap t (rowsIn cap t vs)
-unfolding rowsIn
-rows-beside cap t vs h k = record { room = h; size = length-filled cap t vs h k; past = filled-past cap t vs k }
+rows-held : (width n : ℕ) (P : List ℤ → Type 0) (rows : List (List ℤ)) (t : List ℤ) → Rows width P rows → length rows ≡ n → Holds t (flat rows) → rowsOf width n t ≡ rows
+rows-held width n P rows t r e h =
+    let rest = drop (length (flat rows)) t in
+    ap (rowsOf width n) (sym (take-append-drop (length (flat rows)) t) ∙ ap (λ (z : List ℤ). z ++ rest) h) ∙ rows-flat width n P rows rest r e
 
 -- ---- A record at the front of a text
 
@@ -70,11 +59,6 @@ header-part (Parts1to5.parts f g h l a b w q o) = HeaderPart.three f g h
 module _ {f : FileKind} {s : Bytes} {x : Raw} {w : Reply} (d : Told f s x w) where
   told-good : Good limit (meaning x)
   told-good = record-good (Record.record-of {r = []} (parts-front (d .molecule .2) .any (d .items .0 ++ (_ ∷ []))) (closed-items (d .items .2) record-end))
-
-  few : (length (flat (meaning x .atoms)) ≤ atomPlaces) × (length (flat (meaning x .bonds)) ≤ bondPlaces)
-  few =
-      let w = told-good .writable in
-      (omega (arith, flat-length 16 _ (meaning x .atoms) (w .atoms), w .n-atoms, w .n), omega (arith, flat-length 6 _ (meaning x .bonds) (w .bonds), w .m-bonds, w .m))
 
 pub begins-good : (f : FileKind) (s : Bytes) (x : Raw) → Begins f s x → Good limit (meaning x)
 begins-good f s x b = told-good (begins-told f s x b)
@@ -106,67 +90,57 @@ pub record Front (f : FileKind) (t : Bytes) (ta tb : List ℤ) (n m chiral len k
   pub items-start : a ≤ b
   pub items-end : b ≤ length t
 
-module _ (f : FileKind) (t : Bytes) (ta tb ta′ tb′ : List ℤ) (y : Roomy ta tb) where
-  pub read-beside : (r : Said) → Reads f t ta tb r ta′ tb′ → Beside atomPlaces ta ta′ × Beside bondPlaces tb tb′
-  read-beside (accepted w) p =
-      let g = p .accepts w .0 refl in
-      let r = p .rows (g .0) (g .1) in
-      let n = few (g .2) in (
-        subst (Beside atomPlaces ta) (sym (r .0)) (rows-beside atomPlaces ta (flat (meaning (g .0) .atoms)) (y .atoms) (n .0)),
-        subst (Beside bondPlaces tb) (sym (r .1)) (rows-beside bondPlaces tb (flat (meaning (g .0) .bonds)) (y .bonds) (n .1)),
-      )
-  read-beside (refused e i c) p =
-      let r = p .refuses e i c refl in
-      (subst (Beside atomPlaces ta) (sym (r .1)) (rows-beside atomPlaces ta [] (y .atoms) (omega arith)), subst (Beside bondPlaces tb) (sym (r .2)) (rows-beside bondPlaces tb [] (y .bonds) (omega arith)))
+module _ (f : FileKind) (t : Bytes) (ta₀ tb₀ ta tb : List ℤ) (p : RowsLeft ta₀ ta tb₀ tb (outcomeOf f t)) (n m chiral len k h a b : ℕ)
+    (q : answered (walkOf f t) ≡ RecordRead.Read n m chiral len k h a b) where
+  abbrev reply : Reply
+  reply = record { n = n; m = m; chiral = chiral; bytes = len; lines = k; header-end = h; items-start = a; items-end = b }
 
-  module _ (n m chiral len k h a b : ℕ)
-      (p : Reads f t ta tb (accepted (record { n = n; m = m; chiral = chiral; bytes = len; lines = k; header-end = h; items-start = a; items-end = b })) ta′ tb′) where
-    abbrev reply : Reply
-    reply = record { n = n; m = m; chiral = chiral; bytes = len; lines = k; header-end = h; items-start = a; items-end = b }
+  abbrev found : (x : Raw) × Begins f t x × Told f t x reply
+  found = reads f t ta₀ tb₀ .accepts reply .0 (ap numbersOf q)
 
-    abbrev found : (x : Raw) × Begins f t x × Told f t x reply
-    found = p .accepts reply .0 refl
+  lines-are : outcomeOf f t ≡ whole (found .0) (linesOf f (found .0))
+  lines-are = begins-outcome f t (found .0) (found .1)
 
-    handed-on : Accepted (givenOf t ta′ tb′ n m chiral h a b) (meaning (found .0))
-    unfolding meaning
-    handed-on =
-        let x = found .0 in
-        let d = found .2 in
-        let g = told-good d in
-        let r = p .rows x (found .1) in
-        let s = read-beside (accepted reply) p in
-        let na : length (meaning x .atoms) ≡ n = g .writable .n-atoms ∙ sym (d .n) in
-        let mb : length (meaning x .bonds) ≡ m = g .writable .m-bonds ∙ sym (d .m) in
-        let ra : rowsOf 16 n ta′ ≡ meaning x .atoms = ap (rowsOf 16 n) (r .0) ∙ rows-in 16 n atomPlaces _ (meaning x .atoms) ta (g .writable .atoms) na in
-        let rb : rowsOf 6 m tb′ ≡ meaning x .bonds = ap (rowsOf 6 m) (r .1) ∙ rows-in 6 m bondPlaces _ (meaning x .bonds) tb (g .writable .bonds) mb in
-        record {
-          roomy = record { atoms = omega (arith, s .0 .room, s .0 .size); bonds = omega (arith, s .1 .room, s .1 .size) };
-          tables = λ i. record {
-            headers = x .molecule .headers;
-            n = sym (d .n) i;
-            m = sym (d .m) i;
-            chiral = sym (d .chiral) i;
-            atoms = sym ra i;
-            bonds = sym rb i;
-            items = x .items;
-          };
-          writable = g .writable;
-          headers = (_, d .headers .lines, header-part (d .molecule .2));
-          items = (d .items .0, d .items .1 .lines, d .items .2);
-        }
+  handed-on : Accepted (givenOf t ta tb n m chiral h a b) (meaning (found .0))
+  unfolding meaning
+  handed-on =
+      let x = found .0 in
+      let d = found .2 in
+      let g = told-good d in
+      let na : length (meaning x .atoms) ≡ n = g .writable .n-atoms ∙ sym (d .n) in
+      let mb : length (meaning x .bonds) ≡ m = g .writable .m-bonds ∙ sym (d .m) in
+      let ha = subst (λ (o : Outcome). Holds ta (atomRows o)) lines-are (p .atom-rows) in
+      let hb = subst (λ (o : Outcome). Holds tb (bondRowsOf o)) lines-are (p .bond-rows) in
+      let ra : rowsOf 16 n ta ≡ meaning x .atoms = rows-held 16 n _ (meaning x .atoms) ta (g .writable .atoms) na ha in
+      let rb : rowsOf 6 m tb ≡ meaning x .bonds = rows-held 6 m _ (meaning x .bonds) tb (g .writable .bonds) mb hb in
+      record {
+        roomy = record { atoms = omega (arith, p .atoms .room, p .atoms .size); bonds = omega (arith, p .bonds .room, p .bonds .size) };
+        tables = λ i. record {
+          headers = x .molecule .headers;
+          n = sym (d .n) i;
+          m = sym (d .m) i;
+          chiral = sym (d .chiral) i;
+          atoms = sym ra i;
+          bonds = sym rb i;
+          items = x .items;
+        };
+        writable = g .writable;
+        headers = (_, d .headers .lines, header-part (d .molecule .2));
+        items = (d .items .0, d .items .1 .lines, d .items .2);
+      }
 
-    pub front : Front f t ta′ tb′ n m chiral len k h a b
-    front =
-        let x = found .0 in
-        let d = found .2 in
-        let e = told-reply f t x reply d in
-        let lines = ap (λ (w : Reply). w .lines) e in
-        record {
-          x = x;
-          is = begins-outcome f t x (found .1) ∙ ap (whole x) (sym lines);
-          size = ap (λ (w : Reply). w .bytes) e ∙ ap (afterLines t 0) (sym lines);
-          accepted = handed-on;
-          headers-end = d .headers .inside;
-          items-start = d .items .1 .from;
-          items-end = d .items .1 .inside;
-        }
+  pub front : Front f t ta tb n m chiral len k h a b
+  front =
+      let x = found .0 in
+      let d = found .2 in
+      let e = told-reply f t x reply d in
+      let lines = ap (λ (w : Reply). w .lines) e in
+      record {
+        x = x;
+        is = lines-are ∙ ap (whole x) (sym lines);
+        size = ap (λ (w : Reply). w .bytes) e ∙ ap (afterLines t 0) (sym lines);
+        accepted = handed-on;
+        headers-end = d .headers .inside;
+        items-start = d .items .1 .from;
+        items-end = d .items .1 .inside;
+      }

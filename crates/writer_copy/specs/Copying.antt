@@ -11,15 +11,17 @@ use Rattle.text.specs.Text.{Bytes}
 use Rattle.rules.specs.Record.{limit}
 use Rattle.rules.specs.Meaning.{Reading, meaning}
 use Rattle.rules.specs.Canon.{Writable}
-use Rattle.judge_file.specs.Place.{FileKind}
+use Rattle.judge_file.specs.Place.{FileKind, molfile, sdfile}
 use Rattle.reader_walk.specs.Outcome.{Outcome, whole, refused, outcomeOf}
+use Rattle.reader_walk.specs.Walked.{walkedBy, walkOf}
 use Rattle.writer_lines.specs.Laid.{Laid}
 use Rattle.writer_molecule.specs.Body.{bodySize}
 use Rattle.judge_parts.specs.Part.{good}
 use Rattle.judge_parts.specs.Written.{writtenHeaders, writtenItems}
 use Rattle.reader_record.specs.declared.RecordRead.{RecordRead}
-use Rattle.reader_record.specs.Read.{readOf, atomsAfter, bondsAfter}
-use Rattle.reader_record.specs.Promise.{numbersOf, Roomy, Reads, kindNumber, ReadPromise}
+use Rattle.reader_record.specs.Read.{answered, readAs, readOf, atomsAfter, bondsAfter, RowsLeft}
+use Rattle.reader_record.specs.Promise.{Roomy, kindNumber, RowsPromise}
+use Rattle.reader_record.specs.Promised.{after-left}
 use Rattle.writer_tables.specs.Tables.{writableTables}
 use Rattle.writer_record.specs.declared.Written.{Written}
 use Rattle.writer_record.specs.Write as W
@@ -28,10 +30,10 @@ use Rattle.writer_record.specs.Measure.{tables-agree, judged-parts, afterHeader
 use Rattle.writer_record.specs.Promise as WP
 use Rattle.writer_record.specs.Promise.{Accepted, record-agrees, promise-done, promise-refused, accepted-ready, accepted-laid}
 use Rattle.writer_copy.specs.declared.Copied.{Copied}
-use Rattle.writer_copy.specs.Copy.{textOf, fitting, copyFor, answerBy, roomBy, copyOf, roomAfter}
-use Rattle.writer_copy.specs.Promise.{Promise, Seen, seen, seen-walked, promise}
+use Rattle.writer_copy.specs.Copy.{textOf, fitting, answerBy, roomBy, copyOf, roomAfter}
+use Rattle.writer_copy.specs.Promise.{Promise, RowsCopied, Seen, seen, promise}
 use Rattle.writer_copy.specs.Most.{copy-most, surely, surely-enough}
-use Rattle.writer_copy.specs.Bridge.{same-refused, walked-refused, givenOf, Front, front}
+use Rattle.writer_copy.specs.Bridge.{walked-refused, givenOf, Front, front}
 
 -- ---- What was read is measured and laid
 
@@ -94,86 +96,154 @@ sure-done g s taken lines r₀ t e h r v p =
 
 -- ---- A reading that was accepted, or refused
 
-refused-read : {X : Type 0} {e i c n m chiral len k h a b : ℕ} → RecordRead.Refused e i c ≡ RecordRead.Read n m chiral len k h a b → X
-refused-read h = absurd (let z : _≡_ {A = ℕ} 0 1 = cc in omega arith)
+-- what was read can be written; of a refusal nothing is asked
+unfoldable pub Readable : Bytes → List ℤ → List ℤ → RecordRead → Type 0
+Readable s ta tb (RecordRead.Read n m chiral len k h a b) = (h ≤ length s) × (a ≤ b) × (b ≤ length s) × Sound (givenOf s ta tb n m chiral h a b)
+Readable s ta tb (RecordRead.Refused e i c) = Unit {0}
 
--- kind and tables with which a record is read
-record Kept (kind : ℕ) (ta tb : List ℤ) : Type 0 where
-  f : FileKind
-  kind-is : kind ≡ kindNumber f
-  roomy : Roomy ta tb
+-- it was put as a writer puts it; after a refusal nothing was
+unfoldable pub PutGot : Bytes → List ℤ → List ℤ → RecordRead → Bytes → Copied → Bytes → Type 0
+PutGot s ta tb (RecordRead.Read n m chiral len k h a b) r₀ c r = PutRead (givenOf s ta tb n m chiral h a b) len k r₀ c r
+PutGot s ta tb (RecordRead.Refused e i column) r₀ c r = (c ≡ Copied.Refused e i column) × (r ≡ r₀)
 
-seen-read : {kind : ℕ} {s : Bytes} {ta tb : List ℤ} {k : ℕ} {r : RecordRead} {o : Outcome} → Seen kind s ta tb k r o →
-    {n m chiral len j h a b : ℕ} → r ≡ RecordRead.Read n m chiral len j h a b → Kept kind ta tb
-seen-read (Seen.other-kind h) q = refused-read q
-seen-read (Seen.tables h y) q = refused-read q
-seen-read (Seen.walked f e y) q = record { f = f; kind-is = e; roomy = y }
+module _ (s : Bytes) (ta tb : List ℤ) (got : RecordRead) where
+  module _ (g : Readable s ta tb got) (n m chiral len k h a b : ℕ) (q : got ≡ RecordRead.Read n m chiral len k h a b) where
+    opened : (h ≤ length s) × (a ≤ b) × (b ≤ length s) × Sound (givenOf s ta tb n m chiral h a b)
+    unfolding Readable
+    opened = subst (Readable s ta tb) q g
 
-seen-refused : {kind : ℕ} {s : Bytes} {ta tb : List ℤ} {k : ℕ} {r : RecordRead} {o : Outcome} → Seen kind s ta tb k r o →
-    (e i c : ℕ) → r ≡ RecordRead.Refused e i c → o ≡ refused e i c
-seen-refused (Seen.other-kind h) e i c q = same-refused q
-seen-refused (Seen.tables h y) e i c q = same-refused q
-seen-refused {s = s} {k = k} (Seen.walked f g y) e i c q = ap (fitting k) (walked-refused f s e i c (outcomeOf f s) q)
+    pub got-headers : h ≤ length s
+    got-headers = opened .0
 
-module _ (kind : ℕ) (s : Bytes) (ta tb ta′ tb′ : List ℤ) (rd : RecordRead) (er : rd ≡ readOf kind (length ta) (length tb) s)
-    (ea : ta′ ≡ atomsAfter kind (length tb) s ta) (eb : tb′ ≡ bondsAfter kind (length ta) s tb) (rp : ReadPromise kind s ta tb rd ta′ tb′) where
-  module _ (n m chiral len k h a b : ℕ) (q : rd ≡ RecordRead.Read n m chiral len k h a b) where
-    abbrev g : Given
-    g = givenOf s ta′ tb′ n m chiral h a b
+    pub got-items : a ≤ b
+    got-items = opened .1
 
-    kept : Kept kind ta tb
-    kept = seen-read (seen kind s ta tb 0) (sym er ∙ q)
+    pub got-items-end : b ≤ length s
+    got-items-end = opened .2
 
-    it : Front (kept .f) s ta′ tb′ n m chiral len k h a b
-    it =
-        let c = kept in
-        front (c .f) s ta tb ta′ tb′ (c .roomy) n m chiral len k h a b
-        (subst (λ (z : RecordRead). Reads (c .f) s ta tb (numbersOf z) ta′ tb′) q (rp .reads (c .f) (c .kind-is) (c .roomy)))
+    pub got-sound : Sound (givenOf s ta tb n m chiral h a b)
+    got-sound = opened .3
 
-    pub copy-headers : h ≤ length s
-    copy-headers = it .headers-end
+  module _ (r₀ : Bytes) where
+    pub got-done : (n m chiral len k h a b : ℕ) → got ≡ RecordRead.Read n m chiral len k h a b →
+        (c : Copied) (r : Bytes) → PutRead (givenOf s ta tb n m chiral h a b) len k r₀ c r → PutGot s ta tb got r₀ c r
+    unfolding PutGot
+    got-done n m chiral len k h a b q c r p = subst (λ (z : RecordRead). PutGot s ta tb z r₀ c r) (sym q) p
 
-    pub copy-items : a ≤ b
-    copy-items = it .items-start
+    pub got-refused : (e i c : ℕ) → got ≡ RecordRead.Refused e i c → PutGot s ta tb got r₀ (Copied.Refused e i c) r₀
+    unfolding PutGot
+    got-refused e i c q = subst (λ (z : RecordRead). PutGot s ta tb z r₀ (Copied.Refused e i c) r₀) (sym q) (refl, refl)
 
-    pub copy-items-end : b ≤ length s
-    copy-items-end = it .items-end
+-- ---- A record walked, its rows in the tables
 
-    pub copy-sound : Sound (givenOf s ta′ tb′ n m chiral h a b)
-    copy-sound = record { x = meaning (it .x); accepted = it .accepted }
+module _ (f : FileKind) (s : Bytes) (ta₀ tb₀ ta tb : List ℤ) (left : RowsLeft ta₀ ta tb₀ tb (outcomeOf f s)) where
+  walked-readable : (got : RecordRead) → answered (walkOf f s) ≡ got → Readable s ta tb got
+  unfolding Readable
+  walked-readable (RecordRead.Read n m chiral len k h a b) q =
+      let it = front f s ta₀ tb₀ ta tb left n m chiral len k h a b q in
+      (it .headers-end, it .items-start, it .items-end, record { x = meaning (it .x); accepted = it .accepted })
+  walked-readable (RecordRead.Refused e i c) q = tt
 
-    copy-is : (j : ℕ) → copyFor kind (length ta) (length tb) s j ≡ fitting j (whole (it .x) k)
-    copy-is j = seen-walked kind s ta tb j (kept .f) (kept .kind-is) (kept .roomy) ∙ ap (fitting j) (it .is)
+  module _ (r₀ : Bytes) (c : Copied) (r : Bytes) where
+    -- as copying does by an outcome
+    abbrev CopiedBy : Outcome → Type 0
+    CopiedBy o = (c ≡ answerBy s o) × (r ≡ roomBy r₀ o)
 
-    text-is : (j : ℕ) → textFor g j ≡ demand (leb (length (textOf (it .x))) j) 20 (good (textOf (it .x)))
-    unfolding textFor
-    text-is j = rw (record-agrees g (meaning (it .x)) .1 (it .accepted))
+    module _ (n m chiral len k h a b : ℕ) (q : answered (walkOf f s) ≡ RecordRead.Read n m chiral len k h a b) where
+      abbrev g : Given
+      g = givenOf s ta tb n m chiral h a b
 
-    module _ (r₀ r : Bytes) (c : Copied) (p : PutRead g len k r₀ c r) where
+      it : Front f s ta tb n m chiral len k h a b
+      it = front f s ta₀ tb₀ ta tb left n m chiral len k h a b q
+
       abbrev fits : Bool
       fits = leb (length (textOf (it .x))) (length r₀)
 
-      said : c ≡ copyOf kind (length ta) (length tb) s (length r₀)
-      unfolding copyOf writeOf
-      said = p .said ∙ ap (copiedOf len k) (p .written .answer ∙ ap W.answer (text-is (length r₀))) ∙ go fits ∙ ap (answerBy s) (sym (copy-is (length r₀)))
+      text-is : textFor g (length r₀) ≡ demand fits 20 (good (textOf (it .x)))
+      unfolding textFor
+      text-is = rw (record-agrees g (meaning (it .x)) .1 (it .accepted))
+
+      whole-copied : PutRead g len k r₀ c r → CopiedBy (fitting (length r₀) (outcomeOf f s))
+      unfolding writeOf W.roomAfter
+      whole-copied p = (
+        p .said ∙ ap (copiedOf len k) (p .written .answer ∙ ap W.answer text-is) ∙ said fits ∙ ap (λ (o : Outcome). answerBy s (fitting (length r₀) o)) (sym (it .is)),
+        p .written .room ∙ ap (W.room r₀) text-is ∙ stood fits ∙ ap (λ (o : Outcome). roomBy r₀ (fitting (length r₀) o)) (sym (it .is)),
+      )
         where
-          go : (t : Bool) → copiedOf len k (W.answer (demand t 20 (good (textOf (it .x))))) ≡ answerBy s (cond t (whole (it .x) k) (refused 20 0 0))
-          go true = ap (λ (z : ℕ). Copied.Done z k (length (textOf (it .x)))) (it .size)
-          go false = refl
+          said : (t : Bool) → copiedOf len k (W.answer (demand t 20 (good (textOf (it .x))))) ≡ answerBy s (cond t (whole (it .x) k) (refused 20 0 0))
+          said true = ap (λ (z : ℕ). Copied.Done z k (length (textOf (it .x)))) (it .size)
+          said false = refl
 
-      stood : r ≡ roomAfter kind (length ta) (length tb) s r₀
-      unfolding roomAfter W.roomAfter
-      stood = p .written .room ∙ ap (W.room r₀) (text-is (length r₀)) ∙ go fits ∙ ap (roomBy r₀) (sym (copy-is (length r₀)))
-        where
-          go : (t : Bool) → W.room r₀ (demand t 20 (good (textOf (it .x)))) ≡ roomBy r₀ (cond t (whole (it .x) k) (refused 20 0 0))
-          go true = refl
-          go false = refl
+          stood : (t : Bool) → W.room r₀ (demand t 20 (good (textOf (it .x)))) ≡ roomBy r₀ (cond t (whole (it .x) k) (refused 20 0 0))
+          stood true = refl
+          stood false = refl
 
-      pub copy-done : Promise kind s ta tb r₀ c ta′ tb′ r
-      copy-done = promise kind s ta tb r₀ c ta′ tb′ r said stood ea eb
+    walked-copied : (got : RecordRead) → answered (walkOf f s) ≡ got → PutGot s ta tb got r₀ c r → CopiedBy (fitting (length r₀) (outcomeOf f s))
+    unfolding PutGot walkOf
+    walked-copied (RecordRead.Read n m chiral len k h a b) q p = whole-copied n m chiral len k h a b q p
+    walked-copied (RecordRead.Refused e i column) q p =
+        let o = walked-refused f s e i column (outcomeOf f s) q in
+        (p .0 ∙ sym (ap (λ (z : Outcome). answerBy s (fitting (length r₀) z)) o), p .1 ∙ sym (ap (λ (z : Outcome). roomBy r₀ (fitting (length r₀) z)) o))
 
-  pub copy-refused : (r₀ : Bytes) (e i c : ℕ) → rd ≡ RecordRead.Refused e i c → Promise kind s ta tb r₀ (Copied.Refused e i c) ta′ tb′ r₀
-  unfolding copyOf roomAfter
-  copy-refused r₀ e i c q =
-      let o = seen-refused (seen kind s ta tb (length r₀)) e i c (sym er ∙ q) in
-      promise kind s ta tb r₀ (Copied.Refused e i c) ta′ tb′ r₀ (sym (ap (answerBy s) o)) (sym (ap (roomBy r₀) o)) ea eb
+-- ---- Any kind and tables
+
+module _ (kind : ℕ) (s : Bytes) (ta tb ta′ tb′ : List ℤ) (rows : (f : FileKind) → kind ≡ kindNumber f → Roomy ta tb → RowsLeft ta ta′ tb tb′ (outcomeOf f s)) where
+  readable-seen : {k : ℕ} {got : RecordRead} {o : Outcome} → Seen kind s ta tb k got o → Readable s ta′ tb′ got
+  unfolding Readable walkOf
+  readable-seen (Seen.other-kind h) = tt
+  readable-seen (Seen.tables h y) = tt
+  readable-seen (Seen.walked f e y) = walked-readable f s ta tb ta′ tb′ (rows f e y) (answered (walkedBy f s (outcomeOf f s))) refl
+
+  copied-seen : (r₀ : Bytes) (c : Copied) (r : Bytes) {got : RecordRead} {o : Outcome} → Seen kind s ta tb (length r₀) got o → PutGot s ta′ tb′ got r₀ c r →
+      (c ≡ answerBy s o) × (r ≡ roomBy r₀ o)
+  unfolding PutGot walkOf
+  copied-seen r₀ c r (Seen.other-kind h) p = p
+  copied-seen r₀ c r (Seen.tables h y) p = p
+  copied-seen r₀ c r (Seen.walked f e y) p = walked-copied f s ta tb ta′ tb′ (rows f e y) r₀ c r (answered (walkedBy f s (outcomeOf f s))) refl p
+
+  module _ (got : RecordRead) (er : got ≡ readOf kind (length ta) (length tb) s) where
+    readable : Readable s ta′ tb′ got
+    readable = subst (Readable s ta′ tb′) (sym er) (readable-seen (seen kind s ta tb 0))
+
+    copied : (r₀ : Bytes) (c : Copied) (r : Bytes) → PutGot s ta′ tb′ got r₀ c r →
+        (c ≡ copyOf kind (length ta) (length tb) s (length r₀)) × (r ≡ roomAfter kind (length ta) (length tb) s r₀)
+    unfolding copyOf roomAfter
+    copied r₀ c r p = copied-seen r₀ c r (seen kind s ta tb (length r₀)) (subst (λ (z : RecordRead). PutGot s ta′ tb′ z r₀ c r) er p)
+
+-- the tables are cleared behind the rows
+module _ (kind : ℕ) (s : Bytes) (ta tb ta′ tb′ : List ℤ) (got : RecordRead) (er : got ≡ readOf kind (length ta) (length tb) s)
+    (ea : ta′ ≡ atomsAfter kind (length tb) s ta) (eb : tb′ ≡ bondsAfter kind (length ta) s tb) where
+  rows-cleared : (f : FileKind) → kind ≡ kindNumber f → Roomy ta tb → RowsLeft ta ta′ tb tb′ (outcomeOf f s)
+  rows-cleared f e y = after-left s ta tb kind f ta′ tb′ e y ea eb
+
+  pub copy-readable : Readable s ta′ tb′ got
+  copy-readable = readable kind s ta tb ta′ tb′ rows-cleared got er
+
+  pub copy-done : (r₀ : Bytes) (c : Copied) (r : Bytes) → PutGot s ta′ tb′ got r₀ c r → Promise kind s ta tb r₀ c ta′ tb′ r
+  copy-done r₀ c r p =
+      let d = copied kind s ta tb ta′ tb′ rows-cleared got er r₀ c r p in
+      promise kind s ta tb r₀ c ta′ tb′ r (d .0) (d .1) ea eb
+
+-- they are not
+module _ (f : FileKind) (s : Bytes) (ta tb ta′ tb′ : List ℤ) (got : RecordRead) (er : got ≡ readAs f (length ta) (length tb) s) (p : RowsPromise f s ta tb ta′ tb′) where
+  same-kind : (g h : FileKind) → kindNumber g ≡ kindNumber h → g ≡ h
+  same-kind molfile molfile e = refl
+  same-kind molfile sdfile e = absurd (omega arith)
+  same-kind sdfile molfile e = absurd (omega arith)
+  same-kind sdfile sdfile e = refl
+
+  rows-are : (g : FileKind) → kindNumber f ≡ kindNumber g → Roomy ta tb → RowsLeft ta ta′ tb tb′ (outcomeOf g s)
+  rows-are g e y = subst (λ (k : FileKind). RowsLeft ta ta′ tb tb′ (outcomeOf k s)) (same-kind f g e) (p .rows y)
+
+  numbered : (g : FileKind) → readAs g (length ta) (length tb) s ≡ readOf (kindNumber g) (length ta) (length tb) s
+  unfolding readOf
+  numbered molfile = refl
+  numbered sdfile = refl
+
+  pub rows-readable : Readable s ta′ tb′ got
+  rows-readable = readable (kindNumber f) s ta tb ta′ tb′ rows-are got (er ∙ numbered f)
+
+  pub rows-copied : (r₀ : Bytes) (c : Copied) (r : Bytes) → PutGot s ta′ tb′ got r₀ c r → RowsCopied f s ta tb r₀ c ta′ tb′ r
+  rows-copied r₀ c r q =
+      let d = copied (kindNumber f) s ta tb ta′ tb′ rows-are got (er ∙ numbered f) r₀ c r q in
+      record { answer = d .0; room = d .1; tables = p }

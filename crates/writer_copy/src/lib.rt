@@ -3,9 +3,10 @@ use reader_record::RecordRead;
 use rules::LIMIT;
 use writer_record::Written;
 ghost use mathlib.Core.Path.{_≡_};
+ghost use Rattle.reader_walk.specs.Stands.{kindOf};
 ghost use Rattle.writer_copy.specs.Most.{surely};
-ghost use Rattle.writer_copy.specs.Copying.{Sound, PutRead};
-ghost use Rattle.writer_copy.specs.Promise.{Promise};
+ghost use Rattle.writer_copy.specs.Copying.{Sound, PutRead, Readable, PutGot};
+ghost use Rattle.writer_copy.specs.Promise.{Promise, RowsCopied};
 
 // What is answered: the bytes and lines that the record takes and the length of its text, or the first refusal.
 pub enum Copied {
@@ -109,18 +110,12 @@ fn put_read(
     )
 }
 
-// The record at the front of a text, in its canonical form at the front of the room: kind 0 is a molfile, kind 1 an SDfile. The tables are left as
-// `read_record` leaves them; after a refusal nothing is written.
-pub fn copy_record(
-    kind: u8,
-    s: &[u8],
-    atoms: &mut [i32],
-    bonds: &mut [i32],
-    room: &mut [u8],
-) -> Copied
-    ensures { λ r. ⌜ Promise kind (now (s .entry)) (now (atoms .entry)) (now (bonds .entry)) (now (room .entry)) r (now (atoms .exit)) (now (bonds .exit)) (now (room .exit)) ⌝ }
+// What was read, in its canonical form at the front of the room; after a refusal nothing is written.
+fn put_got(got: RecordRead, s: &[u8], atoms: &[i32], bonds: &[i32], room: &mut [u8]) -> Copied
+    requires { ⌜ Readable (now s) (now atoms) (now bonds) got ⌝ }
+    ensures { λ r. ⌜ PutGot (now (s .entry)) (now (atoms .entry)) (now (bonds .entry)) got (now (room .entry)) r (now (room .exit)) ⌝ }
 {
-    match reader_record::read_record(kind, s, atoms, bonds) {
+    match got {
         RecordRead::Read {
             n,
             m,
@@ -144,4 +139,33 @@ pub fn copy_record(
         ),
         RecordRead::Refused { no, line, column } => Copied::Refused { no, line, column },
     }
+}
+
+// The record at the front of a text, in its canonical form at the front of the room: kind 0 is a molfile, kind 1 an SDfile. The tables are left as
+// `read_record` leaves them; after a refusal nothing is written.
+pub fn copy_record(
+    kind: u8,
+    s: &[u8],
+    atoms: &mut [i32],
+    bonds: &mut [i32],
+    room: &mut [u8],
+) -> Copied
+    ensures { λ r. ⌜ Promise kind (now (s .entry)) (now (atoms .entry)) (now (bonds .entry)) (now (room .entry)) r (now (atoms .exit)) (now (bonds .exit)) (now (room .exit)) ⌝ }
+{
+    let got = reader_record::read_record(kind, s, atoms, bonds);
+    put_got(got, s, atoms, bonds, room)
+}
+
+// The same for callers that do not look at the tables afterwards: these are left as `read_rows` leaves them.
+pub fn copy_rows(
+    sd: bool,
+    s: &[u8],
+    atoms: &mut [i32],
+    bonds: &mut [i32],
+    room: &mut [u8],
+) -> Copied
+    ensures { λ r. ⌜ RowsCopied (kindOf sd) (now (s .entry)) (now (atoms .entry)) (now (bonds .entry)) (now (room .entry)) r (now (atoms .exit)) (now (bonds .exit)) (now (room .exit)) ⌝ }
+{
+    let got = reader_record::read_rows(sd, s, atoms, bonds);
+    put_got(got, s, atoms, bonds, room)
 }

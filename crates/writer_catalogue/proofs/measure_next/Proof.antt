@@ -5,8 +5,8 @@ use Rattle.writer_catalogue.specs.Sizes.{next-headers, next-items, next-
 use Rattle.writer_catalogue.proofs.measure_next.Statement.{statement}
 use Rattle.writer_catalogue.proofs.measure_next.Tie as tie
 
-read-record-requires : tie.Need-read-record-requires
-read-record-requires c κs = search needs
+read-rows-requires : tie.Need-read-rows-requires
+read-rows-requires c κs = search needs
 
 enum-known-n : tie.Need-enum-known-n
 enum-known-n c = search needs
@@ -57,7 +57,7 @@ pub measure-next-spec : {M : Type 1} → statement M
 measure-next-spec =
     tie.close
     (tie.spec
-    read-record-requires
+    read-rows-requires
     enum-known-n
     sub-measure-record
     part-measure-record-start

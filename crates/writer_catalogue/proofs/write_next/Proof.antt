@@ -4,8 +4,8 @@ use Rattle.writer_catalogue.specs.Writing.{wrote-headers, wrote-items, w
 use Rattle.writer_catalogue.proofs.write_next.Statement.{statement}
 use Rattle.writer_catalogue.proofs.write_next.Tie as tie
 
-read-record-requires : tie.Need-read-record-requires
-read-record-requires c κs = search needs
+read-rows-requires : tie.Need-read-rows-requires
+read-rows-requires c κs = search needs
 
 enum-known-n : tie.Need-enum-known-n
 enum-known-n c = search needs
@@ -59,7 +59,7 @@ pub write-next-spec : {M : Type 1} → statement M
 write-next-spec =
     tie.close
     (tie.spec
-    read-record-requires
+    read-rows-requires
     enum-known-n
     sub-put-record
     part-put-record-start
