@@ -13,10 +13,9 @@ use Rattle.rules.specs.Canon.{ItemPart}
 use Rattle.reader_tables.specs.Row.{flat}
 use Rattle.judge_file.specs.Place.{FileKind, molfile, sdfile}
 use Rattle.judge_refusals.specs.NoRecord.{NoRecord}
-use Rattle.reader_walk.specs.Outcome.{outcomeOf}
 use Rattle.reader_walk.specs.Promise.{RefusedAt}
 use Rattle.reader_record.specs.declared.RecordRead.{RecordRead}
-use Rattle.reader_record.specs.Read.{rowsIn, RowsLeft}
+use Rattle.reader_record.specs.Read.{rowsIn}
 use Rattle.reader_record.specs.Stretch.{Stretch}
 
 -- ---- What an answer says
@@ -96,10 +95,3 @@ pub record ReadPromise (kind : ℕ) (s : Bytes) (ta tb : List ℤ) (r : RecordRe
   pub other-kind : 2 ≤ kind → Untouched 1 ta tb (numbersOf r) ta′ tb′
   pub no-room : kind ≤ 1 → ¬ Roomy ta tb → Untouched 2 ta tb (numbersOf r) ta′ tb′
   pub reads : (k : FileKind) → kind ≡ kindNumber k → Roomy ta tb → Reads k s ta tb (numbersOf r) ta′ tb′
-
--- ---- Rows alone
-
--- a reading that clears nothing: tables without room are as they were; with room they begin with the rows of the record, and past the limit they are as they were
-pub record RowsPromise (kind : FileKind) (s : Bytes) (ta tb ta′ tb′ : List ℤ) : Type 0 where
-  pub no-room : ¬ Roomy ta tb → (ta′ ≡ ta) × (tb′ ≡ tb)
-  pub rows : Roomy ta tb → RowsLeft ta ta′ tb tb′ (outcomeOf kind s)

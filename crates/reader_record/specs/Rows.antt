@@ -25,7 +25,7 @@ use Rattle.reader_line.specs.Took.{countsBack}
 use Rattle.reader_walk.specs.Stands.{kindOf}
 use Rattle.reader_walk.specs.Walked.{walkedBy, walkOf, HeldBy, Held, Beside, Left}
 use Rattle.reader_record.specs.declared.RecordRead.{RecordRead}
-use Rattle.reader_record.specs.Promise.{Begins, Roomy, RowsPromise}
+use Rattle.reader_record.specs.Promise.{Begins, Roomy}
 use Rattle.reader_record.specs.Told.{outcome-begins}
 use Rattle.reader_record.specs.Read.{zeroed, rowsIn, answered, atomRows, bondRowsOf, atomsBy, bondsBy, RowsLeft, atomsRead, bondsRead, Clearing}
 
@@ -162,6 +162,11 @@ module _ (sd : Bool) (s : Bytes) (ta₀ tb₀ ta tb : List ℤ) (t : List ℕ) (
 pub ruleset walked-laws = (walked-few, walked-room, walked-kept, whole-answer, whole-rows, refused-answer, refused-left)
 
 -- ---- Tables without room, and with
+
+-- a reading that clears nothing: tables without room are as they were; with room they begin with the rows of the record, and past the limit they are as they were
+pub record RowsPromise (kind : FileKind) (s : Bytes) (ta tb ta′ tb′ : List ℤ) : Type 0 where
+  pub no-room : ¬ Roomy ta tb → (ta′ ≡ ta) × (tb′ ≡ tb)
+  pub rows : Roomy ta tb → RowsLeft ta ta′ tb tb′ (outcomeOf kind s)
 
 module _ (kind : FileKind) (s : Bytes) (ta tb : List ℤ) where
   pub rows-short-atoms : length ta < atomPlaces → RowsPromise kind s ta tb ta tb

@@ -12,7 +12,7 @@ use Rattle.reader_walk.specs.Walked.{walkOf, Beside}
 use Rattle.reader_record.specs.declared.RecordRead.{RecordRead}
 use Rattle.reader_record.specs.Read.{answered, readAs, RowsLeft}
 use Rattle.reader_record.specs.Reading.{enough}
-use Rattle.reader_record.specs.Promise.{RowsPromise}
+use Rattle.reader_record.specs.Rows.{RowsPromise}
 use Rattle.writer_copy.specs.Bridge as B
 use Rattle.writer_copy.specs.Bridge.{Front, walked-refused}
 

@@ -25,7 +25,7 @@ use Rattle.judge_parts.specs.Written.{textOf, writtenHeaders, writtenItems, hea
 use Rattle.judge_parts.specs.PartAgree.{good-headers, good-items}
 use Rattle.reader_record.specs.declared.RecordRead.{RecordRead}
 use Rattle.reader_record.specs.Read.{readAs}
-use Rattle.reader_record.specs.Promise.{RowsPromise}
+use Rattle.reader_record.specs.Rows.{RowsPromise}
 use Rattle.writer_record.specs.declared.Written.{Written}
 use Rattle.writer_record.specs.Write.{canonText}
 use Rattle.writer_record.specs.Measure.{sized, afterHeaders, text-length}

@@ -20,7 +20,8 @@ use Rattle.judge_parts.specs.Part.{good}
 use Rattle.judge_parts.specs.Written.{writtenHeaders, writtenItems}
 use Rattle.reader_record.specs.declared.RecordRead.{RecordRead}
 use Rattle.reader_record.specs.Read.{answered, readAs, readOf, atomsAfter, bondsAfter, RowsLeft}
-use Rattle.reader_record.specs.Promise.{Roomy, kindNumber, RowsPromise}
+use Rattle.reader_record.specs.Promise.{Roomy, kindNumber}
+use Rattle.reader_record.specs.Rows.{RowsPromise}
 use Rattle.reader_record.specs.Promised.{after-left}
 use Rattle.writer_tables.specs.Tables.{writableTables}
 use Rattle.writer_record.specs.declared.Written.{Written}
@@ -31,7 +32,7 @@ use Rattle.writer_record.specs.Promise as WP
 use Rattle.writer_record.specs.Promise.{Accepted, record-agrees, promise-done, promise-refused, accepted-ready, accepted-laid}
 use Rattle.writer_copy.specs.declared.Copied.{Copied}
 use Rattle.writer_copy.specs.Copy.{textOf, fitting, answerBy, roomBy, copyOf, roomAfter}
-use Rattle.writer_copy.specs.Promise.{Promise, RowsCopied, Seen, seen, promise}
+use Rattle.writer_copy.specs.Promise.{Promise, Seen, seen, promise}
 use Rattle.writer_copy.specs.Most.{copy-most, surely, surely-enough}
 use Rattle.writer_copy.specs.Bridge.{walked-refused, givenOf, Front, front}
 
@@ -224,7 +225,12 @@ module _ (kind : ℕ) (s : Bytes) (ta tb ta′ tb′ : List ℤ) (got : RecordRe
       let d = copied kind s ta tb ta′ tb′ rows-cleared got er r₀ c r p in
       promise kind s ta tb r₀ c ta′ tb′ r (d .0) (d .1) ea eb
 
--- they are not
+-- a copy that clears nothing: answer and room are the same, and the tables begin with the rows that were read
+pub record RowsCopied (f : FileKind) (s : Bytes) (ta₀ tb₀ : List ℤ) (r₀ : Bytes) (a : Copied) (ta tb : List ℤ) (r : Bytes) : Type 0 where
+  pub answer : a ≡ copyOf (kindNumber f) (length ta₀) (length tb₀) s (length r₀)
+  pub room : r ≡ roomAfter (kindNumber f) (length ta₀) (length tb₀) s r₀
+  pub tables : RowsPromise f s ta₀ tb₀ ta tb
+
 module _ (f : FileKind) (s : Bytes) (ta tb ta′ tb′ : List ℤ) (got : RecordRead) (er : got ≡ readAs f (length ta) (length tb) s) (p : RowsPromise f s ta tb ta′ tb′) where
   same-kind : (g h : FileKind) → kindNumber g ≡ kindNumber h → g ≡ h
   same-kind molfile molfile e = refl

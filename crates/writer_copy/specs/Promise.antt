@@ -23,7 +23,7 @@ use Rattle.reader_walk.specs.Walked.{walkedBy, walkOf}
 use Rattle.reader_record.specs.declared.RecordRead.{RecordRead}
 use Rattle.reader_record.specs.Read.{answered, readAs, readOf, atomsAfter, bondsAfter}
 use Rattle.reader_record.specs.Promise as R
-use Rattle.reader_record.specs.Promise.{Reply, Begins, Told, Roomy, kindNumber, ReadPromise, RowsPromise}
+use Rattle.reader_record.specs.Promise.{Reply, Begins, Told, Roomy, kindNumber, ReadPromise}
 use Rattle.reader_record.specs.Promised as P
 use Rattle.reader_record.specs.Told.{linesOf, replyOf, told-reply, begins-told, begins-outcome, whole-lines, outcome-begins, outcome-refused}
 use Rattle.judge_parts.specs.Part.{PartVerdict, good}
@@ -72,12 +72,6 @@ pub record Promise (kind : ℕ) (s : Bytes) (ta₀ tb₀ : List ℤ) (r₀ : Byt
   pub accepted : (t j l : ℕ) → (numbersOf a ≡ good (record { taken = t; lines = j; text = l })) ↔ Copies kind s ta₀ tb₀ (length r₀) t j l
   pub written : (t j l : ℕ) (c : Copies kind s ta₀ tb₀ (length r₀) t j l) → r ≡ textOf (c .x) ++ drop l r₀
   pub refused : (e i c : ℕ) → numbersOf a ≡ PartVerdict.refused e i c → (r ≡ r₀) × Refusal kind s ta₀ tb₀ (length r₀) e i c
-
--- a copy that clears nothing: answer and room are the same, and the tables begin with the rows that were read
-pub record RowsCopied (f : FileKind) (s : Bytes) (ta₀ tb₀ : List ℤ) (r₀ : Bytes) (a : Copied) (ta tb : List ℤ) (r : Bytes) : Type 0 where
-  pub answer : a ≡ copyOf (kindNumber f) (length ta₀) (length tb₀) s (length r₀)
-  pub room : r ≡ roomAfter (kindNumber f) (length ta₀) (length tb₀) s r₀
-  pub tables : RowsPromise f s ta₀ tb₀ ta tb
 
 -- no two answers, and no two memories
 pub one-promise : {kind : ℕ} {s : Bytes} {ta₀ tb₀ : List ℤ} {r₀ : Bytes} {a b : Copied} {ta tb ua ub : List ℤ} {r q : Bytes} →

@@ -5,8 +5,8 @@ use writer_record::Written;
 ghost use mathlib.Core.Path.{_≡_};
 ghost use Rattle.reader_walk.specs.Stands.{kindOf};
 ghost use Rattle.writer_copy.specs.Most.{surely};
-ghost use Rattle.writer_copy.specs.Copying.{Sound, PutRead, Readable, PutGot};
-ghost use Rattle.writer_copy.specs.Promise.{Promise, RowsCopied};
+ghost use Rattle.writer_copy.specs.Copying.{Sound, PutRead, Readable, PutGot, RowsCopied};
+ghost use Rattle.writer_copy.specs.Promise.{Promise};
 
 // What is answered: the bytes and lines that the record takes and the length of its text, or the first refusal.
 pub enum Copied {
