@@ -1,4 +1,8 @@
 // One record of the second reading, written.
+ghost use mathlib.Core.Path.{_≡_};
+ghost use Prim.Native.Nat.{suc, _*_};
+ghost use lib.ListN.{length};
+ghost use Rattle.rules.specs.Record.{limit};
 use crate::Pass;
 use crate::Stepped;
 use crate::Task;
@@ -11,6 +15,7 @@ use program_json_rows::BONDS;
 use program_verdict::Verdict;
 use reader_item::Found;
 use reader_record::RecordRead;
+use rules::LISTED;
 use text::LineAt;
 use writer_copy::Copied;
 
@@ -185,9 +190,19 @@ fn first_end(s: &[u8]) -> Ends {
 }
 
 // The item of a record that is wholly there: it is judged again, and sought, in one walk.
-fn put_found(pass: Pass, item: &[u8], record: &[u8], lines: usize, room: &mut [u8]) -> Stepped {
+fn put_found(
+    pass: Pass,
+    item: &[u8],
+    record: &[u8],
+    lines: usize,
+    room: &mut [u8],
+    listed: &mut [u32; LISTED],
+) -> Stepped
+    requires { ⌜ length (now listed) ≡ 3 * suc limit ⌝ }
+    ensures { λ r. ⌜ length (now (listed .exit)) ≡ 3 * suc limit ⌝ }
+{
     let place = place_of(pass);
-    match reader_item::find_item(record, item) {
+    match reader_item::find_listed(record, item, listed) {
         Found::Item { from, to } => {
             let out = program_json::put_item(pass.out, room, place, record, from, to);
             behind(pass, record.len(), lines, out)
@@ -207,10 +222,26 @@ fn put_found(pass: Pass, item: &[u8], record: &[u8], lines: usize, room: &mut [u
     }
 }
 
-fn put_item(pass: Pass, item: &[u8], s: &[u8], room: &mut [u8]) -> Stepped {
+fn put_item(
+    pass: Pass,
+    item: &[u8],
+    s: &[u8],
+    room: &mut [u8],
+    listed: &mut [u32; LISTED],
+) -> Stepped
+    requires { ⌜ length (now listed) ≡ 3 * suc limit ⌝ }
+    ensures { λ r. ⌜ length (now (listed .exit)) ≡ 3 * suc limit ⌝ }
+{
     match first_end(s) {
         Ends::At { length, lines } => {
-            put_found(pass, item, program_io::front(s, length), lines, room)
+            put_found(
+                pass,
+                item,
+                program_io::front(s, length),
+                lines,
+                room,
+                listed,
+            )
         }
         Ends::Beyond => Stepped::Short,
     }
@@ -289,10 +320,14 @@ pub fn put_next(
     room: &mut [u8],
     atoms: &mut [i32; ATOMS],
     bonds: &mut [i32; BONDS],
-) -> Stepped {
+    listed: &mut [u32; LISTED],
+) -> Stepped
+    requires { ⌜ length (now listed) ≡ 3 * suc limit ⌝ }
+    ensures { λ r. ⌜ length (now (listed .exit)) ≡ 3 * suc limit ⌝ }
+{
     match next_of(pass, s.len()) {
         Next::Read => put_reading(pass, s, room, atoms, bonds),
-        Next::Fetch => put_item(pass, item, s, room),
+        Next::Fetch => put_item(pass, item, s, room, listed),
         Next::Copy => put_copy(pass, s, room, atoms, bonds),
         Next::Fill => Stepped::Short,
         Next::End => Stepped::Done,

@@ -139,6 +139,7 @@ fn find_with(
 ) -> Found
     requires { ⌜ (atomPlaces ≤ length (now atoms)) × (bondPlaces ≤ length (now bonds)) × (length (now listed) ≡ 3 * places) ⌝ }
     ensures { λ r. ⌜ numbersOf r ≡ foundOf (now (s .entry)) (now (name .entry)) ⌝ }
+    ensures { λ r. ⌜ length (now (listed .exit)) ≡ 3 * places ⌝ }
 {
     match reader_walk::walk_record(true, s, atoms, bonds, listed) {
         Walked::Whole {
@@ -153,14 +154,24 @@ fn find_with(
     }
 }
 
-// Where the value lines of the first item of a name stand in the record that the bytes begin with.
-pub fn find_item(s: &[u8], name: &[u8]) -> Found
+// Where the value lines of the first item of a name stand in the record that the bytes begin with, by a lent table of listed numbers: for callers that go
+// from record to record. Nobody reads the rows, so the compiler lays no tables for them.
+pub fn find_listed(s: &[u8], name: &[u8], listed: &mut [u32; LISTED]) -> Found
+    requires { ⌜ length (now listed) ≡ 3 * places ⌝ }
     ensures { λ r. ⌜ Promised (now (s .entry)) (now (name .entry)) (numbersOf r) ⌝ }
+    ensures { λ r. ⌜ length (now (listed .exit)) ≡ 3 * places ⌝ }
 {
     let mut atoms = [0i32; ATOMS];
     let mut bonds = [0i32; BONDS];
+    find_with(s, name, &mut atoms, &mut bonds, listed)
+}
+
+// The same with a table of its own.
+pub fn find_item(s: &[u8], name: &[u8]) -> Found
+    ensures { λ r. ⌜ Promised (now (s .entry)) (now (name .entry)) (numbersOf r) ⌝ }
+{
     let mut listed = [0u32; LISTED];
-    find_with(s, name, &mut atoms, &mut bonds, &mut listed)
+    find_listed(s, name, &mut listed)
 }
 
 // The stretch that a fetch hands back: the empty one at the start where it is refused.

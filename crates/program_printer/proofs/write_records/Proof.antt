@@ -1,14 +1,17 @@
+use Prim.Native.Nat.{suc, _*_}
 use mathlib.Core.Path.{_≡_}
 use lib.ListN.{length}
 use borrow.Author.Needs.{needs}
+use Rattle.rules.specs.Record.{limit}
 use Rattle.program_printer.proofs.write_records.Statement.{statement}
 use Rattle.program_printer.proofs.write_records.Tie as tie
 
 abbrev Inv-loop : tie.InvT-loop
-Inv-loop item fd buf₀ room₀ records atoms₀ bonds₀ pass₀ turns₀ buf room atoms bonds pass turns = (length buf ≡ length buf₀) × (length room ≡ length room₀)
+Inv-loop item fd buf₀ room₀ records atoms₀ bonds₀ listed₀ pass₀ turns₀ buf room atoms bonds listed pass turns =
+    (length buf ≡ length buf₀) × (length room ≡ length room₀) × (length listed ≡ 3 * suc limit)
 
 abbrev μ-loop : tie.MeasureT-loop
-μ-loop item fd buf₀ room₀ records atoms₀ bonds₀ pass₀ turns₀ buf room atoms bonds pass turns = turns
+μ-loop item fd buf₀ room₀ records atoms₀ bonds₀ listed₀ pass₀ turns₀ buf room atoms bonds listed pass turns = turns
 
 begin-requires : tie.Need-begin-requires Inv-loop μ-loop
 begin-requires c κs = search needs
