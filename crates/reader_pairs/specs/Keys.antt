@@ -13,6 +13,7 @@ use Rattle.rules.specs.Forms.{Bond}
 use Rattle.rules.specs.Record.{SamePair, along, against}
 use Rattle.judge_pairs.specs.Taken.{samePair, pairTaken}
 use Rattle.judge_pairs.specs.Agree.{true-false, same-sound, same-complete}
+use Rattle.judge_pairs.specs.Compared.{FirstSame}
 use Rattle.judge_line.specs.Field.{elem}
 
 -- the lower number first
@@ -80,6 +81,25 @@ unfolding elem pairTaken AllSmall
 taken-keys b [] hb hs = refl
 taken-keys b (c ∷ bs) hb hs = rw (key-agrees b c hb (hs .0), taken-keys b bs hb (hs .1))
 
+-- ---- Keys that are not this one
+
+-- none of the keys from place i to before place j is this one
+pub record Missed (keys : List ℕ) (key i j : ℕ) : Type 0 where
+  pub none : (k : ℕ) → i ≤ k → k < j → getD keys k 0 ≡ key → ⊥
+
+pub missed-start : (keys : List ℕ) (key i : ℕ) → Missed keys key i (i + 0)
+missed-start keys key i = record { none = λ k low high e. omega arith }
+
+missed-more : (keys : List ℕ) (key i j : ℕ) → Missed keys key i j → (getD keys j 0 ≡ key → ⊥) → Missed keys key i (j + 1)
+missed-more keys key i j g ne = record { none = λ k low high e. go k low high e (eqb k j) refl }
+  where
+    go : (k : ℕ) → i ≤ k → k < j + 1 → getD keys k 0 ≡ key → (t : Bool) → eqb k j ≡ t → ⊥
+    go k low high e true q = ne (subst (λ (x : ℕ). getD keys x 0 ≡ key) (eqb-true k j q) e)
+    go k low high e false q = let d = eqb-false k j q in g .none k low (omega arith) e
+
+pub missed-next : (keys : List ℕ) (key i n : ℕ) → Missed keys key i (i + n) → (getD keys (i + n) 0 ≡ key → ⊥) → Missed keys key i (i + (n + 1))
+missed-next keys key i n g ne = let e : i + n + 1 ≡ i + (n + 1) = omega arith in subst (Missed keys key i) e (missed-more keys key i (i + n) g ne)
+
 -- ---- The search, in order from the first
 
 -- the key is not among the first j keys
@@ -87,9 +107,10 @@ pub record Searching (keys : List ℕ) (key count j : ℕ) : Type 0 where
   pub within : j ≤ count
   pub room : count ≤ length keys
   pub same : elem key (take count keys) ≡ elem key (drop j (take count keys))
+  pub missed : Missed keys key 0 j
 
 pub searching-start : (keys : List ℕ) (key count : ℕ) → count ≤ length keys → Searching keys key count 0
-searching-start keys key count h = record { within = omega arith; room = h; same = refl }
+searching-start keys key count h = record { within = omega arith; room = h; same = refl; missed = missed-start keys key 0 }
 
 module _ (keys : List ℕ) (key count j : ℕ) (g : Searching keys key count j) where
   here : j < count → drop j (take count keys) ≡ getD keys j 0 ∷ drop (j + 1) (take count keys)
@@ -100,7 +121,12 @@ module _ (keys : List ℕ) (key count j : ℕ) (g : Searching keys key count j) 
   pub searching-next : j < count → (getD keys j 0 ≡ key → ⊥) → Searching keys key count (j + 1)
   unfolding elem
   searching-next h ne =
-      record { within = omega arith; room = g .room; same = g .same ∙ rw (here h, ne-eqb key (getD keys j 0) (λ e. ne (sym e))) }
+      record {
+        within = omega arith;
+        room = g .room;
+        same = g .same ∙ rw (here h, ne-eqb key (getD keys j 0) (λ e. ne (sym e)));
+        missed = missed-more keys key 0 j (g .missed) ne;
+      }
 
   pub searching-found : j < count → getD keys j 0 ≡ key → elem key (take count keys) ≡ true
   unfolding elem
@@ -111,20 +137,6 @@ module _ (keys : List ℕ) (key count j : ℕ) (g : Searching keys key count j) 
   searching-end h = g .same ∙ rw (drop-of-length-le (take count keys) {i = j} (omega (arith, length-take-le count keys (g .room))))
 
 -- ---- Whole blocks without the key
-
--- none of the keys from place i to before place j is this one
-pub record Missed (keys : List ℕ) (key i j : ℕ) : Type 0 where
-  pub none : (k : ℕ) → i ≤ k → k < j → getD keys k 0 ≡ key → ⊥
-
-pub missed-start : (keys : List ℕ) (key i : ℕ) → Missed keys key i (i + 0)
-missed-start keys key i = record { none = λ k low high e. omega arith }
-
-pub missed-next : (keys : List ℕ) (key i n : ℕ) → Missed keys key i (i + n) → (getD keys (i + n) 0 ≡ key → ⊥) → Missed keys key i (i + (n + 1))
-missed-next keys key i n g ne = record { none = λ k low high e. go k low high e (eqb k (i + n)) refl }
-  where
-    go : (k : ℕ) → i ≤ k → k < i + (n + 1) → getD keys k 0 ≡ key → (t : Bool) → eqb k (i + n) ≡ t → ⊥
-    go k low high e true q = ne (subst (λ (j : ℕ). getD keys j 0 ≡ key) (eqb-true k (i + n) q) e)
-    go k low high e false q = let d = eqb-false k (i + n) q in g .none k low (omega arith) e
 
 pub missed-all : (keys : List ℕ) (key i n : ℕ) → Missed keys key i (i + n) → n ≤ 8 → 8 ≤ n → Missed keys key i (i + 8)
 missed-all keys key i n g h l = let e : n ≡ 8 = omega arith in subst (λ (j : ℕ). Missed keys key i (i + j)) e g
@@ -139,5 +151,26 @@ searching-block keys key count i (suc n) g m h =
 
 pub searching-on : (keys : List ℕ) (key count i : ℕ) → Searching keys key count i → Missed keys key i (i + 8) → 8 ≤ count - i → Searching keys key count (i + 8)
 searching-on keys key count i g m h = searching-block keys key count i 8 g m (omega (arith, g .within))
+
+-- ---- The first key that is this one is that of the first bond of the pair
+
+key-first : (b : Bond) (bs : List Bond) (j : ℕ) → SmallEnds b → AllSmall bs → j < length bs → getD (keysOf bs) j 0 ≡ keyOf b →
+    ((k : ℕ) → k < j → getD (keysOf bs) k 0 ≡ keyOf b → ⊥) → FirstSame b bs (j + 1)
+unfolding AllSmall
+key-first b [] j hb hs l e none = absurd (omega arith)
+key-first b (c ∷ bs) zero hb hs l e none = FirstSame.here (key-sound b c hb (hs .0) (sym e))
+key-first b (c ∷ bs) (suc j) hb hs l e none =
+    let one : suc (j + 1) ≡ suc j + 1 = omega arith in
+    subst (FirstSame b (c ∷ bs)) one
+    (FirstSame.later (λ s. none 0 (omega arith) (sym (key-complete b c s)))
+    (key-first b bs j hb (hs .1) (omega arith) e (λ k h. none (suc k) (omega arith))))
+
+pub searching-first : (keys : List ℕ) (b : Bond) (bs : List Bond) (count j : ℕ) → Searching keys (keyOf b) count j → SmallEnds b → AllSmall bs → count ≡ length bs →
+    take (length bs) keys ≡ keysOf bs → j < count → getD keys j 0 ≡ keyOf b → FirstSame b bs (j + 1)
+searching-first keys b bs count j g hb hs n same l e =
+    key-first b bs j hb hs (omega arith) (read j (omega arith) ∙ e) (λ k h q. g .missed .none k (omega arith) h (sym (read k (omega arith)) ∙ q))
+  where
+    read : (k : ℕ) → k < length bs → getD (keysOf bs) k 0 ≡ getD keys k 0
+    read k h = ap (λ (ks : List ℕ). getD ks k 0) (sym same) ∙ getD-take (length bs) keys k 0 h
 
 pub ruleset searching-laws = (missed-start, missed-next, searching-start, searching-on)
