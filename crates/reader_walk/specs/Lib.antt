@@ -1,5 +1,6 @@
 pub mod Outcome
 pub mod Stands
+pub mod Asked
 pub mod Follow
 pub mod Walked
 pub mod Walking
