@@ -10,6 +10,7 @@ use lib.IntN.{ℤ}
 use Rattle.text.specs.Text.{Bytes}
 use Rattle.text.specs.Find.{lineAt}
 use Rattle.text.specs.declared.LineAt.{LineAt}
+use Rattle.rules.specs.Record.{limit}
 use Rattle.rules.specs.Meaning.{bondNumbers}
 use Rattle.rules.specs.Record.{limit, atomPlaces, bondPlaces}
 use Rattle.judge_line.specs.Field.{elem}
@@ -88,6 +89,9 @@ module _ (sd : Bool) (s : Bytes) (r : Reader) (m : Notes) (n i : ℕ) (t keys : 
         let a = g .bond in
         searching-first keys (bondIs b) (a .bs) count j (subst (λ (k : ℕ). Searching keys k count j) (g .key-of) (g .searching)) (a .ends) (a .small)
         (g .before ∙ a .count) (a .bond-keys) h (q ∙ g .key-of)
+
+    pub repeat-fits : (1 ≤ j + 1) × (j + 1 ≤ limit) × (1 ≤ count + 1) × (count + 1 ≤ limit)
+    repeat-fits = (omega arith, omega (arith, g .before, g .bond .few), omega arith, omega (arith, g .before, g .bond .few))
 
     -- the repeat is left with: j + 1, and this bond, which is bond count + 1
     pub found-compared : (v : ℕ) → v ≡ triangle (count + 1 - 1) + (j + 1) → v ≡ comparedOf (kindOf sd) s

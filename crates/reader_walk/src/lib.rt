@@ -76,7 +76,7 @@ fn stopped(notes: Notes, no: u8, line: usize, column: usize) -> Counted
 
 // A bond that repeats a pair: all pairs of the bonds before it, and those of its own up to the earlier bond.
 fn repeated(repeat: Repeat) -> Counted
-    requires { ⌜ (1 ≤ repeat .later) × (repeat .later ≤ limit) × (repeat .earlier ≤ limit) ⌝ }
+    requires { ⌜ (1 ≤ repeat .earlier) × (repeat .earlier ≤ limit) × (1 ≤ repeat .later) × (repeat .later ≤ limit) ⌝ }
     ensures { λ r. ⌜ r .walked ≡ Walked.Refused 11 (repeat .line) 1 ⌝ }
     ensures { λ r. ⌜ r .compared ≡ triangle (repeat .later - 1) + repeat .earlier ⌝ }
 {
