@@ -10,7 +10,6 @@ use lib.IntN.{ℤ}
 use Rattle.text.specs.Text.{Bytes}
 use Rattle.text.specs.Find.{lineAt}
 use Rattle.text.specs.declared.LineAt.{LineAt}
-use Rattle.rules.specs.Record.{limit}
 use Rattle.rules.specs.Meaning.{bondNumbers}
 use Rattle.rules.specs.Record.{limit, atomPlaces, bondPlaces}
 use Rattle.judge_line.specs.Field.{elem}
