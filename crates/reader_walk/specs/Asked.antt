@@ -1,5 +1,5 @@
 -- The bonds of a record that have come to the comparison of pairs, by the judge's turns, and how many comparisons they call for.
-use Prim.Native.Nat.{ℕ, zero, suc, _+_}
+use Prim.Native.Nat.{ℕ, zero, suc, _+_, _-_, _*_}
 use native.Mathlib.Omega.{arith}
 use mathlib.Core.Path.{_≡_, refl, sym, ap, _∙_, subst}
 use mathlib.Core.List.{List, [], _∷_, _++_}
@@ -19,7 +19,7 @@ use Rattle.judge_line.specs.Field.{within, noneFound}
 use Rattle.judge_line.specs.Judge.{bondOf}
 use Rattle.judge_line.specs.Agree.{within-got, within-is, bond-agrees}
 use Rattle.judge_pairs.specs.Append.{pair-once}
-use Rattle.judge_pairs.specs.Compared.{Asked, its-own, not-its-own, comparedIn}
+use Rattle.judge_pairs.specs.Compared.{Asked, its-own, not-its-own, FirstSame, comparedIn, compared-apart, compared-repeat}
 use Rattle.judge_file.specs.Place.{FileKind, molfile, sdfile, toAtoms, toBonds, afterEnd, turnOf}
 use Rattle.judge_file.specs.Place.{Place, first, second, third, counts, atoms, bonds, properties, over, items, values, Turn, next, done}
 use Rattle.judge_file.specs.Takes.{Takes, turn-takes}
@@ -244,6 +244,68 @@ came-one kind ls i cs ds g h =
 
     same : (p q : Place) (t u : List Line) → p ≡ q → t ≡ u → AskedOn p t cs → AskedOn q u ds → cs ≡ ds
     same p q t u ep eu a b = on q u (subst (λ (x : Place). AskedOn x u cs) ep (subst (λ (y : List Line). AskedOn p y cs) eu a)) b
+
+-- ---- The closed forms where a record is refused
+
+-- the next line is a bond line that is good but for its pair, and b is its bond
+abbrev pub Own : Place → List Line → Bond → Type 0
+Own p [] b = ⊥
+Own first (l ∷ ls) b = ⊥
+Own (second h₁) (l ∷ ls) b = ⊥
+Own (third h₁ h₂) (l ∷ ls) b = ⊥
+Own (counts hs) (l ∷ ls) b = ⊥
+Own (atoms hs c k xs) (l ∷ ls) b = ⊥
+Own (bonds hs c xs k bs) (l ∷ ls) b = BondLine (c .atoms) l b
+Own (properties hs c xs bs ps) (l ∷ ls) b = ⊥
+Own (over m) (l ∷ ls) b = ⊥
+Own (items m is) (l ∷ ls) b = ⊥
+Own (values m is name vs) (l ∷ ls) b = ⊥
+
+on-other : (p : Place) (t : List Line) (cs : List Bond) → AskedOn p t cs → ((b : Bond) → ¬ Own p t b) → cs ≡ bondsIn p
+on-other p [] cs h n = h
+on-other first (l ∷ t) cs h n = h
+on-other (second h₁) (l ∷ t) cs h n = h
+on-other (third h₁ h₂) (l ∷ t) cs h n = h
+on-other (counts hs) (l ∷ t) cs h n = h
+on-other (atoms hs c k xs) (l ∷ t) cs h n = h
+on-other (bonds hs c xs k bs) (l ∷ t) cs h n = go h
+  where
+    go : {ds : List Bond} → Asked (c .atoms) bs l ds → ds ≡ bs
+    go (its-own {b = b} g) = absurd (n b g)
+    go (not-its-own g) = refl
+on-other (properties hs c xs bs ps) (l ∷ t) cs h n = h
+on-other (over m) (l ∷ t) cs h n = h
+on-other (items m is) (l ∷ t) cs h n = h
+on-other (values m is name vs) (l ∷ t) cs h n = h
+
+on-own : (p : Place) (t : List Line) (cs : List Bond) (b : Bond) → AskedOn p t cs → Own p t b → cs ≡ bondsIn p ++ (b ∷ [])
+on-own p [] cs b h o = absurd o
+on-own first (l ∷ t) cs b h o = absurd o
+on-own (second h₁) (l ∷ t) cs b h o = absurd o
+on-own (third h₁ h₂) (l ∷ t) cs b h o = absurd o
+on-own (counts hs) (l ∷ t) cs b h o = absurd o
+on-own (atoms hs c k xs) (l ∷ t) cs b h o = absurd o
+on-own (bonds hs c xs k bs) (l ∷ t) cs b h o =
+    at-one (bonds hs c xs k bs) l cs h ∙ sym (at-one (bonds hs c xs k bs) l (bs ++ (b ∷ [])) (its-own o))
+on-own (properties hs c xs bs ps) (l ∷ t) cs b h o = absurd o
+on-own (over m) (l ∷ t) cs b h o = absurd o
+on-own (items m is) (l ∷ t) cs b h o = absurd o
+on-own (values m is name vs) (l ∷ t) cs b h o = absurd o
+
+module _ (kind : FileKind) (ls : List Line) (i : ℕ) (cs : List Bond) (g : Came kind ls i cs) where
+  once : NoPairTwice (bondsIn (g .place))
+  unfolding NoPairTwice
+  once = leads-once kind (g .stands) tt
+
+  -- refused for another reason than its pair, or cut short, after k bonds: k(k-1)/2
+  pub came-other : ((b : Bond) → ¬ Own (g .place) (g .after) b) → (k : ℕ) → k ≡ length (bondsIn (g .place)) → 2 * comparedIn [] cs ≡ k * (k - 1)
+  came-other n k e = rw e (ap (λ (xs : List Bond). 2 * comparedIn [] xs) (on-other (g .place) (g .after) cs (g .asked) n) ∙ compared-apart (bondsIn (g .place)) once)
+
+  -- bond k repeats the pair of bond j first: (k-1)(k-2)/2 + j
+  pub came-repeat : (b : Bond) → Own (g .place) (g .after) b → (k j : ℕ) → k ≡ suc (length (bondsIn (g .place))) → FirstSame b (bondsIn (g .place)) j →
+      2 * comparedIn [] cs ≡ (k - 1) * (k - 2) + 2 * j
+  came-repeat b o k j e f =
+      ap (λ (xs : List Bond). 2 * comparedIn [] xs) (on-own (g .place) (g .after) cs b (g .asked) o) ∙ compared-repeat (bondsIn (g .place)) once b [] k j e f
 
 -- ---- The judge's outcome and its bonds
 

@@ -4,8 +4,8 @@ use borrow.Author.Needs.{needs}
 use Rattle.reader_record.proofs.read_front.Statement.{statement}
 use Rattle.reader_record.proofs.read_front.Tie as tie
 
-walk-record-requires : tie.Need-walk-record-requires
-walk-record-requires c κs = search needs
+walk-counted-requires : tie.Need-walk-counted-requires
+walk-counted-requires c κs = search needs
 
 enum-known-counts : tie.Need-enum-known-counts
 enum-known-counts c = search needs
@@ -23,7 +23,7 @@ same-length-2 : tie.Need-same-length-2
 same-length-2 c = search needs
 
 returns : tie.Need-returns
-returns c = search (needs, walked-laws)
+returns c = (search (needs, walked-laws), (search (needs, walked-laws), search (needs, walked-laws)))
 
 same-length-3 : tie.Need-same-length-3
 same-length-3 c = search needs
@@ -32,13 +32,13 @@ same-length-4 : tie.Need-same-length-4
 same-length-4 c = search needs
 
 returns-2 : tie.Need-returns-2
-returns-2 c = search (needs, walked-laws)
+returns-2 c = (search (needs, walked-laws), (search (needs, walked-laws), search (needs, walked-laws)))
 
 pub read-front-spec : {M : Type 1} → statement M
 read-front-spec =
     tie.close
     (tie.spec
-    walk-record-requires
+    walk-counted-requires
     enum-known-counts
     mean-requires
     enum-known-no
