@@ -31,4 +31,13 @@ returns-3 c = (search (needs, room-laws), (search (needs, count-room-laws), (sea
 
 pub read-as-spec : {M : Type 1} → statement M
 read-as-spec =
-    tie.close (tie.spec returns returns-2 read-cleared-requires same-length same-length-2 returns-3)
+    tie.close
+    (tie.spec
+    unread-requires
+    returns
+    unread-requires-2
+    returns-2
+    read-cleared-requires
+    same-length
+    same-length-2
+    returns-3)

@@ -7,14 +7,14 @@ use Rattle.reader_record.proofs.read_front.Tie as tie
 walk-counted-requires : tie.Need-walk-counted-requires
 walk-counted-requires c κs = search needs
 
-enum-known-counts : tie.Need-enum-known-counts
-enum-known-counts c = search needs
+enum-known-walked : tie.Need-enum-known-walked
+enum-known-walked c = search needs
 
 mean-requires : tie.Need-mean-requires
 mean-requires c κs = search (needs, walked-laws)
 
-enum-known-no : tie.Need-enum-known-no
-enum-known-no c = search needs
+enum-known-walked-2 : tie.Need-enum-known-walked-2
+enum-known-walked-2 c = search needs
 
 same-length : tie.Need-same-length
 same-length c = search needs
@@ -39,9 +39,9 @@ read-front-spec =
     tie.close
     (tie.spec
     walk-counted-requires
-    enum-known-counts
+    enum-known-walked
     mean-requires
-    enum-known-no
+    enum-known-walked-2
     same-length
     same-length-2
     returns
