@@ -82,14 +82,17 @@ void capellanote_check(capellanote_byte kind,
 /* One record. The text of an SDfile's record begins where the record begins, and what follows its $$$$ line is not looked at;
    a molfile's record is the whole text.
    Accepted: answer = { 0, atoms, bonds, chiral, bytes of the record, lines of the record,
-   end of the header lines, start of the items, end of the items }: header lines begin at 0, ends are just past the last byte.
+   end of the header lines, start of the items, end of the items, pairs compared }: header lines begin at 0, ends are just past the last byte.
    The tables hold the rows, and zeros up to CAPELLANOTE_LIMIT rows. Refused: answer[3] to answer[8] are 0; after 1 and 2 the tables are
-   as they were, after any other number their first CAPELLANOTE_LIMIT rows are zeros. Table memory past those is never written. */
+   as they were, after any other number their first CAPELLANOTE_LIMIT rows are zeros. Table memory past those is never written.
+   Pairs compared, answer[9], accepted or refused: how many pairs of bonds the rule against repeated pairs calls for, each bond beside those
+   before it, in order from the first. For m bonds m(m-1)/2; where bond k repeats bond j, and that is the first of its pair, (k-1)(k-2)/2 + j;
+   after any other refusal k(k-1)/2 with k the bond lines accepted before it; 0 after 1 and 2. */
 void capellanote_read(capellanote_byte kind,
                       const capellanote_byte *text, capellanote_size text_length,
                       capellanote_int *atoms, capellanote_size atoms_length,
                       capellanote_int *bonds, capellanote_size bonds_length,
-                      capellanote_size answer[9]);
+                      capellanote_size answer[10]);
 
 /* A file's records, one after the other. The cursor is three numbers, the bytes, lines and records of the file that come before it:
    all 0 at the file's start, and then those of the answer before.

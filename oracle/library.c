@@ -140,11 +140,12 @@ static void check_case(const size *n)
 /* KIND ATOM_ROOM BOND_ROOM SIZE */
 static void read_case(const size *n)
 {
-    size answer[9], a = 16 * n[1], b = 6 * n[2];
+    size answer[10], a = 16 * n[1], b = 6 * n[2];
     fresh_tables(a, b);
     capellanote_read(n[0], block(n[3]), n[3], atoms, a, bonds, b, answer);
     if (!refused(answer))
         printf("accepted %lu %lu %lu %lu 0 %lu %lu %lu", answer[1], answer[2], answer[3], answer[4], answer[6], answer[7], answer[8]);
+    printf(" compared %lu", answer[9]);
     print_tables(a, b);
 }
 

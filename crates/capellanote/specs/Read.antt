@@ -16,14 +16,15 @@ use Rattle.judge_refusals.specs.NoRecord.{NoRecord}
 use Rattle.reader_record.specs.declared.RecordRead.{RecordRead}
 use Rattle.reader_record.specs.Promise.{Begins, Roomy, Reads, Refusal, kindNumber, numbersOf, accepted, ReadPromise}
 use Rattle.reader_record.specs.Promise as R
+use Rattle.reader_record.specs.Comparing.{CountPromise}
 use Rattle.reader_record.specs.Told.{replyOf, begins-told}
 use Rattle.capellanote.specs.Answer.{number, byFirst, first-refused, zero-exactly}
 use Rattle.capellanote.specs.Check.{at-numbered}
 
--- 0, n, m, chiral, length, lines, end of the header lines, start and end of the items
-unfoldable pub readNumbers : RecordRead → List ℕ
-readNumbers (RecordRead.Read n m chiral length lines h a b) = 0 ∷ (n ∷ (m ∷ (chiral ∷ (length ∷ (lines ∷ (h ∷ (a ∷ (b ∷ []))))))))
-readNumbers (RecordRead.Refused e i column) = e ∷ (i ∷ (column ∷ (0 ∷ (0 ∷ (0 ∷ (0 ∷ (0 ∷ (0 ∷ []))))))))
+-- 0, n, m, chiral, length, lines, end of the header lines, start and end of the items; last, also after a refusal, the pairs compared
+unfoldable pub readNumbers : RecordRead → ℕ → List ℕ
+readNumbers (RecordRead.Read n m chiral length lines h a b) q = 0 ∷ (n ∷ (m ∷ (chiral ∷ (length ∷ (lines ∷ (h ∷ (a ∷ (b ∷ (q ∷ [])))))))))
+readNumbers (RecordRead.Refused e i column) q = e ∷ (i ∷ (column ∷ (0 ∷ (0 ∷ (0 ∷ (0 ∷ (0 ∷ (0 ∷ (q ∷ [])))))))))
 
 -- what an array tells
 abbrev pub recordTold : List ℕ → RecordRead
@@ -38,15 +39,15 @@ GoodRecord kind s ta tb = (k : FileKind) × (kind ≡ kindNumber k) × Roomy ta 
 
 -- ---- The array, of the answer
 
-module _ (x : RecordRead) where
+module _ (x : RecordRead) (q : ℕ) where
   pub read-accepted : (n m chiral length lines h a b : ℕ) → x ≡ RecordRead.Read n m chiral length lines h a b →
-      0 ∷ (n ∷ (m ∷ (chiral ∷ (length ∷ (lines ∷ (h ∷ (a ∷ (b ∷ [])))))))) ≡ readNumbers x
+      0 ∷ (n ∷ (m ∷ (chiral ∷ (length ∷ (lines ∷ (h ∷ (a ∷ (b ∷ (q ∷ []))))))))) ≡ readNumbers x q
   unfolding readNumbers
-  read-accepted n m chiral length lines h a b e = ap readNumbers (sym e)
+  read-accepted n m chiral length lines h a b e = ap (λ (y : RecordRead). readNumbers y q) (sym e)
 
-  pub read-refused : (e i column : ℕ) → x ≡ RecordRead.Refused e i column → e ∷ (i ∷ (column ∷ (0 ∷ (0 ∷ (0 ∷ (0 ∷ (0 ∷ (0 ∷ [])))))))) ≡ readNumbers x
+  pub read-refused : (e i column : ℕ) → x ≡ RecordRead.Refused e i column → e ∷ (i ∷ (column ∷ (0 ∷ (0 ∷ (0 ∷ (0 ∷ (0 ∷ (0 ∷ (q ∷ []))))))))) ≡ readNumbers x q
   unfolding readNumbers
-  read-refused e i column h = ap readNumbers (sym h)
+  read-refused e i column h = ap (λ (y : RecordRead). readNumbers y q) (sym h)
 
 pub ruleset read-array = (read-accepted, read-refused)
 
@@ -84,19 +85,33 @@ module _ (kind : ℕ) (s : Bytes) (ta tb : List ℤ) where
       by-kind kind (λ k h few. by-room ta tb (λ y. refusal-numbered k s e i column (p .reads k h y .refuses e i column refl .0)) (λ n. let z = same-number (p .no-room few n .0) in omega (arith, z)))
       (λ h. let z = same-number (p .other-kind h .0) in omega (arith, z))
 
-  tells : (r : RecordRead) (ta′ tb′ : List ℤ) → ReadPromise kind s ta tb r ta′ tb′ → readTold (readNumbers r) ≡ r
+  tells : (r : RecordRead) (q : ℕ) (ta′ tb′ : List ℤ) → ReadPromise kind s ta tb r ta′ tb′ → readTold (readNumbers r q) ≡ r
   unfolding readNumbers readTold
-  tells (RecordRead.Read n m chiral len lines h a b) ta′ tb′ p = refl
-  tells (RecordRead.Refused e i column) ta′ tb′ p =
+  tells (RecordRead.Read n m chiral len lines h a b) q ta′ tb′ p = refl
+  tells (RecordRead.Refused e i column) q ta′ tb′ p =
       first-refused e (RecordRead.Read i column 0 0 0 0 0 0) (λ (n : ℕ). RecordRead.Refused n i column) (read-numbered e i column ta′ tb′ p)
 
-  pub read-told : (r : RecordRead) (ta′ tb′ : List ℤ) (out : List ℕ) → out ≡ readNumbers r → ReadPromise kind s ta tb r ta′ tb′ → ReadPromise kind s ta tb (readTold out) ta′ tb′
-  read-told r ta′ tb′ out e p = subst (λ (x : RecordRead). ReadPromise kind s ta tb x ta′ tb′) (sym (ap readTold e ∙ tells r ta′ tb′ p)) p
+  last : (r : RecordRead) (q : ℕ) → number (readNumbers r q) 9 ≡ q
+  unfolding readNumbers
+  last (RecordRead.Read n m chiral len lines h a b) q = refl
+  last (RecordRead.Refused e i column) q = refl
 
-pub read-held : (x y : RecordRead) (out : List ℕ) → out ≡ readNumbers x → x ≡ y → out ≡ readNumbers y
-read-held x y out e h = e ∙ ap readNumbers h
+  module _ (r : RecordRead) (q : ℕ) (ta′ tb′ : List ℤ) (out : List ℕ) (e : out ≡ readNumbers r q) (p : ReadPromise kind s ta tb r ta′ tb′) where
+    is-told : r ≡ readTold out
+    is-told = sym (ap readTold e ∙ tells r q ta′ tb′ p)
 
-pub ruleset read-laws = (read-held, read-told)
+    pub read-told : ReadPromise kind s ta tb (readTold out) ta′ tb′
+    read-told = subst (λ (x : RecordRead). ReadPromise kind s ta tb x ta′ tb′) is-told p
+
+    pub count-told : CountPromise kind s ta tb r q → CountPromise kind s ta tb (readTold out) (number out 9)
+    count-told c =
+        subst (λ (x : RecordRead). CountPromise kind s ta tb x (number out 9)) is-told
+        (subst (CountPromise kind s ta tb r) (sym (ap (λ (a : List ℕ). number a 9) e ∙ last r q)) c)
+
+pub read-held : (x y : RecordRead) (q q′ : ℕ) (out : List ℕ) → out ≡ readNumbers x q → x ≡ y → q ≡ q′ → out ≡ readNumbers y q′
+read-held x y q q′ out e h k = e ∙ ap (λ (z : RecordRead). readNumbers z q) h ∙ ap (readNumbers y) k
+
+pub ruleset read-laws = (read-held, read-told, count-told)
 
 -- ---- The first number is 0 exactly for a good record
 

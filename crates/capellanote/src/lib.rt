@@ -9,6 +9,7 @@ ghost use Rattle.reader_walk.specs.Checking.{checkOf};
 ghost use Rattle.reader_walk.specs.Promise.{CheckedAs};
 ghost use Rattle.reader_record.specs.Read.{readOf, atomsAfter, bondsAfter};
 ghost use Rattle.reader_record.specs.Promise.{ReadPromise};
+ghost use Rattle.reader_record.specs.Comparing.{comparedAfter, CountPromise};
 ghost use Rattle.reader_item.specs.Find.{foundOf};
 ghost use Rattle.reader_item.specs.Find.{numbersOf as itemOf};
 ghost use Rattle.reader_item.specs.Promise.{Fetched};
@@ -21,6 +22,7 @@ ghost use Rattle.writer_copy.specs.Copy.{copyOf};
 ghost use Rattle.writer_copy.specs.Promise.{Promise as CopyPromise};
 ghost use Rattle.writer_catalogue.specs.Catalogue.{catalogueOf};
 ghost use Rattle.writer_catalogue.specs.Promise.{Promise as CataloguePromise};
+ghost use Rattle.capellanote.specs.Answer.{number};
 ghost use Rattle.capellanote.specs.Check.{checkNumbers, checkTold};
 ghost use Rattle.capellanote.specs.Read.{readNumbers, readTold};
 ghost use Rattle.capellanote.specs.Find.{foundNumbers, foundTold};
@@ -35,6 +37,7 @@ use reader_feed::Counter;
 use reader_feed::Fed;
 use reader_file::Next;
 use reader_item::Found;
+use reader_record::Counted;
 use reader_record::RecordRead;
 use writer_catalogue::Catalogue;
 use writer_copy::Copied;
@@ -49,10 +52,12 @@ fn of_check(a: Answer) -> [u64; 3]
     }
 }
 
-fn of_reading(r: RecordRead) -> [u64; 9]
-    ensures { λ a. ⌜ a ≡ readNumbers r ⌝ }
+fn of_reading(r: Counted) -> [u64; 10]
+    ensures { λ a. ⌜ a ≡ readNumbers (r .read) (r .compared) ⌝ }
 {
-    match r {
+    let compared = r.compared as u64;
+    let read = r.read;
+    match read {
         RecordRead::Read {
             n,
             m,
@@ -72,10 +77,20 @@ fn of_reading(r: RecordRead) -> [u64; 9]
             header_end as u64,
             items_start as u64,
             items_end as u64,
+            compared,
         ],
-        RecordRead::Refused { no, line, column } => {
-            [no as u64, line as u64, column as u64, 0, 0, 0, 0, 0, 0]
-        }
+        RecordRead::Refused { no, line, column } => [
+            no as u64,
+            line as u64,
+            column as u64,
+            0,
+            0,
+            0,
+            0,
+            0,
+            0,
+            compared,
+        ],
     }
 }
 
@@ -226,12 +241,13 @@ pub extern "C" fn capellanote_read(
     s: &[u8],
     atoms: &mut [i32],
     bonds: &mut [i32],
-    answer: &mut [u64; 9],
+    answer: &mut [u64; 10],
 )
-    ensures { λ _. ⌜ now (answer .exit) ≡ readNumbers (readOf kind (length (now (atoms .entry))) (length (now (bonds .entry))) (now (s .entry))) ⌝ }
+    ensures { λ _. ⌜ now (answer .exit) ≡ readNumbers (readOf kind (length (now (atoms .entry))) (length (now (bonds .entry))) (now (s .entry))) (comparedAfter kind (length (now (atoms .entry))) (length (now (bonds .entry))) (now (s .entry))) ⌝ }
     ensures { λ _. ⌜ now (atoms .exit) ≡ atomsAfter kind (length (now (bonds .entry))) (now (s .entry)) (now (atoms .entry)) ⌝ }
     ensures { λ _. ⌜ now (bonds .exit) ≡ bondsAfter kind (length (now (atoms .entry))) (now (s .entry)) (now (bonds .entry)) ⌝ }
     ensures { λ _. ⌜ ReadPromise kind (now (s .entry)) (now (atoms .entry)) (now (bonds .entry)) (readTold (now (answer .exit))) (now (atoms .exit)) (now (bonds .exit)) ⌝ }
+    ensures { λ _. ⌜ CountPromise kind (now (s .entry)) (now (atoms .entry)) (now (bonds .entry)) (readTold (now (answer .exit))) (number (now (answer .exit)) 9) ⌝ }
 {
     *answer = of_reading(reader_record::read_record(kind, s, atoms, bonds));
 }

@@ -87,7 +87,7 @@ fn walk_records(
     let mut cursor = Cursor::new();
     while cursor.at < s.len() {
         let at = cursor.at;
-        match reader_walk::walk_lines(true, &s[at..], atoms, bonds, listed, keys) {
+        match reader_walk::walk_keyed(true, &s[at..], atoms, bonds, listed, keys) {
             Walked::Whole {
                 counts: _,
                 length,

@@ -37,7 +37,7 @@ fn read_at(cursor: Cursor, s: &[u8], atoms: &mut [i32], bonds: &mut [i32]) -> Ne
     ensures { λ r. ⌜ now (bonds .exit) ≡ bondsAt cursor (length (now (atoms .entry))) (now (s .entry)) (now (bonds .entry)) ⌝ }
 {
     let at = cursor.at;
-    match reader_record::read_record(1, &s[at..], atoms, bonds) {
+    match reader_record::read_plain(1, &s[at..], atoms, bonds) {
         RecordRead::Read {
             n,
             m,

@@ -13,6 +13,7 @@ use Rattle.rules.specs.Forms.{Bond}
 use Rattle.rules.specs.Record.{SamePair, along, against}
 use Rattle.judge_pairs.specs.Taken.{samePair, pairTaken}
 use Rattle.judge_pairs.specs.Agree.{true-false, same-sound, same-complete}
+use Rattle.judge_pairs.specs.Compared.{FirstSame}
 use Rattle.judge_line.specs.Field.{elem}
 
 -- the lower number first
@@ -155,5 +156,26 @@ searching-block keys key count i (suc n) g m h =
 
 pub searching-on : (keys : List ℕ) (key count i width : ℕ) → Searching keys key count i → Missed keys key i (i + width) → width ≤ count - i → Searching keys key count (i + width)
 searching-on keys key count i width g m h = searching-block keys key count i width g m (omega (arith, g .within))
+
+-- ---- The first key that is this one is that of the first bond of the pair
+
+key-first : (b : Bond) (bs : List Bond) (j : ℕ) → SmallEnds b → AllSmall bs → j < length bs → getD (keysOf bs) j 0 ≡ keyOf b →
+    ((k : ℕ) → k < j → getD (keysOf bs) k 0 ≡ keyOf b → ⊥) → FirstSame b bs (j + 1)
+unfolding AllSmall
+key-first b [] j hb hs l e none = absurd (omega arith)
+key-first b (c ∷ bs) zero hb hs l e none = FirstSame.here (key-sound b c hb (hs .0) (sym e))
+key-first b (c ∷ bs) (suc j) hb hs l e none =
+    let one : suc (j + 1) ≡ suc j + 1 = omega arith in
+    subst (FirstSame b (c ∷ bs)) one
+    (FirstSame.later (λ s. none 0 (omega arith) (sym (key-complete b c s)))
+    (key-first b bs j hb (hs .1) (omega arith) e (λ k h. none (suc k) (omega arith))))
+
+pub searching-first : (keys : List ℕ) (b : Bond) (bs : List Bond) (count j : ℕ) → Searching keys (keyOf b) count j → SmallEnds b → AllSmall bs → count ≡ length bs →
+    take (length bs) keys ≡ keysOf bs → j < count → getD keys j 0 ≡ keyOf b → FirstSame b bs (j + 1)
+searching-first keys b bs count j g hb hs n same l e =
+    key-first b bs j hb hs (omega arith) (read j (omega arith) ∙ e) (λ k h q. g .missed .none k (omega arith) h (sym (read k (omega arith)) ∙ q))
+  where
+    read : (k : ℕ) → k < length bs → getD (keysOf bs) k 0 ≡ getD keys k 0
+    read k h = ap (λ (ks : List ℕ). getD ks k 0) (sym same) ∙ getD-take (length bs) keys k 0 h
 
 pub ruleset searching-laws = (missed-start, missed-next, searching-start, searching-on)

@@ -5,5 +5,7 @@ pub mod Promise
 pub mod Told
 pub mod Rows
 pub mod Promised
+pub mod Comparing
+pub mod Counting
 pub mod Follows
 pub mod Samples

@@ -46,7 +46,7 @@ begins-said kind s x g = ap (λ (o : Outcome). numbersOf (answered (walkedBy kin
 accepted-inj : {w v : Reply} → accepted w ≡ accepted v → w ≡ v
 accepted-inj e = cc
 
-said-apart : {X : Type 0} {w : Reply} {e i c : ℕ} → accepted w ≡ P.refused e i c → X
+pub said-apart : {X : Type 0} {w : Reply} {e i c : ℕ} → accepted w ≡ P.refused e i c → X
 said-apart h = absurd (let z : _≡_ {A = ℕ} 0 1 = cc in omega arith)
 
 pub reads : (kind : FileKind) (s : Bytes) (ta tb : List ℤ) →
@@ -86,7 +86,7 @@ module _ (s : Bytes) (ta tb : List ℤ) where
   abbrev lb : ℕ
   lb = length tb
 
-  by-room : (X : Type 0) → (Roomy ta tb → X) → (la < atomPlaces → X) → (atomPlaces ≤ la → lb < bondPlaces → X) → X
+  pub by-room : (X : Type 0) → (Roomy ta tb → X) → (la < atomPlaces → X) → (atomPlaces ≤ la → lb < bondPlaces → X) → X
   by-room X y a b = go (ltb la atomPlaces) refl (ltb lb bondPlaces) refl
     where
       go : (t : Bool) → ltb la atomPlaces ≡ t → (u : Bool) → ltb lb bondPlaces ≡ u → X
@@ -103,8 +103,8 @@ module _ (s : Bytes) (ta tb : List ℤ) where
   unread : (k : FileKind) → ¬ Roomy ta tb → Untouched 2 ta tb (numbersOf (readAs k la lb s)) (atomsAs k lb s ta) (bondsAs k la s tb)
   unread k n =
       by-room (Untouched 2 ta tb (numbersOf (readAs k la lb s)) (atomsAs k lb s ta) (bondsAs k la s tb)) (λ r. absurd (n r))
-      (λ h. (sym (ap numbersOf (short-atoms k s la lb h)), sym (atoms-short k s lb ta h), sym (bonds-beside k s la tb h)))
-      (λ h i. (sym (ap numbersOf (short-bonds k s la lb h i)), sym (atoms-beside k s lb ta h i), sym (bonds-short k s la tb h i)))
+      (λ h. (sym (ap numbersOf (short-atoms k s la lb (RecordRead.Refused 2 0 0) h refl)), sym (atoms-short k s lb ta h), sym (bonds-beside k s la tb h)))
+      (λ h i. (sym (ap numbersOf (short-bonds k s la lb (RecordRead.Refused 2 0 0) h i refl)), sym (atoms-beside k s lb ta h i), sym (bonds-short k s la tb h i)))
 
   read-with : (k : FileKind) → Roomy ta tb → Reads k s ta tb (numbersOf (readAs k la lb s)) (atomsAs k lb s ta) (bondsAs k la s tb)
   read-with k r =
@@ -114,7 +114,7 @@ module _ (s : Bytes) (ta tb : List ℤ) where
       (subst (λ (z : RecordRead). Reads k s ta tb (numbersOf z) (atomsBy ta (outcomeOf k s)) (bondsBy tb (outcomeOf k s)))
       (enough k s la lb (answered (walkOf k s)) (r .atoms) (r .bonds) refl) (reads k s ta tb)))
 
-  kind-of : (kind : ℕ) → kind ≤ 1 → (k : FileKind) × (kind ≡ kindNumber k)
+  pub kind-of : (kind : ℕ) → kind ≤ 1 → (k : FileKind) × (kind ≡ kindNumber k)
   kind-of zero h = (molfile, refl)
   kind-of (suc zero) h = (sdfile, refl)
   kind-of (suc (suc kind)) h = absurd (omega arith)
@@ -172,9 +172,9 @@ pub promise-sd : (s : Bytes) (ta tb : List ℤ) (kind : ℕ) (r : RecordRead) (t
 promise-sd s ta tb kind r ta′ tb′ k e f g =
     promise s ta tb kind r ta′ tb′ (kind-sd kind s (length ta) (length tb) r k e) (atoms-sd kind s (length tb) ta ta′ k f) (bonds-sd kind s (length ta) tb tb′ k g)
 
-pub promise-none : (s : Bytes) (ta tb : List ℤ) (kind : ℕ) → (kind ≡ 0 → ⊥) → (kind ≡ 1 → ⊥) → ReadPromise kind s ta tb (RecordRead.Refused 1 0 0) ta tb
-promise-none s ta tb kind z o =
-    promise s ta tb kind (RecordRead.Refused 1 0 0) ta tb (kind-none kind s (length ta) (length tb) z o) (atoms-none kind s (length tb) ta z o)
+pub promise-none : (s : Bytes) (ta tb : List ℤ) (kind : ℕ) (r : RecordRead) → (kind ≡ 0 → ⊥) → (kind ≡ 1 → ⊥) → r ≡ RecordRead.Refused 1 0 0 → ReadPromise kind s ta tb r ta tb
+promise-none s ta tb kind r z o e =
+    promise s ta tb kind r ta tb (kind-none kind s (length ta) (length tb) r z o e) (atoms-none kind s (length tb) ta z o)
     (bonds-none kind s (length ta) tb z o)
 
 pub ruleset promise-laws = (promise-mol, promise-sd, promise-none)

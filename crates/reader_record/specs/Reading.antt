@@ -16,13 +16,13 @@ use Rattle.reader_record.specs.Read.{byKind, answered, atomsBy, bondsBy,
 -- ---- Tables without room, and with
 
 module _ (kind : FileKind) (s : Bytes) where
-  pub short-atoms : (la lb : ℕ) → la < atomPlaces → RecordRead.Refused 2 0 0 ≡ readAs kind la lb s
+  pub short-atoms : (la lb : ℕ) (r : RecordRead) → la < atomPlaces → r ≡ RecordRead.Refused 2 0 0 → r ≡ readAs kind la lb s
   unfolding readAs
-  short-atoms la lb h = rw (lt-ltb la atomPlaces h)
+  short-atoms la lb r h e = rw (lt-ltb la atomPlaces h) e
 
-  pub short-bonds : (la lb : ℕ) → atomPlaces ≤ la → lb < bondPlaces → RecordRead.Refused 2 0 0 ≡ readAs kind la lb s
+  pub short-bonds : (la lb : ℕ) (r : RecordRead) → atomPlaces ≤ la → lb < bondPlaces → r ≡ RecordRead.Refused 2 0 0 → r ≡ readAs kind la lb s
   unfolding readAs
-  short-bonds la lb h k = rw (le-ltb la atomPlaces h, lt-ltb lb bondPlaces k)
+  short-bonds la lb r h k e = rw (le-ltb la atomPlaces h, lt-ltb lb bondPlaces k) e
 
   pub enough : (la lb : ℕ) (r : RecordRead) → atomPlaces ≤ la → bondPlaces ≤ lb → r ≡ answered (walkOf kind s) → r ≡ readAs kind la lb s
   unfolding readAs
@@ -81,14 +81,14 @@ module _ (kind : ℕ) (s : Bytes) where
   unfolding bondsAfter
   bonds-sd la t u e h = h ∙ ap (λ (k : ℕ). bondsAfter k la s t) (sym e)
 
-  by-none : {A : Type 0} (k : ℕ) (x : A) (f : FileKind → A) → (k ≡ 0 → ⊥) → (k ≡ 1 → ⊥) → x ≡ byKind k x f
+  pub by-none : {A : Type 0} (k : ℕ) (x : A) (f : FileKind → A) → (k ≡ 0 → ⊥) → (k ≡ 1 → ⊥) → x ≡ byKind k x f
   by-none zero x f z o = absurd (z refl)
   by-none (suc zero) x f z o = absurd (o refl)
   by-none (suc (suc k)) x f z o = refl
 
-  pub kind-none : (la lb : ℕ) → (kind ≡ 0 → ⊥) → (kind ≡ 1 → ⊥) → RecordRead.Refused 1 0 0 ≡ readOf kind la lb s
+  pub kind-none : (la lb : ℕ) (r : RecordRead) → (kind ≡ 0 → ⊥) → (kind ≡ 1 → ⊥) → r ≡ RecordRead.Refused 1 0 0 → r ≡ readOf kind la lb s
   unfolding readOf
-  kind-none la lb z o = by-none kind (RecordRead.Refused 1 0 0) (λ (k : FileKind). readAs k la lb s) z o
+  kind-none la lb r z o e = e ∙ by-none kind (RecordRead.Refused 1 0 0) (λ (k : FileKind). readAs k la lb s) z o
 
   pub atoms-none : (lb : ℕ) (t : List ℤ) → (kind ≡ 0 → ⊥) → (kind ≡ 1 → ⊥) → t ≡ atomsAfter kind lb s t
   unfolding atomsAfter

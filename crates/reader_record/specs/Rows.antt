@@ -54,7 +54,7 @@ mol-sized (Molfile.molfile p) = sized p
 record-sized : {t r : List Line} {x : Raw} → Record limit t x r → Sized (x .molecule)
 record-sized (Record.record-of p i) = sized p
 
-begins-sized : (kind : FileKind) (s : Bytes) (x : Raw) → Begins kind s x → Sized (x .molecule)
+pub begins-sized : (kind : FileKind) (s : Bytes) (x : Raw) → Begins kind s x → Sized (x .molecule)
 begins-sized molfile s x g = mol-sized (g .2)
 begins-sized sdfile s x g = record-sized (g .4)
 

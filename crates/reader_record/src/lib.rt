@@ -3,10 +3,12 @@ ghost use mathlib.Core.Path.{_≡_};
 ghost use Prim.Native.Nat.{_*_, _≤_};
 ghost use lib.ListN.{length};
 ghost use Rattle.rules.specs.Record.{limit, atomPlaces, bondPlaces};
+ghost use Rattle.reader_walk.specs.Asked.{comparedOf};
 ghost use Rattle.reader_walk.specs.Stands.{kindOf};
 ghost use Rattle.reader_walk.specs.Walked.{walkOf};
 ghost use Rattle.reader_walk.specs.Outcome.{outcomeOf};
 ghost use Rattle.reader_record.specs.Promise.{ReadPromise};
+ghost use Rattle.reader_record.specs.Comparing.{comparedAs, comparedAfter, CountPromise};
 ghost use Rattle.reader_record.specs.Read.{zeroed, answered, atomsBy, bondsBy, readAs, atomsAs, bondsAs, readOf, atomsAfter, bondsAfter, atomsRead, bondsRead, RowsLeft, Clearing};
 ghost use Rattle.reader_record.specs.Rows.{RowsPromise};
 use reader_walk::Walked;
@@ -31,6 +33,27 @@ pub enum RecordRead {
         line: usize,
         column: usize,
     },
+}
+
+// The same, and how many pairs of bonds the rule against repeated pairs calls for up to there.
+pub struct Counted {
+    pub read: RecordRead,
+    pub compared: usize,
+}
+
+// A refusal before any line is looked at.
+fn unread(no: u8) -> Counted
+    ensures { λ r. ⌜ r .read ≡ RecordRead.Refused no 0 0 ⌝ }
+    ensures { λ r. ⌜ r .compared ≡ 0 ⌝ }
+{
+    Counted {
+        read: RecordRead::Refused {
+            no,
+            line: 0,
+            column: 0,
+        },
+        compared: 0,
+    }
 }
 
 // Zeros from place `from` to before place `to`.
@@ -79,13 +102,17 @@ fn clear_after(got: RecordRead, atoms: &mut [i32], bonds: &mut [i32])
 }
 
 // The plain reading: one record from the front of a text, its rows at the front of tables that have room. What stands behind the rows is not cleared.
-fn read_front(sd: bool, s: &[u8], atoms: &mut [i32], bonds: &mut [i32]) -> RecordRead
+fn read_front(sd: bool, s: &[u8], atoms: &mut [i32], bonds: &mut [i32]) -> Counted
     requires { ⌜ (atomPlaces ≤ length (now atoms)) × (bondPlaces ≤ length (now bonds)) ⌝ }
-    ensures { λ r. ⌜ r ≡ answered (walkOf (kindOf sd) (now (s .entry))) ⌝ }
+    ensures { λ r. ⌜ r .read ≡ answered (walkOf (kindOf sd) (now (s .entry))) ⌝ }
+    ensures { λ r. ⌜ r .compared ≡ comparedOf (kindOf sd) (now (s .entry)) ⌝ }
     ensures { λ r. ⌜ RowsLeft (now (atoms .entry)) (now (atoms .exit)) (now (bonds .entry)) (now (bonds .exit)) (outcomeOf (kindOf sd) (now (s .entry))) ⌝ }
 {
     let mut listed = [0u32; LISTED];
-    match reader_walk::walk_record(sd, s, atoms, bonds, &mut listed) {
+    let counted = reader_walk::walk_counted(sd, s, atoms, bonds, &mut listed);
+    let compared = counted.compared;
+    let walked = counted.walked;
+    match walked {
         Walked::Whole {
             counts,
             length,
@@ -95,18 +122,24 @@ fn read_front(sd: bool, s: &[u8], atoms: &mut [i32], bonds: &mut [i32]) -> Recor
             items_end,
         } => {
             reader_tables::mean(atoms, counts.atoms, &listed);
-            RecordRead::Read {
-                n: counts.atoms,
-                m: counts.bonds,
-                chiral: counts.chiral,
-                length,
-                lines,
-                header_end,
-                items_start,
-                items_end,
+            Counted {
+                read: RecordRead::Read {
+                    n: counts.atoms,
+                    m: counts.bonds,
+                    chiral: counts.chiral,
+                    length,
+                    lines,
+                    header_end,
+                    items_start,
+                    items_end,
+                },
+                compared,
             }
         }
-        Walked::Refused { no, line, column } => RecordRead::Refused { no, line, column },
+        Walked::Refused { no, line, column } => Counted {
+            read: RecordRead::Refused { no, line, column },
+            compared,
+        },
     }
 }
 
@@ -129,50 +162,48 @@ pub fn read_rows(sd: bool, s: &[u8], atoms: &mut [i32], bonds: &mut [i32]) -> Re
             column: 0,
         };
     }
-    read_front(sd, s, atoms, bonds)
+    let got = read_front(sd, s, atoms, bonds);
+    got.read
 }
 
 // The plain reading, and then zeros behind the rows.
-fn read_cleared(sd: bool, s: &[u8], atoms: &mut [i32], bonds: &mut [i32]) -> RecordRead
+fn read_cleared(sd: bool, s: &[u8], atoms: &mut [i32], bonds: &mut [i32]) -> Counted
     requires { ⌜ (atomPlaces ≤ length (now atoms)) × (bondPlaces ≤ length (now bonds)) ⌝ }
-    ensures { λ r. ⌜ r ≡ answered (walkOf (kindOf sd) (now (s .entry))) ⌝ }
+    ensures { λ r. ⌜ r .read ≡ answered (walkOf (kindOf sd) (now (s .entry))) ⌝ }
+    ensures { λ r. ⌜ r .compared ≡ comparedOf (kindOf sd) (now (s .entry)) ⌝ }
     ensures { λ r. ⌜ now (atoms .exit) ≡ atomsBy (now (atoms .entry)) (outcomeOf (kindOf sd) (now (s .entry))) ⌝ }
     ensures { λ r. ⌜ now (bonds .exit) ≡ bondsBy (now (bonds .entry)) (outcomeOf (kindOf sd) (now (s .entry))) ⌝ }
 {
     let got = read_front(sd, s, atoms, bonds);
-    clear_after(got, atoms, bonds);
+    let read = got.read;
+    clear_after(read, atoms, bonds);
     got
 }
 
 // Tables without room are left as they are.
-fn read_as(sd: bool, s: &[u8], atoms: &mut [i32], bonds: &mut [i32]) -> RecordRead
-    ensures { λ r. ⌜ r ≡ readAs (kindOf sd) (length (now (atoms .entry))) (length (now (bonds .entry))) (now (s .entry)) ⌝ }
+fn read_as(sd: bool, s: &[u8], atoms: &mut [i32], bonds: &mut [i32]) -> Counted
+    ensures { λ r. ⌜ r .read ≡ readAs (kindOf sd) (length (now (atoms .entry))) (length (now (bonds .entry))) (now (s .entry)) ⌝ }
+    ensures { λ r. ⌜ r .compared ≡ comparedAs (kindOf sd) (length (now (atoms .entry))) (length (now (bonds .entry))) (now (s .entry)) ⌝ }
     ensures { λ r. ⌜ now (atoms .exit) ≡ atomsAs (kindOf sd) (length (now (bonds .entry))) (now (s .entry)) (now (atoms .entry)) ⌝ }
     ensures { λ r. ⌜ now (bonds .exit) ≡ bondsAs (kindOf sd) (length (now (atoms .entry))) (now (s .entry)) (now (bonds .entry)) ⌝ }
 {
     if atoms.len() < ATOMS {
-        return RecordRead::Refused {
-            no: 2,
-            line: 0,
-            column: 0,
-        };
+        return unread(2);
     }
     if bonds.len() < BONDS {
-        return RecordRead::Refused {
-            no: 2,
-            line: 0,
-            column: 0,
-        };
+        return unread(2);
     }
     read_cleared(sd, s, atoms, bonds)
 }
 
 // One record from the front of a text: kind 0 is a molfile, kind 1 an SDfile.
-pub fn read_record(kind: u8, s: &[u8], atoms: &mut [i32], bonds: &mut [i32]) -> RecordRead
-    ensures { λ r. ⌜ r ≡ readOf kind (length (now (atoms .entry))) (length (now (bonds .entry))) (now (s .entry)) ⌝ }
+pub fn read_record(kind: u8, s: &[u8], atoms: &mut [i32], bonds: &mut [i32]) -> Counted
+    ensures { λ r. ⌜ r .read ≡ readOf kind (length (now (atoms .entry))) (length (now (bonds .entry))) (now (s .entry)) ⌝ }
+    ensures { λ r. ⌜ r .compared ≡ comparedAfter kind (length (now (atoms .entry))) (length (now (bonds .entry))) (now (s .entry)) ⌝ }
     ensures { λ r. ⌜ now (atoms .exit) ≡ atomsAfter kind (length (now (bonds .entry))) (now (s .entry)) (now (atoms .entry)) ⌝ }
     ensures { λ r. ⌜ now (bonds .exit) ≡ bondsAfter kind (length (now (atoms .entry))) (now (s .entry)) (now (bonds .entry)) ⌝ }
-    ensures { λ r. ⌜ ReadPromise kind (now (s .entry)) (now (atoms .entry)) (now (bonds .entry)) r (now (atoms .exit)) (now (bonds .exit)) ⌝ }
+    ensures { λ r. ⌜ ReadPromise kind (now (s .entry)) (now (atoms .entry)) (now (bonds .entry)) (r .read) (now (atoms .exit)) (now (bonds .exit)) ⌝ }
+    ensures { λ r. ⌜ CountPromise kind (now (s .entry)) (now (atoms .entry)) (now (bonds .entry)) (r .read) (r .compared) ⌝ }
 {
     if kind == 0 {
         return read_as(false, s, atoms, bonds);
@@ -180,9 +211,16 @@ pub fn read_record(kind: u8, s: &[u8], atoms: &mut [i32], bonds: &mut [i32]) -> 
     if kind == 1 {
         return read_as(true, s, atoms, bonds);
     }
-    RecordRead::Refused {
-        no: 1,
-        line: 0,
-        column: 0,
-    }
+    unread(1)
+}
+
+// The same without the number of pairs.
+pub fn read_plain(kind: u8, s: &[u8], atoms: &mut [i32], bonds: &mut [i32]) -> RecordRead
+    ensures { λ r. ⌜ r ≡ readOf kind (length (now (atoms .entry))) (length (now (bonds .entry))) (now (s .entry)) ⌝ }
+    ensures { λ r. ⌜ now (atoms .exit) ≡ atomsAfter kind (length (now (bonds .entry))) (now (s .entry)) (now (atoms .entry)) ⌝ }
+    ensures { λ r. ⌜ now (bonds .exit) ≡ bondsAfter kind (length (now (atoms .entry))) (now (s .entry)) (now (bonds .entry)) ⌝ }
+    ensures { λ r. ⌜ ReadPromise kind (now (s .entry)) (now (atoms .entry)) (now (bonds .entry)) r (now (atoms .exit)) (now (bonds .exit)) ⌝ }
+{
+    let counted = read_record(kind, s, atoms, bonds);
+    counted.read
 }

@@ -26,11 +26,13 @@ use Rattle.reader_state.specs.Parts.{finished}
 use Rattle.reader_places.specs.Places.{finishedAt}
 use Rattle.reader_line.specs.declared.Notes.{Notes}
 use Rattle.reader_walk.specs.declared.Walked.{Walked}
+use Rattle.judge_pairs.specs.Compared.{triangle}
 use Rattle.reader_walk.specs.Outcome.{Outcome, outcomeOf, endAt, recordFrom}
+use Rattle.reader_walk.specs.Asked.{askedFrom, comparedOf}
 use Rattle.reader_line.specs.Took.{countsBack}
 use Rattle.reader_walk.specs.Stands.{kindOf, placeOf, Rows, Counted, Marks, atomsIn, bondsIn, moleculeLines}
 use Rattle.reader_walk.specs.Walked.{walkedBy, walkOf, HeldBy, Left}
-use Rattle.reader_walk.specs.Walking.{Walking}
+use Rattle.reader_walk.specs.Walking.{Walking, read-compared}
 
 -- before line i, at position `at`, with so many bytes left: after a molfile's `M  END`
 unfoldable pub lastOf : ℕ → Counts → Notes → ℕ → ℕ → Walked
@@ -114,7 +116,11 @@ module _ (sd : Bool) (s : Bytes) (ta₀ tb₀ : List ℤ) (r : Reader) (m : Note
   unfolding walkOf
   walking-end y e = e ∙ ends .0 ∙ ap (walkedBy (kindOf sd) s) (sym end-is)
 
+  pub end-compared : (v : ℕ) → v ≡ triangle (m .bonds) → v ≡ comparedOf (kindOf sd) s
+  unfolding askedFrom
+  end-compared = read-compared sd s ta₀ tb₀ r m at i t keys ta tb g (g .asks ∙ ap (λ (c : Cut). askedFrom (kindOf sd) (g .p) (c .lines)) (line-rest s at l))
+
   pub end-left : Left ta₀ ta tb₀ tb t (outcomeOf (kindOf sd) s)
   end-left = record { atoms = g .atoms-beside; bonds = g .bonds-beside; size = g .listed-size; held = subst (HeldBy ta tb t) (sym end-is) (ends .1) }
 
-pub ruleset at-end-laws = (walking-end, end-left)
+pub ruleset at-end-laws = (walking-end, end-compared, end-left)

@@ -20,7 +20,7 @@ use Rattle.rules.specs.Meaning.{bondNumbers}
 use Rattle.judge_pairs.specs.Taken.{pairTaken}
 use Rattle.judge_line.specs.Got.{Got, got, bad, then, need}
 use Rattle.judge_line.specs.Field.{within, noneFound}
-use Rattle.judge_line.specs.Agree.{within-got}
+use Rattle.judge_line.specs.Agree.{within-got, within-is}
 use Rattle.judge_line.specs.AgreeLine.{counts-got, atom-got, bond-got}
 use Rattle.judge_line.specs.Judge.{firstHeaderOf, countsOf, atomOf, bondOf, propertyOf, itemOf, valueOf}
 use Rattle.judge_line.specs.Judge as L
@@ -45,6 +45,7 @@ use Rattle.reader_places.specs.Places.{bondsOwed, atomsOwed, afterEnd}
 use Rattle.reader_line.specs.declared.Notes.{Notes}
 use Rattle.reader_pairs.specs.Keys.{keyOf, keysOf, SmallEnds, AllSmall, small-more}
 use Rattle.reader_line.specs.Took.{headedAt, endedAt, atomMore, bondMore}
+use Rattle.reader_walk.specs.Asked.{withOwn, askedAt}
 use Rattle.reader_walk.specs.Stands.{isSd, placeOf, Rows, Listing, Counted, Headed, Marks, Stands, atomsIn, bondsIn, moleculeLines}
 
 -- ---- Two readings of one line, by the same judge of the line
@@ -89,9 +90,11 @@ pub record Stored (kind : FileKind) (s : Bytes) (i : ℕ) (keys : List ℕ) (tb 
   pub fits : SmallAtom a
   pub onto : Onto kind s i keys tb r (atomMore m) t (sets ta (16 * (m .atoms)) (rawRow a)) y
 
--- a bond line that is good but for its pair: 11 at column 1 if the pair is taken, else the bond is stored
-pub record Pending (kind : FileKind) (s : Bytes) (i : ℕ) (keys : List ℕ) (tb : List ℤ) (r : Reader) (m : Notes) (t : List ℕ) (ta : List ℤ) (b : Bond) (y : Got Turn) : Type 0 where
+-- line l at place p is a bond line that is good but for its pair: 11 at column 1 if the pair is taken, else the bond is stored
+pub record Pending (kind : FileKind) (s : Bytes) (i : ℕ) (p : J.Place) (l : Line) (keys : List ℕ) (tb : List ℤ) (r : Reader) (m : Notes) (t : List ℕ) (ta : List ℤ) (b : Bond) (y : Got Turn) : Type 0 where
   pub bs : List Bond
+  pub read : bs ≡ bondsIn p
+  pub own : askedAt p l ≡ bs ++ (b ∷ [])
   pub count : m .bonds ≡ length bs
   pub bond-keys : take (length bs) keys ≡ keysOf bs
   pub small : AllSmall bs
@@ -111,18 +114,18 @@ pub record Closed (s : Bytes) (r : Reader) (m : Notes) (t : List ℕ) (ta tb : L
   pub headed : Headed s m
   pub items : m .«items_start» ≡ afterLines s 0 (moleculeLines (x .molecule))
 
--- r, m and the tables before line i; the next line starts at n; t is the table of listed numbers after the line
-abbrev pub Goes : FileKind → Bytes → ℕ → ℕ → Reader → Notes → List ℕ → List ℕ → List ℤ → List ℤ → Got Went → Got Turn → Type 0
-Goes kind s i n r m t keys ta tb (got (W.on r′)) y = Onto kind s i keys tb r′ m t ta y
-Goes kind s i n r m t keys ta tb (got (W.headed r′)) y = Onto kind s i keys tb r′ (headedAt m n) t ta y
-Goes kind s i n r m t keys ta tb (got (W.atom r′ a)) y = Stored kind s i keys tb r′ m t ta a y
-Goes kind s i n r m t keys ta tb (got (W.bond r′ b)) y = Pending kind s i keys tb r′ m t ta b y
-Goes kind s i n r m t keys ta tb (got (W.ended r′)) y = Onto kind s i keys tb r′ (endedAt m n) t ta y
-Goes kind s i n r m t keys ta tb (got (W.title r′ name)) y = Onto kind s i keys tb r′ m t ta y
-Goes kind s i n r m t keys ta tb (got (W.value r′)) y = Onto kind s i keys tb r′ m t ta y
-Goes kind s i n r m t keys ta tb (got (W.blank r′)) y = Onto kind s i keys tb r′ m t ta y
-Goes kind s i n r m t keys ta tb (got W.done) y = (x : Raw) × (y ≡ got (J.done x)) × Closed s r m t ta tb x
-Goes kind s i n r m t keys ta tb (bad e column) y = y ≡ bad e column
+-- place p, r, m and the tables before line i, which is l; the next line starts at n; t is the table of listed numbers after the line
+abbrev pub Goes : FileKind → Bytes → ℕ → ℕ → J.Place → Line → Reader → Notes → List ℕ → List ℕ → List ℤ → List ℤ → Got Went → Got Turn → Type 0
+Goes kind s i n p l r m t keys ta tb (got (W.on r′)) y = Onto kind s i keys tb r′ m t ta y
+Goes kind s i n p l r m t keys ta tb (got (W.headed r′)) y = Onto kind s i keys tb r′ (headedAt m n) t ta y
+Goes kind s i n p l r m t keys ta tb (got (W.atom r′ a)) y = Stored kind s i keys tb r′ m t ta a y
+Goes kind s i n p l r m t keys ta tb (got (W.bond r′ b)) y = Pending kind s i p l keys tb r′ m t ta b y
+Goes kind s i n p l r m t keys ta tb (got (W.ended r′)) y = Onto kind s i keys tb r′ (endedAt m n) t ta y
+Goes kind s i n p l r m t keys ta tb (got (W.title r′ name)) y = Onto kind s i keys tb r′ m t ta y
+Goes kind s i n p l r m t keys ta tb (got (W.value r′)) y = Onto kind s i keys tb r′ m t ta y
+Goes kind s i n p l r m t keys ta tb (got (W.blank r′)) y = Onto kind s i keys tb r′ m t ta y
+Goes kind s i n p l r m t keys ta tb (got W.done) y = (x : Raw) × (y ≡ got (J.done x)) × Closed s r m t ta tb x
+Goes kind s i n p l r m t keys ta tb (bad e column) y = y ≡ bad e column
 
 -- ---- Lines owed
 
@@ -193,7 +196,7 @@ module _ (kind : FileKind) (s : Bytes) (m : Notes) (t keys : List ℕ) (ta tb : 
   readerAt p d = record { sd = isSd kind; place = placeOf p; counts = d }
 
   abbrev G : J.Place → Counts → Got Went → Got Turn → Type 0
-  G p d = Goes kind s i n (readerAt p d) m (tableAt (readerAt p d) (placeOf p) t l) keys ta tb
+  G p d = Goes kind s i n p l (readerAt p d) m (tableAt (readerAt p d) (placeOf p) t l) keys ta tb
 
   abbrev Statement : J.Place → Counts → Type 0
   Statement p d =
@@ -308,6 +311,8 @@ module _ (kind : FileKind) (s : Bytes) (m : Notes) (t keys : List ℕ) (ta tb : 
       let held = bond-held tb bs b (rows .bond-rows) (omega arith) in
       record {
         bs = bs;
+        read = refl;
+        own = ap (withOwn bs) (within-is 80 l (bondOf (d .atoms) l) w ∙ e);
         count = count;
         bond-keys = rows .bond-keys;
         small = rows .small;
@@ -473,8 +478,8 @@ module _ (kind : FileKind) (s : Bytes) (m : Notes) (t keys : List ℕ) (ta tb : 
 
   -- from where a state stands for a place
   pub follow : (r : Reader) (p : J.Place) → Stands kind s r m t keys ta tb i p → atomPlaces ≤ length ta → bondPlaces ≤ length tb → length keys ≡ limit → length t ≡ 3 * places → n ≡ afterLines s 0 i →
-      Goes kind s i n r m (tableAt r (r .place) t l) keys ta tb (wentOf r t l) (turnOf kind limit p l)
+      Goes kind s i n p l r m (tableAt r (r .place) t l) keys ta tb (wentOf r t l) (turnOf kind limit p l)
   follow r p st ra rb rk rt after =
       let e : readerAt p (r .counts) ≡ r = ap₂ (made (r .counts)) (sym (st .sd)) (sym (st .place)) in
-      subst (λ (x : Reader). Goes kind s i n x m (tableAt x (x .place) t l) keys ta tb (wentOf x t l) (turnOf kind limit p l)) e
+      subst (λ (x : Reader). Goes kind s i n p l x m (tableAt x (x .place) t l) keys ta tb (wentOf x t l) (turnOf kind limit p l)) e
       (follow-at p (r .counts) ra rb rk rt after (st .few-atoms) (st .few-bonds) (st .counted) (st .rows) (st .marks))

@@ -2,8 +2,8 @@
 use Prim.Native.Nat.{ℕ, _+_, _-_, _*_, _≤_, _<_}
 use native.Mathlib.Omega.{arith}
 use mathlib.Core.Path.{_≡_, refl, sym, ap, _∙_, subst}
-use mathlib.Core.List.{List}
-use mathlib.Core.Bool.{Bool}
+use mathlib.Core.List.{List, [], _∷_, _++_}
+use mathlib.Core.Bool.{Bool, true}
 use lib.ListN.{length, getD, take, set}
 use lib.Seq.{sets, length-sets}
 use lib.IntN.{ℤ}
@@ -13,6 +13,8 @@ use Rattle.text.specs.declared.LineAt.{LineAt}
 use Rattle.rules.specs.Meaning.{bondNumbers}
 use Rattle.rules.specs.Record.{limit, atomPlaces, bondPlaces}
 use Rattle.judge_line.specs.Field.{elem}
+use Rattle.judge_pairs.specs.Taken.{pairTaken}
+use Rattle.judge_pairs.specs.Compared.{FirstSame, triangle, repeats}
 use Rattle.line_counts_bonds.specs.Answer.{bondIs}
 use Rattle.line_counts_bonds.specs.declared.Bond.{Bond}
 use Rattle.reader_tables.specs.Held.{drop-sets}
@@ -20,8 +22,9 @@ use Rattle.reader_state.specs.declared.Reader.{Reader}
 use Rattle.reader_line.specs.declared.Notes.{Notes}
 use Rattle.reader_line.specs.declared.Taken.{Taken}
 use Rattle.reader_walk.specs.declared.Walked.{Walked}
-use Rattle.reader_pairs.specs.Keys.{pairKey, Searching, searching-next, searching-found, searching-end}
+use Rattle.reader_pairs.specs.Keys.{pairKey, Searching, searching-next, searching-found, searching-end, searching-first}
 use Rattle.reader_walk.specs.Outcome.{refused, outcomeOf}
+use Rattle.reader_walk.specs.Asked.{comparedOf, compared-is}
 use Rattle.reader_line.specs.Took.{bondMore, Took, Keeping}
 use Rattle.reader_walk.specs.Stands.{kindOf}
 use Rattle.reader_walk.specs.Walked.{walkedBy, walkOf, Beside, HeldBy, Left}
@@ -69,14 +72,33 @@ module _ (sd : Bool) (s : Bytes) (r : Reader) (m : Notes) (n i : ℕ) (t keys : 
   -- ---- The pair is found
 
   module _ (h : j < count) (q : getD keys j 0 ≡ key) where
-    twice : outcomeOf (kindOf sd) s ≡ refused 11 i 1
-    twice =
-        let a = g .bond in
-        a .taken
-        (sym (a .key-is)
+    is-taken : pairTaken (bondIs b) (g .bond .bs) ≡ true
+    is-taken =
+        sym (g .bond .key-is)
         ∙ ap (λ (k : ℕ). elem k (take (m .bonds) keys)) (sym (g .key-of))
         ∙ ap (λ (c : ℕ). elem key (take c keys)) (sym (g .before))
-        ∙ searching-found keys key count j (g .searching) h q)
+        ∙ searching-found keys key count j (g .searching) h q
+
+    twice : outcomeOf (kindOf sd) s ≡ refused 11 i 1
+    twice = g .bond .taken is-taken
+
+    -- bond j + 1 is the first that joins the pair
+    earlier : FirstSame (bondIs b) (g .bond .bs) (j + 1)
+    earlier =
+        let a = g .bond in
+        searching-first keys (bondIs b) (a .bs) count j (subst (λ (k : ℕ). Searching keys k count j) (g .key-of) (g .searching)) (a .ends) (a .small)
+        (g .before ∙ a .count) (a .bond-keys) h (q ∙ g .key-of)
+
+    pub repeat-fits : (1 ≤ j + 1) × (j + 1 ≤ limit) × (1 ≤ count + 1) × (count + 1 ≤ limit)
+    repeat-fits = (omega arith, omega (arith, g .before, g .bond .few), omega arith, omega (arith, g .before, g .bond .few))
+
+    -- the repeat is left with: j + 1, and this bond, which is bond count + 1
+    pub found-compared : (v : ℕ) → v ≡ triangle (count + 1 - 1) + (j + 1) → v ≡ comparedOf (kindOf sd) s
+    found-compared v e =
+        let a = g .bond in
+        let n : count + 1 - 1 ≡ length (a .bs) = omega (arith, g .before, a .count) in
+        e ∙ ap (λ (k : ℕ). triangle k + (j + 1)) n
+        ∙ sym (compared-is (kindOf sd) s (a .bs ++ (bondIs b ∷ [])) (a .asks is-taken) ∙ repeats (a .bs) (a .once) (bondIs b) [] (j + 1) earlier)
 
     pub pairing-found : (y : Walked) → y ≡ Walked.Refused 11 i 1 → y ≡ walkOf (kindOf sd) s
     unfolding walkOf
@@ -108,4 +130,4 @@ module _ (sd : Bool) (s : Bytes) (r : Reader) (m : Notes) (n i : ℕ) (t keys : 
   pub pairing-keeps : bondPlaces ≤ length tb → Keeping m b tb keys
   pairing-keeps h = record { few = g .bond .few; fits = g .bond .fits; room = h; key-room = g .bond .key-room }
 
-pub ruleset pair-laws = (pairing-start, first-small, second-small, few-before, pairing-next, pairing-within, pairing-found, found-left, pairing-end, pairing-keeps)
+pub ruleset pair-laws = (pairing-start, first-small, second-small, few-before, pairing-next, pairing-within, pairing-found, found-compared, found-left, pairing-end, pairing-keeps)

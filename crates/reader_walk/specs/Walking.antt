@@ -2,7 +2,7 @@
 use Prim.Native.Nat.{ℕ, zero, suc, _+_, _-_, _*_, _≤_, _<_, _^_}
 use native.Mathlib.Omega.{arith}
 use mathlib.Core.Path.{_≡_, refl, sym, ap, ap₂, _∙_, subst}
-use mathlib.Core.List.{List, _∷_}
+use mathlib.Core.List.{List, [], _∷_, _++_}
 use mathlib.Core.Bool.{Bool, true, false}
 use lib.ListN.{length, take, drop, set, length-set}
 use lib.Seq.{sets, length-sets}
@@ -14,11 +14,13 @@ use Rattle.text.specs.Find.{lineAt}
 use Rattle.text.specs.Cut.{Cut, cut, line-within, line-cut}
 use Rattle.text.specs.declared.LineAt.{LineAt}
 use Rattle.rules.specs.Forms as R
-use Rattle.rules.specs.Record.{Raw, limit, atomPlaces, bondPlaces}
+use Rattle.rules.specs.Record.{Raw, NoPairTwice, limit, atomPlaces, bondPlaces}
 use Rattle.rules.specs.Meaning.{bondNumbers}
 use Rattle.judge_pairs.specs.Taken.{pairTaken}
+use Rattle.judge_pairs.specs.Compared.{triangle, apart}
 use Rattle.judge_line.specs.Got.{Got, got, bad}
-use Rattle.judge_line.specs.Field.{elem}
+use Rattle.judge_line.specs.Field.{elem, within}
+use Rattle.judge_line.specs.Judge.{bondOf}
 use Rattle.line_counts_bonds.specs.Answer.{bondIs}
 use Rattle.line_counts_bonds.specs.declared.Counts.{Counts}
 use Rattle.line_counts_bonds.specs.declared.Bond.{Bond}
@@ -29,19 +31,22 @@ use Rattle.judge_file.specs.Place.{molfile, turnOf}
 use Rattle.judge_file.specs.Place as J
 use Rattle.judge_file.specs.Place.{first, second, third, counts, atoms, bonds, properties, over, items, values, next}
 use Rattle.judge_file.specs.Sound.{Sound, sound-takes}
-use Rattle.judge_file.specs.Takes.{turn-takes}
+use Rattle.judge_file.specs.Takes.{Takes, turn-takes}
 use Rattle.judge_file.specs.WalkText.{afterLines, after-none, after-next, after-last}
 use Rattle.reader_state.specs.declared.Reader.{Reader}
 use Rattle.reader_state.specs.Went as W
-use Rattle.reader_state.specs.Went.{Went, wentOf, tableAt, Sane}
+use Rattle.reader_state.specs.Went.{Went, lineIn, wentOf, tableAt, Sane}
 use Rattle.reader_state.specs.Parts.{begun}
+use Rattle.reader_places.specs.Places.{longestIn, bondsOwed}
+use Rattle.reader_places.specs.declared.Place.{Place}
 use Rattle.reader_line.specs.declared.Notes.{Notes}
 use Rattle.reader_line.specs.declared.Taken.{Taken}
 use Rattle.reader_walk.specs.declared.Walked.{Walked}
-use Rattle.reader_pairs.specs.Keys.{keyOf, AllSmall, taken-keys}
+use Rattle.reader_pairs.specs.Keys.{keyOf, keysOf, SmallEnds, AllSmall, taken-keys}
 use Rattle.reader_walk.specs.Outcome.{whole, refused, outcomeOf, recordFrom, from-next, from-done, from-bad, outcome-from, mol-open}
 use Rattle.reader_line.specs.Took.{noNotes, bondBack, countsBack, headedAt, endedAt, atomMore, bondMore, takenBy, atomsBy, Ready, Took}
-use Rattle.reader_walk.specs.Stands.{isSd, kindOf, placeOf, Counted, Stands}
+use Rattle.reader_walk.specs.Asked.{withOwn, askedAt, askedFrom, askedOf, comparedOf, asked-next, asked-done, asked-bad, asked-start, compared-is, none-own, once-takes}
+use Rattle.reader_walk.specs.Stands.{isSd, kindOf, placeOf, bondsIn, Counted, Stands}
 use Rattle.reader_walk.specs.Follow.{Onto, Stored, Pending, Closed, Goes, follow}
 use Rattle.reader_walk.specs.Walked.{itemsEnd, walkedBy, walkOf, Beside, HeldBy, Left}
 
@@ -77,6 +82,9 @@ pub record Walking (sd : Bool) (s : Bytes) (ta₀ tb₀ : List ℤ) (r : Reader)
   pub listed-size : length t ≡ 3 * places
   pub atoms-beside : Beside atomPlaces ta₀ ta
   pub bonds-beside : Beside bondPlaces tb₀ tb
+  pub few-read : m .bonds ≤ limit
+  pub once : NoPairTwice (bondsIn p)
+  pub asks : askedOf (kindOf sd) s ≡ askedFrom (kindOf sd) p (cut (drop at s) .lines)
   pub same : outcomeOf (kindOf sd) s ≡ recordFrom (kindOf sd) p i (cut (drop at s) .lines) (cut (drop at s) .rest)
 
 sd-kind : (sd : Bool) → sd ≡ isSd (kindOf sd)
@@ -85,7 +93,7 @@ sd-kind false = refl
 
 pub walking-start : (sd : Bool) (s : Bytes) (r : Reader) (m : Notes) (t keys : List ℕ) (ta tb : List ℤ) → r ≡ begun sd → m ≡ noNotes → atomPlaces ≤ length ta → bondPlaces ≤ length tb → length keys ≡ limit →
     length t ≡ 3 * places → length s * 1 < 2 ^ 63 → Walking sd s ta tb r m 0 1 t keys ta tb
-unfolding rawRows bondRows AllSmall
+unfolding rawRows bondRows AllSmall NoPairTwice
 walking-start sd s r m t keys ta tb e em ra rb rk rt few =
     rw (e, em)
     (record {
@@ -111,6 +119,9 @@ walking-start sd s r m t keys ta tb e em ra rb rk rt few =
       listed-size = rt;
       atoms-beside = record { room = ra; size = refl; past = refl };
       bonds-beside = record { room = rb; size = refl; past = refl };
+      few-read = omega arith;
+      once = tt;
+      asks = asked-start (kindOf sd) s;
       same = outcome-from (kindOf sd) s;
     })
 
@@ -136,6 +147,12 @@ walking-sane sd s ta₀ tb₀ r m at i t keys ta tb g =
     owing (items mol is) c na nb = tt
     owing (values mol is name vs) c na nb = tt
 
+-- where the bonds read are all that came to the comparison, all their pairs are compared
+pub read-compared : (sd : Bool) (s : Bytes) (ta₀ tb₀ : List ℤ) (r : Reader) (m : Notes) (at i : ℕ) (t keys : List ℕ) (ta tb : List ℤ)
+    (g : Walking sd s ta₀ tb₀ r m at i t keys ta tb) → askedOf (kindOf sd) s ≡ bondsIn (g .p) → (v : ℕ) → v ≡ triangle (m .bonds) → v ≡ comparedOf (kindOf sd) s
+read-compared sd s ta₀ tb₀ r m at i t keys ta tb g e v h =
+    h ∙ ap triangle (g .stands .rows .bonds) ∙ sym (compared-is (kindOf sd) s (bondsIn (g .p)) e ∙ apart (bondsIn (g .p)) (g .once))
+
 -- ---- A bond line that is good but for its pair
 
 -- r and t are the state and the table of listed numbers after it, the others are as before it; the next line starts at n
@@ -148,11 +165,36 @@ pub record Bonding (sd : Bool) (s : Bytes) (r : Reader) (m : Notes) (n i : ℕ) 
   pub key-is : elem (keyOf (bondIs b)) (take (m .bonds) keys) ≡ pairTaken (bondIs b) bs
   pub lines : i + 1 ≤ n + 1
   pub inside : n ≤ length s
+  pub count : m .bonds ≡ length bs
+  pub bond-keys : take (length bs) keys ≡ keysOf bs
+  pub small : AllSmall bs
+  pub ends : SmallEnds (bondIs b)
+  pub once : NoPairTwice bs
+  pub asks : pairTaken (bondIs b) bs ≡ true → askedOf (kindOf sd) s ≡ bs ++ (bondIs b ∷ [])
   pub taken : pairTaken (bondIs b) bs ≡ true → outcomeOf (kindOf sd) s ≡ refused 11 i 1
   pub free : pairTaken (bondIs b) bs ≡ false → (ta₀ tb₀ : List ℤ) → Beside atomPlaces ta₀ ta → Beside bondPlaces tb₀ (sets tb (6 * (m .bonds)) (bondNumbers (bondIs b))) →
       Walking sd s ta₀ tb₀ r (bondMore m) n (i + 1) t (set keys (m .bonds) (keyOf (bondIs b))) ta (sets tb (6 * (m .bonds)) (bondNumbers (bondIs b)))
 
 -- ---- A line
+
+-- the bonds of a record that is done are the bonds read
+abbrev DoneBonds : J.Place → J.Turn → Type 0
+DoneBonds p (next q) = Unit {0}
+DoneBonds p (J.done x) = bondsIn p ≡ x .molecule .bonds
+
+done-bonds : {kind : J.FileKind} {p : J.Place} {l : Line} {t : J.Turn} → Takes kind limit p l t → DoneBonds p t
+done-bonds (Takes.first-header h) = tt
+done-bonds (Takes.second-header h) = tt
+done-bonds (Takes.third-header h) = tt
+done-bonds (Takes.counts-line h) = tt
+done-bonds (Takes.atom-line h) = tt
+done-bonds (Takes.bond-line h new) = tt
+done-bonds (Takes.property-line h new) = tt
+done-bonds (Takes.end-line h) = tt
+done-bonds (Takes.data-header h) = tt
+done-bonds (Takes.record-end h) = refl
+done-bonds (Takes.value-line h) = tt
+done-bonds (Takes.blank-line h) = tt
 
 abbrev pub part : Bytes → ℕ → ℕ → Line
 part s at e = take (e - at) (drop at s)
@@ -168,7 +210,10 @@ module _ (sd : Bool) (s : Bytes) (ta₀ tb₀ : List ℤ) (r : Reader) (m : Note
   split : outcomeOf (kindOf sd) s ≡ recordFrom (kindOf sd) (g .p) i (part s at e ∷ (cut (drop n s) .lines)) (cut (drop n s) .rest)
   split = g .same ∙ ap (λ (c : Cut). recordFrom (kindOf sd) (g .p) i (c .lines) (c .rest)) (line-cut s at e n l)
 
-  goes : Goes (kindOf sd) s i n r m (tableAt r (r .place) t (part s at e)) keys ta tb
+  asked-split : askedOf (kindOf sd) s ≡ askedFrom (kindOf sd) (g .p) (part s at e ∷ (cut (drop n s) .lines))
+  asked-split = g .asks ∙ ap (λ (c : Cut). askedFrom (kindOf sd) (g .p) (c .lines)) (line-cut s at e n l)
+
+  goes : Goes (kindOf sd) s i n (g .p) (part s at e) r m (tableAt r (r .place) t (part s at e)) keys ta tb
       (wentOf r t (part s at e)) (turnOf (kindOf sd) limit (g .p) (part s at e))
   goes =
       follow (kindOf sd) s m t keys ta tb i n (part s at e) r (g .p) (g .stands)
@@ -176,9 +221,9 @@ module _ (sd : Bool) (s : Bytes) (ta₀ tb₀ : List ℤ) (r : Reader) (m : Note
 
   -- the line is taken, and another follows
   onto : (ta₁ tb₁ : List ℤ) (r′ : Reader) (m′ : Notes) (t′ keys′ : List ℕ) (ta′ tb′ : List ℤ) (q : J.Place) →
-      turnOf (kindOf sd) limit (g .p) (part s at e) ≡ got (next q) → Stands (kindOf sd) s r′ m′ t′ keys′ ta′ tb′ (suc i) q → length keys′ ≡ limit → length t′ ≡ 3 * places →
+      turnOf (kindOf sd) limit (g .p) (part s at e) ≡ got (next q) → Stands (kindOf sd) s r′ m′ t′ keys′ ta′ tb′ (suc i) q → length keys′ ≡ limit → length t′ ≡ 3 * places → m′ .bonds ≤ limit →
       Beside atomPlaces ta₁ ta′ → Beside bondPlaces tb₁ tb′ → Walking sd s ta₁ tb₁ r′ m′ n (i + 1) t′ keys′ ta′ tb′
-  onto ta₁ tb₁ r′ m′ t′ keys′ ta′ tb′ q turn st rk rt ba bb =
+  onto ta₁ tb₁ r′ m′ t′ keys′ ta′ tb′ q turn st rk rt few ba bb =
       let w = line-within s at e n l in
       let one : suc i ≡ i + 1 = omega arith in
       record {
@@ -195,6 +240,9 @@ module _ (sd : Bool) (s : Bytes) (ta₀ tb₀ : List ℤ) (r : Reader) (m : Note
         listed-size = rt;
         atoms-beside = ba;
         bonds-beside = bb;
+        few-read = few;
+        once = once-takes (kindOf sd) (turn-takes (kindOf sd) limit (g .p) (part s at e) (next q) turn) (g .once);
+        asks = asked-split ∙ asked-next (kindOf sd) (g .p) q (part s at e) (cut (drop n s) .lines) turn;
         same =
             split
             ∙ from-next (kindOf sd) (g .p) q i (part s at e) (cut (drop n s) .lines) (cut (drop n s) .rest) turn
@@ -202,11 +250,11 @@ module _ (sd : Bool) (s : Bytes) (ta₀ tb₀ : List ℤ) (r : Reader) (m : Note
       }
 
   -- the state and the tables after a line that is not a bond's
-  moved : (r′ r₂ : Reader) (m′ m₂ : Notes) (t′ : List ℕ) (ta′ ta₂ : List ℤ) → r′ ≡ r₂ → m′ ≡ m₂ → length t′ ≡ 3 * places → t′ ≡ tableAt r (r .place) t (part s at e) → ta′ ≡ ta₂ → Beside atomPlaces ta₀ ta₂ →
+  moved : (r′ r₂ : Reader) (m′ m₂ : Notes) (t′ : List ℕ) (ta′ ta₂ : List ℤ) → r′ ≡ r₂ → m′ ≡ m₂ → length t′ ≡ 3 * places → t′ ≡ tableAt r (r .place) t (part s at e) → ta′ ≡ ta₂ → m₂ .bonds ≤ limit → Beside atomPlaces ta₀ ta₂ →
       Onto (kindOf sd) s i keys tb r₂ m₂ (tableAt r (r .place) t (part s at e)) ta₂ (turnOf (kindOf sd) limit (g .p) (part s at e)) →
       Walking sd s ta₀ tb₀ r′ m′ n (i + 1) t′ keys ta′ tb
-  moved r′ r₂ m′ m₂ t′ ta′ ta₂ er em rt et ea ba o =
-      rw (er, em, et, ea) (onto ta₀ tb₀ r₂ m₂ (tableAt r (r .place) t (part s at e)) keys ta₂ tb (o .0) (o .1) (o .2) (g .key-room) (subst (λ (u : List ℕ). length u ≡ 3 * places) et rt) ba (g .bonds-beside))
+  moved r′ r₂ m′ m₂ t′ ta′ ta₂ er em rt et ea few ba o =
+      rw (er, em, et, ea) (onto ta₀ tb₀ r₂ m₂ (tableAt r (r .place) t (part s at e)) keys ta₂ tb (o .0) (o .1) (o .2) (g .key-room) (subst (λ (u : List ℕ). length u ≡ 3 * places) et rt) few ba (g .bonds-beside))
 
   row-beside : (a : R.Atom) → m .atoms < limit → Beside atomPlaces ta₀ (sets ta (16 * (m .atoms)) (rawRow a))
   row-beside a few =
@@ -220,17 +268,17 @@ module _ (sd : Bool) (s : Bytes) (ta₀ tb₀ : List ℤ) (r : Reader) (m : Note
   walking-next x r′ m′ t′ ta′ k q = go (wentOf r t (part s at e)) refl (sym q ∙ k .answer) (k .rows) goes
     where
       go : (w : Got Went) → wentOf r t (part s at e) ≡ w → Taken.Next r′ m′ ≡ takenBy m n w → ta′ ≡ atomsBy m w ta →
-          Goes (kindOf sd) s i n r m (tableAt r (r .place) t (part s at e)) keys ta tb w (turnOf (kindOf sd) limit (g .p) (part s at e)) →
+          Goes (kindOf sd) s i n (g .p) (part s at e) r m (tableAt r (r .place) t (part s at e)) keys ta tb w (turnOf (kindOf sd) limit (g .p) (part s at e)) →
           Walking sd s ta₀ tb₀ r′ m′ n (i + 1) t′ keys ta′ tb
-      go (got (W.on r₂)) ew h ea o = moved r′ r₂ m′ m t′ ta′ ta (cc) (cc) (k .size) (k .kept .kept (W.on r₂) ew) ea (g .atoms-beside) o
-      go (got (W.headed r₂)) ew h ea o = moved r′ r₂ m′ (headedAt m n) t′ ta′ ta (cc) (cc) (k .size) (k .kept .kept (W.headed r₂) ew) ea (g .atoms-beside) o
+      go (got (W.on r₂)) ew h ea o = moved r′ r₂ m′ m t′ ta′ ta (cc) (cc) (k .size) (k .kept .kept (W.on r₂) ew) ea (g .few-read) (g .atoms-beside) o
+      go (got (W.headed r₂)) ew h ea o = moved r′ r₂ m′ (headedAt m n) t′ ta′ ta (cc) (cc) (k .size) (k .kept .kept (W.headed r₂) ew) ea (g .few-read) (g .atoms-beside) o
       go (got (W.atom r₂ a)) ew h ea o =
-          moved r′ r₂ m′ (atomMore m) t′ ta′ (sets ta (16 * (m .atoms)) (rawRow a)) (cc) (cc) (k .size) (k .kept .kept (W.atom r₂ a) ew) ea (row-beside a (o .few)) (o .onto)
+          moved r′ r₂ m′ (atomMore m) t′ ta′ (sets ta (16 * (m .atoms)) (rawRow a)) (cc) (cc) (k .size) (k .kept .kept (W.atom r₂ a) ew) ea (g .few-read) (row-beside a (o .few)) (o .onto)
       go (got (W.bond r₂ b)) ew h ea o = absurd (let z : _≡_ {A = ℕ} 0 1 = cc in omega arith)
-      go (got (W.ended r₂)) ew h ea o = moved r′ r₂ m′ (endedAt m n) t′ ta′ ta (cc) (cc) (k .size) (k .kept .kept (W.ended r₂) ew) ea (g .atoms-beside) o
-      go (got (W.title r₂ name)) ew h ea o = moved r′ r₂ m′ m t′ ta′ ta (cc) (cc) (k .size) (k .kept .kept (W.title r₂ name) ew) ea (g .atoms-beside) o
-      go (got (W.value r₂)) ew h ea o = moved r′ r₂ m′ m t′ ta′ ta (cc) (cc) (k .size) (k .kept .kept (W.value r₂) ew) ea (g .atoms-beside) o
-      go (got (W.blank r₂)) ew h ea o = moved r′ r₂ m′ m t′ ta′ ta (cc) (cc) (k .size) (k .kept .kept (W.blank r₂) ew) ea (g .atoms-beside) o
+      go (got (W.ended r₂)) ew h ea o = moved r′ r₂ m′ (endedAt m n) t′ ta′ ta (cc) (cc) (k .size) (k .kept .kept (W.ended r₂) ew) ea (g .few-read) (g .atoms-beside) o
+      go (got (W.title r₂ name)) ew h ea o = moved r′ r₂ m′ m t′ ta′ ta (cc) (cc) (k .size) (k .kept .kept (W.title r₂ name) ew) ea (g .few-read) (g .atoms-beside) o
+      go (got (W.value r₂)) ew h ea o = moved r′ r₂ m′ m t′ ta′ ta (cc) (cc) (k .size) (k .kept .kept (W.value r₂) ew) ea (g .few-read) (g .atoms-beside) o
+      go (got (W.blank r₂)) ew h ea o = moved r′ r₂ m′ m t′ ta′ ta (cc) (cc) (k .size) (k .kept .kept (W.blank r₂) ew) ea (g .few-read) (g .atoms-beside) o
       go (got W.done) ew h ea o = absurd (let z : _≡_ {A = ℕ} 0 1 = cc in omega arith)
       go (bad c column) ew h ea o = absurd (let z : _≡_ {A = ℕ} 0 1 = cc in omega arith)
 
@@ -240,7 +288,7 @@ module _ (sd : Bool) (s : Bytes) (ta₀ tb₀ : List ℤ) (r : Reader) (m : Note
         sane = walking-sane sd s ta₀ tb₀ r m at i t keys ta tb g;
         room = omega (arith, g .atoms-beside .room, g .atoms-beside .size);
         size = g .listed-size;
-        fits = λ r′ a q. fits r′ a (subst (λ (w : Got Went). Goes (kindOf sd) s i n r m (tableAt r (r .place) t (part s at e)) keys ta tb w (turnOf (kindOf sd) limit (g .p) (part s at e))) q goes);
+        fits = λ r′ a q. fits r′ a (subst (λ (w : Got Went). Goes (kindOf sd) s i n (g .p) (part s at e) r m (tableAt r (r .place) t (part s at e)) keys ta tb w (turnOf (kindOf sd) limit (g .p) (part s at e))) q goes);
       }
     where
       fits : (r′ : Reader) (a : R.Atom) → Stored (kindOf sd) s i keys tb r′ m (tableAt r (r .place) t (part s at e)) ta a (turnOf (kindOf sd) limit (g .p) (part s at e)) →
@@ -250,28 +298,59 @@ module _ (sd : Bool) (s : Bytes) (ta₀ tb₀ : List ℤ) (r : Reader) (m : Note
   -- ---- The line is refused
 
   module _ (x : Taken) (t′ : List ℕ) (ta′ : List ℤ) (k : Took r m n t ta (part s at e) x t′ ta′) (c column : ℕ) (q : x ≡ Taken.Refused c column) where
-    stopped : outcomeOf (kindOf sd) s ≡ refused c i column
-    stopped = go (wentOf r t (part s at e)) (sym q ∙ k .answer) goes
+    record Off : Type 0 where
+      went : wentOf r t (part s at e) ≡ bad c column
+      turn : turnOf (kindOf sd) limit (g .p) (part s at e) ≡ bad c column
+
+    off : Off
+    off = go (wentOf r t (part s at e)) refl (sym q ∙ k .answer) goes
       where
-        go : (w : Got Went) → Taken.Refused c column ≡ takenBy m n w →
-            Goes (kindOf sd) s i n r m (tableAt r (r .place) t (part s at e)) keys ta tb w (turnOf (kindOf sd) limit (g .p) (part s at e)) → outcomeOf (kindOf sd) s ≡ refused c i column
-        go (got (W.on r₂)) h o = absurd (let z : _≡_ {A = ℕ} 0 1 = cc in omega arith)
-        go (got (W.headed r₂)) h o = absurd (let z : _≡_ {A = ℕ} 0 1 = cc in omega arith)
-        go (got (W.atom r₂ a)) h o = absurd (let z : _≡_ {A = ℕ} 0 1 = cc in omega arith)
-        go (got (W.bond r₂ b)) h o = absurd (let z : _≡_ {A = ℕ} 0 1 = cc in omega arith)
-        go (got (W.ended r₂)) h o = absurd (let z : _≡_ {A = ℕ} 0 1 = cc in omega arith)
-        go (got (W.title r₂ name)) h o = absurd (let z : _≡_ {A = ℕ} 0 1 = cc in omega arith)
-        go (got (W.value r₂)) h o = absurd (let z : _≡_ {A = ℕ} 0 1 = cc in omega arith)
-        go (got (W.blank r₂)) h o = absurd (let z : _≡_ {A = ℕ} 0 1 = cc in omega arith)
-        go (got W.done) h o = absurd (let z : _≡_ {A = ℕ} 0 1 = cc in omega arith)
-        go (bad c₂ column₂) h o =
+        go : (w : Got Went) → wentOf r t (part s at e) ≡ w → Taken.Refused c column ≡ takenBy m n w →
+            Goes (kindOf sd) s i n (g .p) (part s at e) r m (tableAt r (r .place) t (part s at e)) keys ta tb w (turnOf (kindOf sd) limit (g .p) (part s at e)) → Off
+        go (got (W.on r₂)) ew h o = absurd (let z : _≡_ {A = ℕ} 0 1 = cc in omega arith)
+        go (got (W.headed r₂)) ew h o = absurd (let z : _≡_ {A = ℕ} 0 1 = cc in omega arith)
+        go (got (W.atom r₂ a)) ew h o = absurd (let z : _≡_ {A = ℕ} 0 1 = cc in omega arith)
+        go (got (W.bond r₂ b)) ew h o = absurd (let z : _≡_ {A = ℕ} 0 1 = cc in omega arith)
+        go (got (W.ended r₂)) ew h o = absurd (let z : _≡_ {A = ℕ} 0 1 = cc in omega arith)
+        go (got (W.title r₂ name)) ew h o = absurd (let z : _≡_ {A = ℕ} 0 1 = cc in omega arith)
+        go (got (W.value r₂)) ew h o = absurd (let z : _≡_ {A = ℕ} 0 1 = cc in omega arith)
+        go (got (W.blank r₂)) ew h o = absurd (let z : _≡_ {A = ℕ} 0 1 = cc in omega arith)
+        go (got W.done) ew h o = absurd (let z : _≡_ {A = ℕ} 0 1 = cc in omega arith)
+        go (bad c₂ column₂) ew h o =
             let ec : c₂ ≡ c = cc in
             let el : column₂ ≡ column = cc in
-            split ∙ from-bad (kindOf sd) (g .p) i (part s at e) (cut (drop n s) .lines) (cut (drop n s) .rest) c₂ column₂ o ∙ ap₂ (λ u v. refused u i v) ec el
+            record { went = ew ∙ ap₂ bad ec el; turn = o ∙ ap₂ bad ec el }
 
-    pub walking-refused : Walked.Refused c i column ≡ walkOf (kindOf sd) s
+    stopped : outcomeOf (kindOf sd) s ≡ refused c i column
+    stopped = split ∙ from-bad (kindOf sd) (g .p) i (part s at e) (cut (drop n s) .lines) (cut (drop n s) .rest) c column (off .turn)
+
+    -- its form is wrong, so it brings no bond to the comparison
+    unasked : askedAt (g .p) (part s at e) ≡ bondsIn (g .p)
+    unfolding wentOf lineIn
+    unasked = go (g .p) (g .stands .place) (g .stands .counted)
+      where
+        go : (p : J.Place) → r .place ≡ placeOf p → Counted (r .counts) t p → askedAt p (part s at e) ≡ bondsIn p
+        go first ep d = refl
+        go (second h₁) ep d = refl
+        go (third h₁ h₂) ep d = refl
+        go (counts hs) ep d = refl
+        go (atoms hs x j xs) ep d = refl
+        go (bonds hs x xs j bs) ep d =
+            let ew = sym (ap (λ (u : Place). within (longestIn u) (part s at e) (lineIn r u t (part s at e))) ep) ∙ off .went in
+            ap (λ (y : R.Counts). withOwn bs (within 80 (part s at e) (bondOf (y .atoms) (part s at e)))) (sym (d .0))
+            ∙ none-own 80 (part s at e) bs (bondOf (r .counts .atoms) (part s at e)) (W.bond (W.moved r (bondsOwed (suc j - 1)))) c column ew
+        go (properties hs x xs bs ps) ep d = refl
+        go (over mol) ep d = refl
+        go (items mol is) ep d = refl
+        go (values mol is name vs) ep d = refl
+
+    pub refused-compared : (v : ℕ) → v ≡ triangle (m .bonds) → v ≡ comparedOf (kindOf sd) s
+    refused-compared =
+        read-compared sd s ta₀ tb₀ r m at i t keys ta tb g (asked-split ∙ asked-bad (kindOf sd) (g .p) (part s at e) (cut (drop n s) .lines) c column (off .turn) ∙ unasked)
+
+    pub walking-refused : (w : Walked) → w ≡ Walked.Refused c i column → w ≡ walkOf (kindOf sd) s
     unfolding walkOf
-    walking-refused = sym (ap (walkedBy (kindOf sd) s) stopped)
+    walking-refused w ew = ew ∙ sym (ap (walkedBy (kindOf sd) s) stopped)
 
     pub refused-left : Left ta₀ ta′ tb₀ tb t′ (outcomeOf (kindOf sd) s)
     refused-left =
@@ -307,7 +386,7 @@ module _ (sd : Bool) (s : Bytes) (ta₀ tb₀ : List ℤ) (r : Reader) (m : Note
     finished-over = go (wentOf r t (part s at e)) refl (sym q ∙ k .answer) (k .rows) goes
       where
         go : (w : Got Went) → wentOf r t (part s at e) ≡ w → Taken.Done ≡ takenBy m n w → ta′ ≡ atomsBy m w ta →
-            Goes (kindOf sd) s i n r m (tableAt r (r .place) t (part s at e)) keys ta tb w (turnOf (kindOf sd) limit (g .p) (part s at e)) → Over
+            Goes (kindOf sd) s i n (g .p) (part s at e) r m (tableAt r (r .place) t (part s at e)) keys ta tb w (turnOf (kindOf sd) limit (g .p) (part s at e)) → Over
         go (got (W.on r₂)) ew h ea o = absurd (let z : _≡_ {A = ℕ} 0 1 = cc in omega arith)
         go (got (W.headed r₂)) ew h ea o = absurd (let z : _≡_ {A = ℕ} 0 1 = cc in omega arith)
         go (got (W.atom r₂ a)) ew h ea o = absurd (let z : _≡_ {A = ℕ} 0 1 = cc in omega arith)
@@ -340,6 +419,13 @@ module _ (sd : Bool) (s : Bytes) (ta₀ tb₀ : List ℤ) (r : Reader) (m : Note
         whole-same : {c c′ : Counts} {u u′ h h′ v v′ w w′ : ℕ} → c ≡ c′ → u ≡ u′ → h ≡ h′ → v ≡ v′ → w ≡ w′ → Walked.Whole c u i h v w ≡ Walked.Whole c′ u′ i h′ v′ w′
         whole-same a b c d f = cc
 
+    pub done-compared : (v : ℕ) → v ≡ triangle (m .bonds) → v ≡ comparedOf (kindOf sd) s
+    done-compared =
+        let o = finished-over in
+        read-compared sd s ta₀ tb₀ r m at i t keys ta tb g
+        (asked-split ∙ asked-done (kindOf sd) (g .p) (o .y) (part s at e) (cut (drop n s) .lines) (o .turn)
+        ∙ sym (done-bonds (turn-takes (kindOf sd) limit (g .p) (part s at e) (J.done (o .y)) (o .turn))))
+
     pub done-left : Left ta₀ ta′ tb₀ tb t′ (outcomeOf (kindOf sd) s)
     done-left =
         let o = finished-over in
@@ -355,14 +441,14 @@ module _ (sd : Bool) (s : Bytes) (ta₀ tb₀ : List ℤ) (r : Reader) (m : Note
 
   module _ (x : Taken) (r′ : Reader) (b : Bond) (t′ : List ℕ) (ta′ : List ℤ) (k : Took r m n t ta (part s at e) x t′ ta′) (q : x ≡ Taken.Bond r′ b) where
     record Pended : Type 0 where
-      pending : Pending (kindOf sd) s i keys tb r′ m t′ ta (bondIs b) (turnOf (kindOf sd) limit (g .p) (part s at e))
+      pending : Pending (kindOf sd) s i (g .p) (part s at e) keys tb r′ m t′ ta (bondIs b) (turnOf (kindOf sd) limit (g .p) (part s at e))
       same : ta′ ≡ ta
 
     pended : Pended
     pended = go (wentOf r t (part s at e)) refl (sym q ∙ k .answer) (k .rows) goes
       where
         go : (w : Got Went) → wentOf r t (part s at e) ≡ w → Taken.Bond r′ b ≡ takenBy m n w → ta′ ≡ atomsBy m w ta →
-            Goes (kindOf sd) s i n r m (tableAt r (r .place) t (part s at e)) keys ta tb w (turnOf (kindOf sd) limit (g .p) (part s at e)) → Pended
+            Goes (kindOf sd) s i n (g .p) (part s at e) r m (tableAt r (r .place) t (part s at e)) keys ta tb w (turnOf (kindOf sd) limit (g .p) (part s at e)) → Pended
         go (got (W.on r₂)) ew h ea o = absurd (let z : _≡_ {A = ℕ} 0 1 = cc in omega arith)
         go (got (W.headed r₂)) ew h ea o = absurd (let z : _≡_ {A = ℕ} 0 1 = cc in omega arith)
         go (got (W.atom r₂ a)) ew h ea o = absurd (let z : _≡_ {A = ℕ} 0 1 = cc in omega arith)
@@ -391,6 +477,12 @@ module _ (sd : Bool) (s : Bytes) (ta₀ tb₀ : List ℤ) (r : Reader) (m : Note
           bs = o .bs;
           few = omega (arith, o .count, o .few);
           fits = o .fits;
+          count = o .count;
+          bond-keys = o .bond-keys;
+          small = o .small;
+          ends = o .ends;
+          once = subst NoPairTwice (sym (o .read)) (g .once);
+          asks = λ h. asked-split ∙ asked-bad (kindOf sd) (g .p) (part s at e) (cut (drop n s) .lines) 11 1 (o .taken h) ∙ o .own;
           key-room = g .key-room;
           listed-size = k .size;
           key-is =
@@ -403,7 +495,7 @@ module _ (sd : Bool) (s : Bytes) (ta₀ tb₀ : List ℤ) (r : Reader) (m : Note
           free = λ h ta₁ tb₁ ba bb.
               let f = o .free h in
               onto ta₁ tb₁ r′ (bondMore m) t′ (set keys (m .bonds) (keyOf (bondIs b))) ta (sets tb (6 * (m .bonds)) (bondNumbers (bondIs b))) (f .0) (f .1) (f .2)
-              (length-set keys (m .bonds) (keyOf (bondIs b)) ∙ g .key-room) (k .size) ba bb;
+              (length-set keys (m .bonds) (keyOf (bondIs b)) ∙ g .key-room) (k .size) (omega (arith, o .count, o .few)) ba bb;
         })
 
     pub bond-beside : Beside atomPlaces ta₀ ta′
@@ -452,6 +544,9 @@ module _ (sd : Bool) (s : Bytes) (ta₀ tb₀ : List ℤ) (r : Reader) (m : Note
   pub took-size : (n : ℕ) (l : Line) (x : Taken) (t′ : List ℕ) (ta′ : List ℤ) → Took r m n t ta l x t′ ta′ → length ta′ ≡ length ta₀
   took-size n l x t′ ta′ k = ap length (k .rows) ∙ atoms-length m (wentOf r t l) ta ∙ g .atoms-beside .size
 
+  pub bonds-few : m .bonds ≤ limit
+  bonds-few = g .few-read
+
   pub fits-next : Fits w64 (i + 1)
   fits-next = record { fits = omega (arith, g .lines, g .inside, g .bytes) }
 
@@ -464,8 +559,10 @@ pub ruleset line-laws = (
   walking-next,
   walking-less,
   walking-refused,
+  refused-compared,
   refused-left,
   walking-done,
+  done-compared,
   done-left,
   bond-beside,
   atoms-size,
@@ -473,5 +570,6 @@ pub ruleset line-laws = (
   bonds-size,
   keys-size,
   took-size,
+  bonds-few,
   fits-next,
 )

@@ -1,11 +1,13 @@
 // One record from the front of a text.
 ghost use mathlib.Core.Path.{_≡_};
-ghost use Prim.Native.Nat.{_*_, _≤_};
+ghost use Prim.Native.Nat.{_+_, _-_, _*_, _≤_};
 ghost use lib.ListN.{length};
 ghost use Rattle.rules.specs.Record.{limit, atomPlaces, bondPlaces};
+ghost use Rattle.judge_pairs.specs.Compared.{triangle};
 ghost use Rattle.line_property.specs.Listed.{places};
 ghost use Rattle.reader_state.specs.Parts.{finished};
 ghost use Rattle.reader_walk.specs.Outcome.{outcomeOf};
+ghost use Rattle.reader_walk.specs.Asked.{comparedOf};
 ghost use Rattle.reader_walk.specs.Stands.{kindOf};
 ghost use Rattle.reader_walk.specs.Walked.{walkOf, Left};
 ghost use Rattle.reader_walk.specs.AtEnd.{lastOf, endWalked};
@@ -42,18 +44,71 @@ pub enum Walked {
     },
 }
 
-// A record whose `$$$$` line starts at `at`.
-fn closed(reader: Reader, notes: Notes, at: usize, line: usize, next: usize) -> Walked
-    ensures { λ r. ⌜ r ≡ Walked.Whole (reader .counts) next line (notes .«header_end») (notes .«items_start») at ⌝ }
+// The same, and how many pairs of bonds the rule against repeated pairs calls for. None is counted: each exit of the walk computes it.
+pub struct Counted {
+    pub walked: Walked,
+    pub compared: usize,
+}
+
+// All pairs of so many bonds.
+fn pairs_of(count: usize) -> usize
+    requires { ⌜ count ≤ limit ⌝ }
+    ensures { λ r. ⌜ r ≡ triangle count ⌝ }
 {
+    if count < 2 {
+        return 0;
+    }
+    count * (count - 1) / 2
+}
+
+// A line refused for another reason than its pair.
+fn stopped(notes: Notes, no: u8, line: usize, column: usize) -> Counted
+    requires { ⌜ notes .bonds ≤ limit ⌝ }
+    ensures { λ r. ⌜ r .walked ≡ Walked.Refused no line column ⌝ }
+    ensures { λ r. ⌜ r .compared ≡ triangle (notes .bonds) ⌝ }
+{
+    let compared = pairs_of(notes.bonds);
+    Counted {
+        walked: Walked::Refused { no, line, column },
+        compared,
+    }
+}
+
+// A bond that repeats a pair: all pairs of the bonds before it, and those of its own up to the earlier bond.
+fn repeated(repeat: Repeat) -> Counted
+    requires { ⌜ (1 ≤ repeat .earlier) × (repeat .earlier ≤ limit) × (1 ≤ repeat .later) × (repeat .later ≤ limit) ⌝ }
+    ensures { λ r. ⌜ r .walked ≡ Walked.Refused 11 (repeat .line) 1 ⌝ }
+    ensures { λ r. ⌜ r .compared ≡ triangle (repeat .later - 1) + repeat .earlier ⌝ }
+{
+    let compared = pairs_of(repeat.later - 1) + repeat.earlier;
+    Counted {
+        walked: Walked::Refused {
+            no: 11,
+            line: repeat.line,
+            column: 1,
+        },
+        compared,
+    }
+}
+
+// A record whose `$$$$` line starts at `at`.
+fn closed(reader: Reader, notes: Notes, at: usize, line: usize, next: usize) -> Counted
+    requires { ⌜ notes .bonds ≤ limit ⌝ }
+    ensures { λ r. ⌜ r .walked ≡ Walked.Whole (reader .counts) next line (notes .«header_end») (notes .«items_start») at ⌝ }
+    ensures { λ r. ⌜ r .compared ≡ triangle (notes .bonds) ⌝ }
+{
+    let compared = pairs_of(notes.bonds);
     let counts = reader.counts;
-    Walked::Whole {
-        counts,
-        length: next,
-        lines: line,
-        header_end: notes.header_end,
-        items_start: notes.items_start,
-        items_end: at,
+    Counted {
+        walked: Walked::Whole {
+            counts,
+            length: next,
+            lines: line,
+            header_end: notes.header_end,
+            items_start: notes.items_start,
+            items_end: at,
+        },
+        compared,
     }
 }
 
@@ -95,17 +150,29 @@ fn end_walk(left: usize, reader: Reader, notes: Notes, at: usize, line: usize) -
     }
 }
 
-// The lines of one record, with lent room for the keys of pairs. The walk over them is left by its label where a bond joins a pair that an earlier bond joins.
-pub fn walk_lines(
+// The same, with what was compared before it.
+fn ended(left: usize, reader: Reader, notes: Notes, at: usize, line: usize) -> Counted
+    requires { ⌜ (1 ≤ line) × (notes .bonds ≤ limit) ⌝ }
+    ensures { λ r. ⌜ r .walked ≡ endWalked left reader notes at line (finished reader) ⌝ }
+    ensures { λ r. ⌜ r .compared ≡ triangle (notes .bonds) ⌝ }
+{
+    let compared = pairs_of(notes.bonds);
+    let walked = end_walk(left, reader, notes, at, line);
+    Counted { walked, compared }
+}
+
+// The lines of one record. The walk over them is left by its label where a bond joins a pair that an earlier bond joins.
+fn walk_lines(
     sd: bool,
     s: &[u8],
     atoms: &mut [i32],
     bonds: &mut [i32],
     listed: &mut [u32; LISTED],
     keys: &mut [u32; KEYS],
-) -> Walked
+) -> Counted
     requires { ⌜ (atomPlaces ≤ length (now atoms)) × (bondPlaces ≤ length (now bonds)) × (length (now listed) ≡ 3 * places) × (length (now keys) ≡ limit) ⌝ }
-    ensures { λ r. ⌜ r ≡ walkOf (kindOf sd) (now (s .entry)) ⌝ }
+    ensures { λ r. ⌜ r .walked ≡ walkOf (kindOf sd) (now (s .entry)) ⌝ }
+    ensures { λ r. ⌜ r .compared ≡ comparedOf (kindOf sd) (now (s .entry)) ⌝ }
     ensures { λ r. ⌜ Left (now (atoms .entry)) (now (atoms .exit)) (now (bonds .entry)) (now (bonds .exit)) (now (listed .exit)) (outcomeOf (kindOf sd) (now (s .entry))) ⌝ }
     ensures { λ r. ⌜ length (now (keys .exit)) ≡ limit ⌝ }
 {
@@ -115,7 +182,7 @@ pub fn walk_lines(
     let mut line: usize = 1;
     let repeat = 'walk: loop {
         let LineAt::Line { end, next } = text::line_at(s, at) else {
-            return end_walk(s.len() - at, reader, notes, at, line);
+            return ended(s.len() - at, reader, notes, at, line);
         };
         match reader_line::take_line(reader, notes, &s[at..end], next, atoms, listed) {
             Taken::Next(r, m) => {
@@ -147,18 +214,49 @@ pub fn walk_lines(
                 return closed(reader, notes, at, line, next);
             }
             Taken::Refused { no, column } => {
-                return Walked::Refused { no, line, column };
+                return stopped(notes, no, line, column);
             }
         }
     };
-    Walked::Refused {
-        no: 11,
-        line: repeat.line,
-        column: 1,
-    }
+    repeated(repeat)
 }
 
 // One record from the front of a text: for an SDfile up to its `$$$$` line, whatever follows; for a molfile the whole text.
+pub fn walk_counted(
+    sd: bool,
+    s: &[u8],
+    atoms: &mut [i32],
+    bonds: &mut [i32],
+    listed: &mut [u32; LISTED],
+) -> Counted
+    requires { ⌜ (atomPlaces ≤ length (now atoms)) × (bondPlaces ≤ length (now bonds)) × (length (now listed) ≡ 3 * places) ⌝ }
+    ensures { λ r. ⌜ r .walked ≡ walkOf (kindOf sd) (now (s .entry)) ⌝ }
+    ensures { λ r. ⌜ r .compared ≡ comparedOf (kindOf sd) (now (s .entry)) ⌝ }
+    ensures { λ r. ⌜ Left (now (atoms .entry)) (now (atoms .exit)) (now (bonds .entry)) (now (bonds .exit)) (now (listed .exit)) (outcomeOf (kindOf sd) (now (s .entry))) ⌝ }
+{
+    let mut keys = [0u32; KEYS];
+    walk_lines(sd, s, atoms, bonds, listed, &mut keys)
+}
+
+// The same without the number of pairs, and with lent room for the keys of pairs: laid once for all records of a file.
+pub fn walk_keyed(
+    sd: bool,
+    s: &[u8],
+    atoms: &mut [i32],
+    bonds: &mut [i32],
+    listed: &mut [u32; LISTED],
+    keys: &mut [u32; KEYS],
+) -> Walked
+    requires { ⌜ (atomPlaces ≤ length (now atoms)) × (bondPlaces ≤ length (now bonds)) × (length (now listed) ≡ 3 * places) × (length (now keys) ≡ limit) ⌝ }
+    ensures { λ r. ⌜ r ≡ walkOf (kindOf sd) (now (s .entry)) ⌝ }
+    ensures { λ r. ⌜ Left (now (atoms .entry)) (now (atoms .exit)) (now (bonds .entry)) (now (bonds .exit)) (now (listed .exit)) (outcomeOf (kindOf sd) (now (s .entry))) ⌝ }
+    ensures { λ r. ⌜ length (now (keys .exit)) ≡ limit ⌝ }
+{
+    let counted = walk_lines(sd, s, atoms, bonds, listed, keys);
+    counted.walked
+}
+
+// The same with room of its own.
 pub fn walk_record(
     sd: bool,
     s: &[u8],
@@ -170,6 +268,6 @@ pub fn walk_record(
     ensures { λ r. ⌜ r ≡ walkOf (kindOf sd) (now (s .entry)) ⌝ }
     ensures { λ r. ⌜ Left (now (atoms .entry)) (now (atoms .exit)) (now (bonds .entry)) (now (bonds .exit)) (now (listed .exit)) (outcomeOf (kindOf sd) (now (s .entry))) ⌝ }
 {
-    let mut keys = [0u32; KEYS];
-    walk_lines(sd, s, atoms, bonds, listed, &mut keys)
+    let counted = walk_counted(sd, s, atoms, bonds, listed);
+    counted.walked
 }

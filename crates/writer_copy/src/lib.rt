@@ -152,7 +152,7 @@ pub fn copy_record(
 ) -> Copied
     ensures { λ r. ⌜ Promise kind (now (s .entry)) (now (atoms .entry)) (now (bonds .entry)) (now (room .entry)) r (now (atoms .exit)) (now (bonds .exit)) (now (room .exit)) ⌝ }
 {
-    let got = reader_record::read_record(kind, s, atoms, bonds);
+    let got = reader_record::read_plain(kind, s, atoms, bonds);
     put_got(got, s, atoms, bonds, room)
 }
 

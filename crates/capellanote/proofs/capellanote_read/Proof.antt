@@ -1,5 +1,5 @@
 -- `capellanote::capellanote_read` meets its contract.
-use Rattle.capellanote.specs.Read.{read-held, read-told}
+use Rattle.capellanote.specs.Read.{read-held, read-told, count-told}
 use borrow.Author.Needs.{needs}
 use Rattle.capellanote.proofs.capellanote_read.Statement.{statement}
 use Rattle.capellanote.proofs.capellanote_read.Tie as tie
@@ -19,8 +19,10 @@ same-length-2 c = search needs
 returns : tie.Need-returns
 returns c =
     let o = c .of-reading .ensures in
-    let q = c .before .before .before .read-record .ensures in
-    (read-held _ _ _ o (q .0), (q .1 .0, (q .1 .1 .0, read-told _ _ _ _ _ _ _ _ o (q .1 .1 .1))))
+    let q = c .before .before .before .read-record .ensures in (
+      read-held _ _ _ _ _ o (q .0) (q .1 .0),
+      (q .1 .1 .0, (q .1 .1 .1 .0, (read-told _ _ _ _ _ _ _ _ _ o (q .1 .1 .1 .1 .0), count-told _ _ _ _ _ _ _ _ _ o (q .1 .1 .1 .1 .0) (q .1 .1 .1 .1 .1)))),
+    )
 
 pub capellanote-read-spec : {M : Type 1} → statement M
 capellanote-read-spec =

@@ -18,17 +18,17 @@ new-requires c κs = search (needs, going-laws)
 loop-holds : tie.Need-loop-holds Inv-loop μ-loop
 loop-holds c = search (needs, going-laws)
 
-sub-walk-lines : tie.Need-sub-walk-lines Inv-loop μ-loop
-sub-walk-lines c = search (needs, going-laws)
+sub-walk-keyed : tie.Need-sub-walk-keyed Inv-loop μ-loop
+sub-walk-keyed c = search (needs, going-laws)
 
-part-walk-lines-start : tie.Need-part-walk-lines-start Inv-loop μ-loop
-part-walk-lines-start c = search (needs, going-laws)
+part-walk-keyed-start : tie.Need-part-walk-keyed-start Inv-loop μ-loop
+part-walk-keyed-start c = search (needs, going-laws)
 
-part-walk-lines-end : tie.Need-part-walk-lines-end Inv-loop μ-loop
-part-walk-lines-end c = search (needs, going-laws)
+part-walk-keyed-end : tie.Need-part-walk-keyed-end Inv-loop μ-loop
+part-walk-keyed-end c = search (needs, going-laws)
 
-walk-lines-requires : tie.Need-walk-lines-requires Inv-loop μ-loop
-walk-lines-requires c κs = search (needs, going-laws)
+walk-keyed-requires : tie.Need-walk-keyed-requires Inv-loop μ-loop
+walk-keyed-requires c κs = search (needs, going-laws)
 
 enum-known-length : tie.Need-enum-known-length Inv-loop μ-loop
 enum-known-length c = search (needs, going-laws)
@@ -74,10 +74,10 @@ walk-records-spec =
     μ-loop
     new-requires
     loop-holds
-    sub-walk-lines
-    part-walk-lines-start
-    part-walk-lines-end
-    walk-lines-requires
+    sub-walk-keyed
+    part-walk-keyed-start
+    part-walk-keyed-end
+    walk-keyed-requires
     enum-known-length
     past-requires
     loop-less

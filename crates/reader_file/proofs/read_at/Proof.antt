@@ -4,17 +4,17 @@ use Rattle.reader_file.specs.Stepping.{step-laws}
 use Rattle.reader_file.proofs.read_at.Statement.{statement}
 use Rattle.reader_file.proofs.read_at.Tie as tie
 
-sub-read-record : tie.Need-sub-read-record
-sub-read-record c = search needs
+sub-read-plain : tie.Need-sub-read-plain
+sub-read-plain c = search needs
 
-part-read-record-start : tie.Need-part-read-record-start
-part-read-record-start c = search needs
+part-read-plain-start : tie.Need-part-read-plain-start
+part-read-plain-start c = search needs
 
-part-read-record-end : tie.Need-part-read-record-end
-part-read-record-end c = search needs
+part-read-plain-end : tie.Need-part-read-plain-end
+part-read-plain-end c = search needs
 
-read-record-requires : tie.Need-read-record-requires
-read-record-requires c κs = search needs
+read-plain-requires : tie.Need-read-plain-requires
+read-plain-requires c κs = search needs
 
 enum-known-n : tie.Need-enum-known-n
 enum-known-n c = search needs
@@ -50,10 +50,10 @@ pub read-at-spec : {M : Type 1} → statement M
 read-at-spec =
     tie.close
     (tie.spec
-    sub-read-record
-    part-read-record-start
-    part-read-record-end
-    read-record-requires
+    sub-read-plain
+    part-read-plain-start
+    part-read-plain-end
+    read-plain-requires
     enum-known-n
     past-requires
     enum-known-no

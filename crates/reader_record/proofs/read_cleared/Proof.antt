@@ -17,7 +17,7 @@ same-length-2 : tie.Need-same-length-2
 same-length-2 c = search (needs, cleared-laws)
 
 returns : tie.Need-returns
-returns c = search (needs, cleared-laws)
+returns c = (search (needs, cleared-laws), (search (needs, cleared-laws), (search (needs, cleared-laws), search (needs, cleared-laws))))
 
 pub read-cleared-spec : {M : Type 1} → statement M
 read-cleared-spec =

@@ -4,17 +4,17 @@ use borrow.Author.Needs.{needs}
 use Rattle.reader_record.proofs.read_front.Statement.{statement}
 use Rattle.reader_record.proofs.read_front.Tie as tie
 
-walk-record-requires : tie.Need-walk-record-requires
-walk-record-requires c κs = search needs
+walk-counted-requires : tie.Need-walk-counted-requires
+walk-counted-requires c κs = search needs
 
-enum-known-counts : tie.Need-enum-known-counts
-enum-known-counts c = search needs
+enum-known-walked : tie.Need-enum-known-walked
+enum-known-walked c = search needs
 
 mean-requires : tie.Need-mean-requires
 mean-requires c κs = search (needs, walked-laws)
 
-enum-known-no : tie.Need-enum-known-no
-enum-known-no c = search needs
+enum-known-walked-2 : tie.Need-enum-known-walked-2
+enum-known-walked-2 c = search needs
 
 same-length : tie.Need-same-length
 same-length c = search needs
@@ -23,7 +23,7 @@ same-length-2 : tie.Need-same-length-2
 same-length-2 c = search needs
 
 returns : tie.Need-returns
-returns c = search (needs, walked-laws)
+returns c = (search (needs, walked-laws), (search (needs, walked-laws), search (needs, walked-laws)))
 
 same-length-3 : tie.Need-same-length-3
 same-length-3 c = search needs
@@ -32,16 +32,16 @@ same-length-4 : tie.Need-same-length-4
 same-length-4 c = search needs
 
 returns-2 : tie.Need-returns-2
-returns-2 c = search (needs, walked-laws)
+returns-2 c = (search (needs, walked-laws), (search (needs, walked-laws), search (needs, walked-laws)))
 
 pub read-front-spec : {M : Type 1} → statement M
 read-front-spec =
     tie.close
     (tie.spec
-    walk-record-requires
-    enum-known-counts
+    walk-counted-requires
+    enum-known-walked
     mean-requires
-    enum-known-no
+    enum-known-walked-2
     same-length
     same-length-2
     returns

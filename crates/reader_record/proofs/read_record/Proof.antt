@@ -1,5 +1,6 @@
 -- `reader_record::read_record` meets its contract.
 use Rattle.reader_record.specs.Promised.{promise-laws}
+use Rattle.reader_record.specs.Counting.{count-kind-laws, count-promise-laws}
 use Rattle.reader_record.specs.Reading.{kind-laws}
 use borrow.Author.Needs.{needs}
 use Rattle.reader_record.proofs.read_record.Statement.{statement}
@@ -15,7 +16,7 @@ same-length-2 : tie.Need-same-length-2
 same-length-2 c = search needs
 
 returns : tie.Need-returns
-returns c = (search kind-laws, (search kind-laws, (search kind-laws, search promise-laws)))
+returns c = (search kind-laws, (search count-kind-laws, (search kind-laws, (search kind-laws, (search promise-laws, search count-promise-laws)))))
 
 read-as-requires-2 : tie.Need-read-as-requires-2
 read-as-requires-2 c κs = search needs
@@ -27,10 +28,13 @@ same-length-4 : tie.Need-same-length-4
 same-length-4 c = search needs
 
 returns-2 : tie.Need-returns-2
-returns-2 c = (search kind-laws, (search kind-laws, (search kind-laws, search promise-laws)))
+returns-2 c = (search kind-laws, (search count-kind-laws, (search kind-laws, (search kind-laws, (search promise-laws, search count-promise-laws)))))
+
+unread-requires : tie.Need-unread-requires
+unread-requires c κs = search needs
 
 returns-3 : tie.Need-returns-3
-returns-3 c = (search kind-laws, (search kind-laws, (search kind-laws, search promise-laws)))
+returns-3 c = (search kind-laws, (search count-kind-laws, (search kind-laws, (search kind-laws, (search promise-laws, search count-promise-laws)))))
 
 pub read-record-spec : {M : Type 1} → statement M
 read-record-spec =
@@ -44,4 +48,5 @@ read-record-spec =
     same-length-3
     same-length-4
     returns-2
+    unread-requires
     returns-3)

@@ -4,7 +4,7 @@ use Prim.Native.Nat.{_-_}
 use lib.ListN.{length}
 use mathlib.Core.Path.{refl}
 use Rattle.reader_walk.specs.Walking.{Walking, line-laws, bonds-room, bonds-size, fits-next, walking-less, bond-beside, took-size}
-use Rattle.reader_walk.specs.Pairing.{Pairing, pair-laws, pairing-start, pairing-keeps, pairing-end, pairing-found, found-left}
+use Rattle.reader_walk.specs.Pairing.{Pairing, pair-laws, pairing-start, pairing-keeps, pairing-end, pairing-found, repeat-fits, found-compared, found-left}
 use Rattle.reader_walk.specs.AtEnd.{at-end-laws}
 use Rattle.reader_walk.proofs.walk_lines.Statement.{statement}
 use Rattle.reader_walk.proofs.walk_lines.Tie as tie
@@ -39,11 +39,11 @@ enum-known-end c = search needs
 enum-told : tie.Need-enum-told Inv-loop μ-loop Inv-walk μ-walk
 enum-told c = search needs
 
-sub-end-walk : tie.Need-sub-end-walk Inv-loop μ-loop Inv-walk μ-walk
-sub-end-walk c = search (needs, line-laws)
+sub-ended : tie.Need-sub-ended Inv-loop μ-loop Inv-walk μ-walk
+sub-ended c = search (needs, line-laws)
 
-end-walk-requires : tie.Need-end-walk-requires Inv-loop μ-loop Inv-walk μ-walk
-end-walk-requires c κs = search (needs, line-laws)
+ended-requires : tie.Need-ended-requires Inv-loop μ-loop Inv-walk μ-walk
+ended-requires c κs = search (needs, line-laws)
 
 same-length : tie.Need-same-length Inv-loop μ-loop Inv-walk μ-walk
 same-length c = search (needs, line-laws, at-end-laws)
@@ -52,8 +52,7 @@ same-length-2 : tie.Need-same-length-2 Inv-loop μ-loop Inv-walk μ-walk
 same-length-2 c = search (needs, line-laws, at-end-laws)
 
 returns : tie.Need-returns Inv-loop μ-loop Inv-walk μ-walk
-returns c =
-    (search (needs, line-laws, at-end-laws), (search (needs, line-laws, at-end-laws), search (needs, line-laws)))
+returns c = (search (needs, line-laws, at-end-laws), (search (needs, line-laws, at-end-laws), (search (needs, line-laws, at-end-laws), search (needs, line-laws))))
 
 sub-take-line : tie.Need-sub-take-line Inv-loop μ-loop Inv-walk μ-walk
 sub-take-line c = search (needs, line-laws)
@@ -136,7 +135,7 @@ enum-told-2 : tie.Need-enum-told-2 Inv-loop μ-loop Inv-walk μ-walk
 enum-told-2 c = search needs
 
 closed-requires : tie.Need-closed-requires Inv-loop μ-loop Inv-walk μ-walk
-closed-requires c κs = search needs
+closed-requires c κs = search (needs, line-laws)
 
 same-length-3 : tie.Need-same-length-3 Inv-loop μ-loop Inv-walk μ-walk
 same-length-3 c = search (needs, line-laws)
@@ -145,10 +144,13 @@ same-length-4 : tie.Need-same-length-4 Inv-loop μ-loop Inv-walk μ-walk
 same-length-4 c = search (needs, line-laws)
 
 returns-2 : tie.Need-returns-2 Inv-loop μ-loop Inv-walk μ-walk
-returns-2 c = (search (needs, line-laws), (search (needs, line-laws), search (needs, line-laws)))
+returns-2 c = (search (needs, line-laws), (search (needs, line-laws), (search (needs, line-laws), search (needs, line-laws))))
 
 enum-known-no : tie.Need-enum-known-no Inv-loop μ-loop Inv-walk μ-walk
 enum-known-no c = search needs
+
+stopped-requires : tie.Need-stopped-requires Inv-loop μ-loop Inv-walk μ-walk
+stopped-requires c κs = search (needs, line-laws)
 
 same-length-5 : tie.Need-same-length-5 Inv-loop μ-loop Inv-walk μ-walk
 same-length-5 c = search (needs, line-laws)
@@ -157,24 +159,30 @@ same-length-6 : tie.Need-same-length-6 Inv-loop μ-loop Inv-walk μ-walk
 same-length-6 c = search (needs, line-laws)
 
 returns-3 : tie.Need-returns-3 Inv-loop μ-loop Inv-walk μ-walk
-returns-3 c = (search (needs, line-laws), (search (needs, line-laws), search (needs, line-laws)))
+returns-3 c = (search (needs, line-laws), (search (needs, line-laws), (search (needs, line-laws), search (needs, line-laws))))
+
+repeated-requires : tie.Need-repeated-requires Inv-loop μ-loop Inv-walk μ-walk
+repeated-requires c κs = repeat-fits _ _ _ _ _ _ _ _ _ _ _ _ _ _ (c .before .before .before .loop .inv) (c .before .before .loop-test .taken) (c .if1 .taken)
 
 same-length-7 : tie.Need-same-length-7 Inv-loop μ-loop Inv-walk μ-walk
 same-length-7 c =
-    took-size _ _ _ _ _ _ _ _ _ _ _ _ (c .before .before .before .before .before .before .before .before .before .before .before .before .before .before .before .before .before .before .before .walk .inv) _ _ _ _ _ (c .before .before .before .before .before .before .before .before .before .before .before .take-line .ensures)
+    took-size _ _ _ _ _ _ _ _ _ _ _ _ (c .before .before .before .before .before .before .before .before .before .before .before .before .before .before .before .before .before .before .before .before .walk .inv) _ _ _ _ _ (c .before .before .before .before .before .before .before .before .before .before .before .before .take-line .ensures)
 
 same-length-8 : tie.Need-same-length-8 Inv-loop μ-loop Inv-walk μ-walk
 same-length-8 c =
-    bonds-size _ _ _ _ _ _ _ _ _ _ _ _ (c .before .before .before .before .before .before .before .before .before .before .before .before .before .before .before .before .before .before .before .walk .inv)
+    bonds-size _ _ _ _ _ _ _ _ _ _ _ _ (c .before .before .before .before .before .before .before .before .before .before .before .before .before .before .before .before .before .before .before .before .walk .inv)
 
 returns-4 : tie.Need-returns-4 Inv-loop μ-loop Inv-walk μ-walk
 returns-4 c = (
-  pairing-found _ _ _ _ _ _ _ _ _ _ _ _ _ _ (c .before .before .before .loop .inv) (c .before .before .loop-test .taken) (c .if1 .taken) _ refl,
+  pairing-found _ _ _ _ _ _ _ _ _ _ _ _ _ _ (c .before .before .before .before .loop .inv) (c .before .before .before .loop-test .taken) (c .before .if1 .taken) _ (c .repeated .ensures .0),
   (
-    found-left _ _ _ _ _ _ _ _ _ _ _ _ _ _ (c .before .before .before .loop .inv) (c .before .before .loop-test .taken) (c .if1 .taken) _ _
-        (bond-beside _ _ _ _ _ _ _ _ _ _ _ _ (c .before .before .before .before .before .before .before .before .before .before .before .before .before .before .before .before .before .before .before .walk .inv) _ _ _ (c .before .before .before .before .before .before .before .before .before .before .before .before .before .before .before .before .before .before .line-at .ensures) (c .before .before .before .before .before .before .before .before .before .before .before .before .before .before .before .before .end .given .1) _ _ _ _ _ (c .before .before .before .before .before .before .before .before .before .before .before .take-line .ensures) (c .before .before .before .before .before .before .before .before .r2 .given .1))
-        (c .before .before .before .before .before .before .before .before .before .before .before .before .before .before .before .before .before .before .before .walk .inv .bonds-beside),
-    c .before .before .before .before .before .before .before .before .before .before .before .before .before .before .before .before .before .before .before .walk .inv .key-room,
+    found-compared _ _ _ _ _ _ _ _ _ _ _ _ _ _ (c .before .before .before .before .loop .inv) (c .before .before .before .loop-test .taken) (c .before .if1 .taken) _ (c .repeated .ensures .1),
+    (
+      found-left _ _ _ _ _ _ _ _ _ _ _ _ _ _ (c .before .before .before .before .loop .inv) (c .before .before .before .loop-test .taken) (c .before .if1 .taken) _ _
+          (bond-beside _ _ _ _ _ _ _ _ _ _ _ _ (c .before .before .before .before .before .before .before .before .before .before .before .before .before .before .before .before .before .before .before .before .walk .inv) _ _ _ (c .before .before .before .before .before .before .before .before .before .before .before .before .before .before .before .before .before .before .before .line-at .ensures) (c .before .before .before .before .before .before .before .before .before .before .before .before .before .before .before .before .before .end .given .1) _ _ _ _ _ (c .before .before .before .before .before .before .before .before .before .before .before .before .take-line .ensures) (c .before .before .before .before .before .before .before .before .before .r2 .given .1))
+          (c .before .before .before .before .before .before .before .before .before .before .before .before .before .before .before .before .before .before .before .before .walk .inv .bonds-beside),
+      c .before .before .before .before .before .before .before .before .before .before .before .before .before .before .before .before .before .before .before .before .walk .inv .key-room,
+    ),
   ),
 )
 
@@ -192,8 +200,8 @@ walk-lines-spec =
     line-at-requires
     enum-known-end
     enum-told
-    sub-end-walk
-    end-walk-requires
+    sub-ended
+    ended-requires
     same-length
     same-length-2
     returns
@@ -226,9 +234,11 @@ walk-lines-spec =
     same-length-4
     returns-2
     enum-known-no
+    stopped-requires
     same-length-5
     same-length-6
     returns-3
+    repeated-requires
     same-length-7
     same-length-8
     returns-4)

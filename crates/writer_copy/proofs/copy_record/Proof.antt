@@ -4,8 +4,8 @@ use borrow.Author.Needs.{needs}
 use Rattle.writer_copy.proofs.copy_record.Statement.{statement}
 use Rattle.writer_copy.proofs.copy_record.Tie as tie
 
-read-record-requires : tie.Need-read-record-requires
-read-record-requires c κs = search needs
+read-plain-requires : tie.Need-read-plain-requires
+read-plain-requires c κs = search needs
 
 put-got-requires : tie.Need-put-got-requires
 put-got-requires c κs = search copy-readable
@@ -26,7 +26,7 @@ pub copy-record-spec : {M : Type 1} → statement M
 copy-record-spec =
     tie.close
     (tie.spec
-    read-record-requires
+    read-plain-requires
     put-got-requires
     same-length
     same-length-2
