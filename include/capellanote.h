@@ -66,6 +66,9 @@ enum { CAPELLANOTE_MOLFILE = 0, CAPELLANOTE_SDFILE = 1 };
 /* answer[1] of capellanote_feed where nothing is refused. */
 enum { CAPELLANOTE_MORE = 0, CAPELLANOTE_ACCEPTED = 1, CAPELLANOTE_TOO_LONG = 2 };
 
+/* The most atoms, and the most bonds, of a record. */
+#define CAPELLANOTE_LIMIT 255
+
 /* Places in an atom's and in a bond's row, and what 255 rows take. */
 enum { CAPELLANOTE_ATOM = 16, CAPELLANOTE_BOND = 6, CAPELLANOTE_ATOMS = 255 * 16, CAPELLANOTE_BONDS = 255 * 6 };
 
@@ -86,6 +89,20 @@ void capellanote_read(capellanote_byte kind,
                       capellanote_int *atoms, capellanote_size atoms_length,
                       capellanote_int *bonds, capellanote_size bonds_length,
                       capellanote_size answer[9]);
+
+/* One record, as capellanote_read takes it, and its pieces. Two atoms are in one piece if a chain of bonds of any types joins them.
+   Accepted: answer = { 0, atoms, pieces }: labels[i] is the lowest atom of the piece of atom i + 1; heads[j] is the lowest atom of piece
+   j + 1, in rising order, and sizes[j] the number of its atoms; zeros follow in each list up to CAPELLANOTE_LIMIT numbers.
+   The tables are as capellanote_read leaves them. Refused as capellanote_read refuses: after 1 and 2 nothing else is written, after any
+   other number the lists are zeros. */
+void capellanote_pieces(capellanote_byte kind,
+                        const capellanote_byte *text, capellanote_size text_length,
+                        capellanote_int *atoms, capellanote_size atoms_length,
+                        capellanote_int *bonds, capellanote_size bonds_length,
+                        capellanote_count labels[CAPELLANOTE_LIMIT],
+                        capellanote_count heads[CAPELLANOTE_LIMIT],
+                        capellanote_count sizes[CAPELLANOTE_LIMIT],
+                        capellanote_size answer[3]);
 
 /* A file's records, one after the other. The cursor is three numbers, the bytes, lines and records of the file that come before it:
    all 0 at the file's start, and then those of the answer before.

@@ -29,7 +29,5 @@ pub extern "C" fn capellanote_pieces(
     ensures { λ _. ⌜ now (answer .exit) ≡ splitNumbers (splitTold (now (answer .exit))) ⌝ }
     ensures { λ _. ⌜ SplitPromise kind (now (s .entry)) (now (atoms .entry)) (now (bonds .entry)) (listsOf (now (labels .entry)) (now (heads .entry)) (now (sizes .entry))) (splitTold (now (answer .exit))) (now (atoms .exit)) (now (bonds .exit)) (listsOf (now (labels .exit)) (now (heads .exit)) (now (sizes .exit))) ⌝ }
 {
-    *answer = of_split(piece_record::split_record(
-        kind, s, atoms, bonds, labels, heads, sizes,
-    ));
+    *answer = of_split(piece_record::split_record(kind, s, atoms, bonds, labels, heads, sizes));
 }

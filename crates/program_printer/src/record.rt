@@ -8,6 +8,7 @@ use program_json::Place;
 use program_json::Reading;
 use program_json_rows::ATOMS;
 use program_json_rows::BONDS;
+use program_pieces::Put;
 use program_verdict::Verdict;
 use reader_item::Found;
 use reader_record::RecordRead;
@@ -19,6 +20,7 @@ enum Next {
     Read,
     Fetch,
     Copy,
+    Split,
     // More has to be read first.
     Fill,
     // Nothing is left.
@@ -44,6 +46,7 @@ fn by_task(task: Task) -> Next {
         Task::Readings => Next::Read,
         Task::Item => Next::Fetch,
         Task::Canon => Next::Copy,
+        Task::Pieces => Next::Split,
     }
 }
 
@@ -220,6 +223,37 @@ fn put_item(pass: Pass, item: &[u8], s: &[u8], room: &mut [u8]) -> Stepped {
     }
 }
 
+// Where the record at the front of s ends: a molfile's is all of s.
+fn record_end(sd: bool, s: &[u8]) -> Ends {
+    if sd {
+        return first_end(s);
+    }
+    Ends::At {
+        length: s.len(),
+        lines: 0,
+    }
+}
+
+// The record at the front of s, split into its pieces.
+fn put_split(
+    pass: Pass,
+    s: &[u8],
+    room: &mut [u8],
+    atoms: &mut [i32; ATOMS],
+    bonds: &mut [i32; BONDS],
+) -> Stepped {
+    let Ends::At { length, lines } = record_end(pass.sd, s) else {
+        return Stepped::Short;
+    };
+    let record = program_io::front(s, length);
+    let number = plus(pass.records, 1);
+    let kind = kind_of(pass.sd);
+    match program_pieces::put_record(pass.out, room, number, kind, record, atoms, bonds) {
+        Put::Line(out) => behind(pass, length, lines, out),
+        Put::Refused(no) => refused(no),
+    }
+}
+
 // Where what remains of the room does not suffice, it is written out, and the record tried again in all of it.
 fn make_room(pass: Pass, room: &[u8]) -> Stepped {
     if pass.out.used == 0 {
@@ -298,6 +332,7 @@ pub fn put_next(
         Next::Read => put_reading(pass, s, room, atoms, bonds),
         Next::Fetch => put_item(pass, item, s, room),
         Next::Copy => put_copy(pass, s, room, atoms, bonds),
+        Next::Split => put_split(pass, s, room, atoms, bonds),
         Next::Fill => Stepped::Short,
         Next::End => Stepped::Done,
     }
