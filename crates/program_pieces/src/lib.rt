@@ -1,15 +1,18 @@
-// The pieces of a record as a line of JSON.
+// The pieces of a record as a line of JSON: the pieces first, then each atom's lowest.
+ghost use Prim.Native.Nat.{_≤_};
+ghost use Rattle.rules.specs.Record.{limit};
 use piece_labels::LIMIT;
-use piece_record::RecordSplit;
 use program_io::Out;
 use program_io::Text;
-use program_json_rows::ATOMS;
-use program_json_rows::BONDS;
 
-// The output behind the record's line, or the number of its refusal.
-pub enum Put {
-    Line(Out),
-    Refused(u8),
+// So many numbers of a list, or all that it has.
+fn at_most(n: usize) -> usize
+    ensures { λ r. ⌜ r ≤ limit ⌝ }
+{
+    if n < LIMIT {
+        return n;
+    }
+    LIMIT
 }
 
 // What stands before all but the first of a list.
@@ -26,36 +29,8 @@ fn piece(i: usize, head: u32, size: u32) -> Text {
     headed.byte(b',').number(size as u64).byte(b']')
 }
 
-fn put_pieces(
-    out: Out,
-    room: &mut [u8],
-    heads: &[u32; LIMIT],
-    sizes: &[u32; LIMIT],
-    count: usize,
-) -> Out {
-    let mut next = out;
-    let mut i: usize = 0;
-    while i < LIMIT {
-        if count <= i {
-            return next;
-        }
-        next = next.text(room, piece(i, heads[i], sizes[i]));
-        i += 1;
-    }
-    next
-}
-
-fn put_labels(out: Out, room: &mut [u8], labels: &[u32; LIMIT], n: u32) -> Out {
-    let mut next = out;
-    let mut i: usize = 0;
-    while i < LIMIT {
-        if n as usize <= i {
-            return next;
-        }
-        next = next.text(room, comma(i).number(labels[i] as u64));
-        i += 1;
-    }
-    next
+fn label(i: usize, lowest: u32) -> Text {
+    comma(i).number(lowest as u64)
 }
 
 fn opening(record: usize) -> Text {
@@ -63,30 +38,33 @@ fn opening(record: usize) -> Text {
     numbered.word(b",\"pieces\":[")
 }
 
-// A record, split, in a line of its own.
-pub fn put_record(
+// The line up to its pieces.
+pub fn put_pieces(
     out: Out,
     room: &mut [u8],
     record: usize,
-    kind: u8,
-    s: &[u8],
-    atoms: &mut [i32; ATOMS],
-    bonds: &mut [i32; BONDS],
-) -> Put {
-    let mut labels = [0u32; LIMIT];
-    let mut heads = [0u32; LIMIT];
-    let mut sizes = [0u32; LIMIT];
-    match piece_record::split_record(kind, s, atoms, bonds, &mut labels, &mut heads, &mut sizes) {
-        RecordSplit::Pieces { atoms: n, count } => {
-            let opened = out.text(room, opening(record));
-            let listed = put_pieces(opened, room, &heads, &sizes, count);
-            let between = listed.bytes(room, b"],\"atoms\":[");
-            Put::Line(put_labels(between, room, &labels, n).bytes(room, b"]}\n"))
-        }
-        RecordSplit::Refused {
-            no,
-            line: _,
-            column: _,
-        } => Put::Refused(no),
+    heads: &[u32; LIMIT],
+    sizes: &[u32; LIMIT],
+    count: usize,
+) -> Out {
+    let mut next = out.text(room, opening(record));
+    let last = at_most(count);
+    let mut i: usize = 0;
+    while i < last {
+        next = next.text(room, piece(i, heads[i], sizes[i]));
+        i += 1;
     }
+    next
+}
+
+// The rest of it: the labels of n atoms.
+pub fn put_labels(out: Out, room: &mut [u8], labels: &[u32; LIMIT], n: u32) -> Out {
+    let mut next = out.bytes(room, b"],\"atoms\":[");
+    let last = at_most(n as usize);
+    let mut i: usize = 0;
+    while i < last {
+        next = next.text(room, label(i, labels[i]));
+        i += 1;
+    }
+    next.bytes(room, b"]}\n")
 }

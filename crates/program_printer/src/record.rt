@@ -3,12 +3,13 @@ use crate::Pass;
 use crate::Stepped;
 use crate::Task;
 use line_text::ItemRead;
+use piece_labels::LIMIT;
+use piece_record::RecordSplit;
 use program_io::Out;
 use program_json::Place;
 use program_json::Reading;
 use program_json_rows::ATOMS;
 use program_json_rows::BONDS;
-use program_pieces::Put;
 use program_verdict::Verdict;
 use reader_item::Found;
 use reader_record::RecordRead;
@@ -246,11 +247,29 @@ fn put_split(
         return Stepped::Short;
     };
     let record = program_io::front(s, length);
-    let number = plus(pass.records, 1);
-    let kind = kind_of(pass.sd);
-    match program_pieces::put_record(pass.out, room, number, kind, record, atoms, bonds) {
-        Put::Line(out) => behind(pass, length, lines, out),
-        Put::Refused(no) => refused(no),
+    let mut labels = [0u32; LIMIT];
+    let mut heads = [0u32; LIMIT];
+    let mut sizes = [0u32; LIMIT];
+    match piece_record::split_record(
+        kind_of(pass.sd),
+        record,
+        atoms,
+        bonds,
+        &mut labels,
+        &mut heads,
+        &mut sizes,
+    ) {
+        RecordSplit::Pieces { atoms: n, count } => {
+            let number = plus(pass.records, 1);
+            let begun = program_pieces::put_pieces(pass.out, room, number, &heads, &sizes, count);
+            let out = program_pieces::put_labels(begun, room, &labels, n);
+            behind(pass, length, lines, out)
+        }
+        RecordSplit::Refused {
+            no,
+            line: _,
+            column: _,
+        } => refused(no),
     }
 }
 

@@ -1,5 +1,5 @@
 -- `program_pieces::put_labels` meets its contract.
-use Prim.Native.Nat.{_-_}
+use Prim.Native.Nat.{_-_, _≤_}
 use mathlib.Core.Path.{_≡_}
 use lib.ListN.{length}
 use borrow.Author.Needs.{needs}
@@ -8,34 +8,31 @@ use Rattle.program_pieces.proofs.put_labels.Statement.{statement}
 use Rattle.program_pieces.proofs.put_labels.Tie as tie
 
 abbrev Inv-loop : tie.InvT-loop
-Inv-loop room₀ labels n next₀ i₀ room next i = length room ≡ length room₀
+Inv-loop room₀ labels n next₀ last i₀ t9 room next i = (length room ≡ length room₀) × (last ≤ limit)
 
 abbrev μ-loop : tie.MeasureT-loop
-μ-loop room₀ labels n next₀ i₀ room next i = limit - i
+μ-loop room₀ labels n next₀ last i₀ t9 room next i = last - i
+
+slice-aggregate-bytes : tie.Need-slice-aggregate-bytes Inv-loop μ-loop
+slice-aggregate-bytes c = search needs
+
+bytes-requires : tie.Need-bytes-requires Inv-loop μ-loop
+bytes-requires c κs = search needs
+
+at-most-requires : tie.Need-at-most-requires Inv-loop μ-loop
+at-most-requires c κs = search needs
 
 loop-holds : tie.Need-loop-holds Inv-loop μ-loop
 loop-holds c = search needs
 
-same-length : tie.Need-same-length Inv-loop μ-loop
-same-length c = search needs
+mul-label : tie.Need-mul-label Inv-loop μ-loop
+mul-label c = search needs
 
-returns : tie.Need-returns Inv-loop μ-loop
-returns c = search needs
+element-copy-out-label : tie.Need-element-copy-out-label Inv-loop μ-loop
+element-copy-out-label c = search needs
 
-comma-requires : tie.Need-comma-requires Inv-loop μ-loop
-comma-requires c κs = search needs
-
-mul-number : tie.Need-mul-number Inv-loop μ-loop
-mul-number c = search needs
-
-element-copy-out-number : tie.Need-element-copy-out-number Inv-loop μ-loop
-element-copy-out-number c = search needs
-
-cast-number : tie.Need-cast-number Inv-loop μ-loop
-cast-number c = search needs
-
-number-requires : tie.Need-number-requires Inv-loop μ-loop
-number-requires c κs = search needs
+label-requires : tie.Need-label-requires Inv-loop μ-loop
+label-requires c κs = search needs
 
 text-requires : tie.Need-text-requires Inv-loop μ-loop
 text-requires c κs = search needs
@@ -49,11 +46,17 @@ loop-less c = search needs
 loop-again : tie.Need-loop-again Inv-loop μ-loop
 loop-again c = search needs
 
-same-length-2 : tie.Need-same-length-2 Inv-loop μ-loop
-same-length-2 c = search needs
+slice-aggregate-bytes-2 : tie.Need-slice-aggregate-bytes-2 Inv-loop μ-loop
+slice-aggregate-bytes-2 c = search needs
 
-returns-2 : tie.Need-returns-2 Inv-loop μ-loop
-returns-2 c = search needs
+bytes-requires-2 : tie.Need-bytes-requires-2 Inv-loop μ-loop
+bytes-requires-2 c κs = search needs
+
+same-length : tie.Need-same-length Inv-loop μ-loop
+same-length c = search needs
+
+returns : tie.Need-returns Inv-loop μ-loop
+returns c = search needs
 
 pub put-labels-spec : {M : Type 1} → statement M
 put-labels-spec =
@@ -61,17 +64,18 @@ put-labels-spec =
     (tie.spec
     Inv-loop
     μ-loop
+    slice-aggregate-bytes
+    bytes-requires
+    at-most-requires
     loop-holds
-    same-length
-    returns
-    comma-requires
-    mul-number
-    element-copy-out-number
-    cast-number
-    number-requires
+    mul-label
+    element-copy-out-label
+    label-requires
     text-requires
     add-i
     loop-less
     loop-again
-    same-length-2
-    returns-2)
+    slice-aggregate-bytes-2
+    bytes-requires-2
+    same-length
+    returns)

@@ -1,5 +1,5 @@
 -- `program_pieces::put_pieces` meets its contract.
-use Prim.Native.Nat.{_-_}
+use Prim.Native.Nat.{_-_, _≤_}
 use mathlib.Core.Path.{_≡_}
 use lib.ListN.{length}
 use borrow.Author.Needs.{needs}
@@ -8,19 +8,22 @@ use Rattle.program_pieces.proofs.put_pieces.Statement.{statement}
 use Rattle.program_pieces.proofs.put_pieces.Tie as tie
 
 abbrev Inv-loop : tie.InvT-loop
-Inv-loop room₀ heads sizes count next₀ i₀ room next i = length room ≡ length room₀
+Inv-loop room₀ «record» heads sizes count next₀ last i₀ room next i = (length room ≡ length room₀) × (last ≤ limit)
 
 abbrev μ-loop : tie.MeasureT-loop
-μ-loop room₀ heads sizes count next₀ i₀ room next i = limit - i
+μ-loop room₀ «record» heads sizes count next₀ last i₀ room next i = last - i
+
+opening-requires : tie.Need-opening-requires Inv-loop μ-loop
+opening-requires c κs = search needs
+
+text-requires : tie.Need-text-requires Inv-loop μ-loop
+text-requires c κs = search needs
+
+at-most-requires : tie.Need-at-most-requires Inv-loop μ-loop
+at-most-requires c κs = search needs
 
 loop-holds : tie.Need-loop-holds Inv-loop μ-loop
 loop-holds c = search needs
-
-same-length : tie.Need-same-length Inv-loop μ-loop
-same-length c = search needs
-
-returns : tie.Need-returns Inv-loop μ-loop
-returns c = search needs
 
 mul-piece : tie.Need-mul-piece Inv-loop μ-loop
 mul-piece c = search needs
@@ -37,8 +40,8 @@ element-copy-out-piece-2 c = search needs
 piece-requires : tie.Need-piece-requires Inv-loop μ-loop
 piece-requires c κs = search needs
 
-text-requires : tie.Need-text-requires Inv-loop μ-loop
-text-requires c κs = search needs
+text-requires-2 : tie.Need-text-requires-2 Inv-loop μ-loop
+text-requires-2 c κs = search needs
 
 add-i : tie.Need-add-i Inv-loop μ-loop
 add-i c = search needs
@@ -49,11 +52,11 @@ loop-less c = search needs
 loop-again : tie.Need-loop-again Inv-loop μ-loop
 loop-again c = search needs
 
-same-length-2 : tie.Need-same-length-2 Inv-loop μ-loop
-same-length-2 c = search needs
+same-length : tie.Need-same-length Inv-loop μ-loop
+same-length c = search needs
 
-returns-2 : tie.Need-returns-2 Inv-loop μ-loop
-returns-2 c = search needs
+returns : tie.Need-returns Inv-loop μ-loop
+returns c = search needs
 
 pub put-pieces-spec : {M : Type 1} → statement M
 put-pieces-spec =
@@ -61,17 +64,18 @@ put-pieces-spec =
     (tie.spec
     Inv-loop
     μ-loop
+    opening-requires
+    text-requires
+    at-most-requires
     loop-holds
-    same-length
-    returns
     mul-piece
     element-copy-out-piece
     mul-piece-2
     element-copy-out-piece-2
     piece-requires
-    text-requires
+    text-requires-2
     add-i
     loop-less
     loop-again
-    same-length-2
-    returns-2)
+    same-length
+    returns)
