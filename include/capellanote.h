@@ -1,6 +1,6 @@
 /* Capellanote for C: a proved reader and writer of CTfile V2000 molfiles and SDfiles.
 
-   Build: `rt staticlib capellanote` writes target/staticlib/libcapellanote.a for x86-64 Linux. It needs memset and nothing else.
+   Build: `rt staticlib capellanote` writes target/staticlib/libcapellanote.a for x86-64 Linux. It needs memset and memcpy and nothing else.
 
    Memory
      The library keeps nothing between calls and asks for no memory of its own but about 30 kB of stack.
