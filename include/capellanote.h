@@ -1,6 +1,6 @@
 /* Capellanote for C: a proved reader and writer of CTfile V2000 molfiles and SDfiles.
 
-   Build: `rt staticlib capellanote` writes target/staticlib/libcapellanote.a for x86-64 Linux. It needs memset and nothing else.
+   Build: `rt staticlib capellanote` writes target/staticlib/libcapellanote.a for x86-64 Linux. It needs memset and memcpy and nothing else.
 
    Memory
      The library keeps nothing between calls and asks for no memory of its own but about 105 kB of stack.
@@ -93,6 +93,20 @@ void capellanote_read(capellanote_byte kind,
                       capellanote_int *atoms, capellanote_size atoms_length,
                       capellanote_int *bonds, capellanote_size bonds_length,
                       capellanote_size answer[10]);
+
+/* One record, as capellanote_read takes it, and its pieces. Two atoms are in one piece if a chain of bonds of any types joins them.
+   Accepted: answer = { 0, atoms, pieces }: labels[i] is the lowest atom of the piece of atom i + 1; heads[j] is the lowest atom of piece
+   j + 1, in rising order, and sizes[j] the number of its atoms; zeros follow in each list up to CAPELLANOTE_LIMIT numbers.
+   The tables are as capellanote_read leaves them. Refused as capellanote_read refuses: after 1 and 2 nothing else is written, after any
+   other number the lists are zeros. */
+void capellanote_pieces(capellanote_byte kind,
+                        const capellanote_byte *text, capellanote_size text_length,
+                        capellanote_int *atoms, capellanote_size atoms_length,
+                        capellanote_int *bonds, capellanote_size bonds_length,
+                        capellanote_count labels[CAPELLANOTE_LIMIT],
+                        capellanote_count heads[CAPELLANOTE_LIMIT],
+                        capellanote_count sizes[CAPELLANOTE_LIMIT],
+                        capellanote_size answer[3]);
 
 /* A file's records, one after the other. The cursor is three numbers, the bytes, lines and records of the file that come before it:
    all 0 at the file's start, and then those of the answer before.

@@ -149,6 +149,39 @@ static void read_case(const size *n)
     print_tables(a, b);
 }
 
+static unsigned int labels[CAPELLANOTE_LIMIT], heads[CAPELLANOTE_LIMIT], sizes[CAPELLANOTE_LIMIT];
+
+static void fresh_list(unsigned int *list)
+{
+    for (size k = 0; k < CAPELLANOTE_LIMIT; k++)
+        list[k] = 1000003 + k;
+}
+
+static void print_list(const char *word, const unsigned int *list)
+{
+    size digest = 1;
+    for (size k = 0; k < CAPELLANOTE_LIMIT; k++)
+        digest = step(digest, list[k]);
+    printf(" %s %lu", word, digest);
+}
+
+/* KIND ATOM_ROOM BOND_ROOM SIZE */
+static void pieces_case(const size *n)
+{
+    size answer[3], a = 16 * n[1], b = 6 * n[2];
+    fresh_tables(a, b);
+    fresh_list(labels);
+    fresh_list(heads);
+    fresh_list(sizes);
+    capellanote_pieces(n[0], block(n[3]), n[3], atoms, a, bonds, b, labels, heads, sizes, answer);
+    if (!refused(answer))
+        printf("pieces %lu %lu", answer[1], answer[2]);
+    print_list("labels", labels);
+    print_list("heads", heads);
+    print_list("sizes", sizes);
+    print_tables(a, b);
+}
+
 /* AT LINES RECORDS ATOM_ROOM BOND_ROOM SIZE */
 static void next_case(const size *n)
 {
@@ -288,6 +321,7 @@ static void replay_case(const size *n)
 static const struct { const char *word; void (*answer)(const size *); size count, most[10]; } operations[] = {
     { "check ", check_case, 2, { 255, MOST } },
     { "read ", read_case, 4, { 255, ROWS, ROWS, MOST } },
+    { "pieces ", pieces_case, 4, { 255, ROWS, ROWS, MOST } },
     { "next ", next_case, 6, { ANY, ANY, ANY, ROWS, ROWS, MOST } },
     { "fetch ", fetch_case, 2, { MOST, MOST } },
     { "feed ", feed_case, 5, { ANY, ANY, 1, I32, MOST } },

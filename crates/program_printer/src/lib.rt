@@ -8,11 +8,12 @@ use program_json_rows::BONDS;
 use program_verdict::Verdict;
 use rules::LISTED;
 
-// Every record as JSON; the item of a name; the canonical text.
+// Every record as JSON; the item of a name; the canonical text; the pieces.
 pub enum Task {
     Readings,
     Item,
     Canon,
+    Pieces,
 }
 
 // How files are written.

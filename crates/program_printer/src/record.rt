@@ -7,6 +7,7 @@ use crate::Pass;
 use crate::Stepped;
 use crate::Task;
 use line_text::ItemRead;
+use piece_record::RecordSplit;
 use program_io::Out;
 use program_json::Place;
 use program_json::Reading;
@@ -15,6 +16,7 @@ use program_json_rows::BONDS;
 use program_verdict::Verdict;
 use reader_item::Found;
 use reader_record::RecordRead;
+use rules::LIMIT;
 use rules::LISTED;
 use text::LineAt;
 use writer_copy::Copied;
@@ -24,6 +26,7 @@ enum Next {
     Read,
     Fetch,
     Copy,
+    Split,
     // More has to be read first.
     Fill,
     // Nothing is left.
@@ -49,6 +52,7 @@ fn by_task(task: Task) -> Next {
         Task::Readings => Next::Read,
         Task::Item => Next::Fetch,
         Task::Canon => Next::Copy,
+        Task::Pieces => Next::Split,
     }
 }
 
@@ -247,6 +251,55 @@ fn put_item(
     }
 }
 
+// Where the record at the front of s ends: a molfile's is all of s.
+fn record_end(sd: bool, s: &[u8]) -> Ends {
+    if sd {
+        return first_end(s);
+    }
+    Ends::At {
+        length: s.len(),
+        lines: 0,
+    }
+}
+
+// The record at the front of s, split into its pieces.
+fn put_split(
+    pass: Pass,
+    s: &[u8],
+    room: &mut [u8],
+    atoms: &mut [i32; ATOMS],
+    bonds: &mut [i32; BONDS],
+) -> Stepped {
+    let Ends::At { length, lines } = record_end(pass.sd, s) else {
+        return Stepped::Short;
+    };
+    let record = program_io::front(s, length);
+    let mut labels = [0u32; LIMIT];
+    let mut heads = [0u32; LIMIT];
+    let mut sizes = [0u32; LIMIT];
+    match piece_record::split_record(
+        kind_of(pass.sd),
+        record,
+        atoms,
+        bonds,
+        &mut labels,
+        &mut heads,
+        &mut sizes,
+    ) {
+        RecordSplit::Pieces { atoms: n, count } => {
+            let number = plus(pass.records, 1);
+            let begun = program_pieces::put_pieces(pass.out, room, number, &heads, &sizes, count);
+            let out = program_pieces::put_labels(begun, room, &labels, n);
+            behind(pass, length, lines, out)
+        }
+        RecordSplit::Refused {
+            no,
+            line: _,
+            column: _,
+        } => refused(no),
+    }
+}
+
 // Where what remains of the room does not suffice, it is written out, and the record tried again in all of it.
 fn make_room(pass: Pass, room: &[u8]) -> Stepped {
     if pass.out.used == 0 {
@@ -329,6 +382,7 @@ pub fn put_next(
         Next::Read => put_reading(pass, s, room, atoms, bonds),
         Next::Fetch => put_item(pass, item, s, room, listed),
         Next::Copy => put_copy(pass, s, room, atoms, bonds),
+        Next::Split => put_split(pass, s, room, atoms, bonds),
         Next::Fill => Stepped::Short,
         Next::End => Stepped::Done,
     }

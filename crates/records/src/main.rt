@@ -5,6 +5,7 @@ enum Verb {
     Read,
     Fetch,
     Canon,
+    Pieces,
     Replay,
     Unknown,
 }
@@ -19,16 +20,19 @@ fn asked() -> Verb {
     if program_io::is_argument(1, b"canon") {
         return Verb::Canon;
     }
+    if program_io::is_argument(1, b"pieces") {
+        return Verb::Pieces;
+    }
     if program_io::is_argument(1, b"replay") {
         return Verb::Replay;
     }
     Verb::Unknown
 }
 
-// Every record as JSON, one object a line: `molfile` or `sdfile`, perhaps `--progress`, then the names.
-fn read() {
+// Every record as JSON, or its pieces, one object a line: `molfile` or `sdfile`, perhaps `--progress`, then the names.
+fn of_records(task: Task) {
     let sd = program_io::is_argument(2, b"sdfile");
-    program_printer::run(Task::Readings, sd, b"", 3);
+    program_printer::run(task, sd, b"", 3);
 }
 
 // The item of a name in every record of SDfiles as JSON: the name, perhaps `--progress`, then the names of the files.
@@ -49,9 +53,10 @@ fn canon() {
 
 fn main() {
     match asked() {
-        Verb::Read => read(),
+        Verb::Read => of_records(Task::Readings),
         Verb::Fetch => fetch(),
         Verb::Canon => canon(),
+        Verb::Pieces => of_records(Task::Pieces),
         Verb::Replay => program_replay::run(2),
         Verb::Unknown => {
             io::write_all(

@@ -1,0 +1,4 @@
+pub mod Pieces
+pub mod Chains
+pub mod One
+pub mod Inside
