@@ -6,6 +6,7 @@ enum Verb {
     Fetch,
     Canon,
     Replay,
+    Same,
     Unknown,
 }
 
@@ -21,6 +22,9 @@ fn asked() -> Verb {
     }
     if program_io::is_argument(1, b"replay") {
         return Verb::Replay;
+    }
+    if program_io::is_argument(1, b"same") {
+        return Verb::Same;
     }
     Verb::Unknown
 }
@@ -53,6 +57,7 @@ fn main() {
         Verb::Fetch => fetch(),
         Verb::Canon => canon(),
         Verb::Replay => program_replay::run(2),
+        Verb::Same => program_pairs::run(),
         Verb::Unknown => {
             io::write_all(
                 libc::STDERR_FILENO,
