@@ -20,8 +20,8 @@ def record(title, lot, items=b""):
 three = record(b"AB-1", b"00417") + record(b"AB-2", b"00418") + record(b"AB-3", b"00419")
 put("plain", three)
 put("crlf", three.replace(b"\n", b"\r\n"))
-# Columns that are not read: 10 to 12 and 16 to 33 of a counts line, 13 to 15 of a bond line.
-put("unread", three.replace(b"  2  1  0  0  0  0  0  0  0  0999 V2000", b"  2  1  0  7  0999  1  2  3  4  5 V2000").replace(b"  1  2  1  0  0  0  0\n", b"  1  2  1  0 99  0  0\n"))
+# Columns that are not read: 10 to 12 and 19 to 33 of a counts line, 13 to 15 of a bond line.
+put("unread", three.replace(b"  2  1  0  0  0  0  0  0  0  0999 V2000", b"  2  1  0  7  0  0  1  2  3  4  5 V2000").replace(b"  1  2  1  0  0  0  0\n", b"  1  2  1  0 99  0  0\n"))
 put("spaces", three.replace(b">  <LOT>", b"> <LOT>  ").replace(b"\n\n$$$$", b"\n    \n$$$$  "))
 put("zero", three.replace(b"00419", b"0419"))
 put("title", three.replace(b"AB-2", b""))
