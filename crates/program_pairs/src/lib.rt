@@ -85,7 +85,7 @@ fn pair(record: u64, left: Next, right: Next, left_room: &[u8], right_room: &[u8
     }
 }
 
-// The second reading of both, from their starts. Turns count the records, so that the loop ends; no run uses them up.
+// The second reading of both, from their starts. Turns are counted so that the loop ends, and no run uses them up.
 fn hold(
     open: Open,
     left: &mut [u8; BUFFER],
@@ -97,11 +97,11 @@ fn hold(
     let mut bonds = [0i32; BONDS];
     let mut a = Source::new(open.first);
     let mut b = Source::new(open.second);
-    let mut record: u64 = 1;
-    while record < u64::MAX {
+    let mut turns = u64::MAX;
+    while turns > 0 {
         let l = source::next_text(a, left, left_room, &mut atoms, &mut bonds);
         let r = source::next_text(b, right, right_room, &mut atoms, &mut bonds);
-        match pair(record, l, r, left_room, right_room) {
+        match pair(u64::MAX - (turns - 1), l, r, left_room, right_room) {
             Turn::Same { left, right } => {
                 a = left;
                 b = right;
@@ -110,7 +110,7 @@ fn hold(
                 return found;
             }
         }
-        record += 1;
+        turns -= 1;
     }
     Found::LeftFailed(Verdict::Endless)
 }
