@@ -85,6 +85,14 @@ fn pair(record: u64, left: Next, right: Next, left_room: &[u8], right_room: &[u8
     }
 }
 
+// The record of a turn, by the turns that are left.
+fn number_of(turns: u64) -> u64 {
+    if turns == 0 {
+        return u64::MAX;
+    }
+    u64::MAX - (turns - 1)
+}
+
 // The second reading of both, from their starts. Turns are counted so that the loop ends, and no run uses them up.
 fn hold(
     open: Open,
@@ -101,7 +109,7 @@ fn hold(
     while turns > 0 {
         let l = source::next_text(a, left, left_room, &mut atoms, &mut bonds);
         let r = source::next_text(b, right, right_room, &mut atoms, &mut bonds);
-        match pair(u64::MAX - (turns - 1), l, r, left_room, right_room) {
+        match pair(number_of(turns), l, r, left_room, right_room) {
             Turn::Same { left, right } => {
                 a = left;
                 b = right;
@@ -156,7 +164,13 @@ fn tell_record(record: u64, canonical: &[u8], what: &[u8]) {
 }
 
 // Each room holds the text of its file's record.
-fn tell(first: &[u8], second: &[u8], found: Found, left_room: &[u8], right_room: &[u8]) {
+fn tell(
+    first: &[u8],
+    second: &[u8],
+    found: Found,
+    left_room: &[u8; ROOM],
+    right_room: &[u8; ROOM],
+) {
     match found {
         Found::Same => {
             Text::new().word(b"same\n").write(program_verdict::CHANNEL);

@@ -23,11 +23,8 @@ next-text-requires c κs = search needs
 next-text-requires-2 : tie.Need-next-text-requires-2 Inv-loop μ-loop
 next-text-requires-2 c κs = search needs
 
-sub-pair : tie.Need-sub-pair Inv-loop μ-loop
-sub-pair c = search needs
-
-sub-pair-2 : tie.Need-sub-pair-2 Inv-loop μ-loop
-sub-pair-2 c = search needs
+number-of-requires : tie.Need-number-of-requires Inv-loop μ-loop
+number-of-requires c κs = search needs
 
 pair-requires : tie.Need-pair-requires Inv-loop μ-loop
 pair-requires c κs = search needs
@@ -42,10 +39,10 @@ returns : tie.Need-returns Inv-loop μ-loop
 returns c = search needs
 
 sub-turns : tie.Need-sub-turns Inv-loop μ-loop
-sub-turns c = search needs
+sub-turns c = search (needs, c .before .before .before .before .before .before .before .before .before .before .before .before .before .before .before .before)
 
 loop-less : tie.Need-loop-less Inv-loop μ-loop
-loop-less c = search needs
+loop-less c = search (needs, c .before .before .before .before .before .before .before .before .before .before .before .before .before .before .before .before)
 
 loop-again : tie.Need-loop-again Inv-loop μ-loop
 loop-again c = search needs
@@ -64,8 +61,7 @@ hold-spec =
     loop-holds
     next-text-requires
     next-text-requires-2
-    sub-pair
-    sub-pair-2
+    number-of-requires
     pair-requires
     enum-known-left
     enum-known-found
