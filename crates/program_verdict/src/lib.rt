@@ -6,6 +6,7 @@ use program_io::Text;
 use reader_check::Answer;
 use reader_feed::Counter;
 use reader_feed::Fed;
+pub use say::CHANNEL;
 pub use say::report;
 pub use say::tell;
 ghost use Prim.Native.Nat.{_<_};

@@ -3,7 +3,7 @@ use crate::Verdict;
 use program_io::Text;
 
 // The descriptor on which programs read the verdict. Where it is not open the line is lost, and nothing else changes.
-const CHANNEL: i32 = 3;
+pub const CHANNEL: i32 = 3;
 
 // A refusal's numbers, with these words before line and column.
 fn refusal(

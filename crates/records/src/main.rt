@@ -7,6 +7,7 @@ enum Verb {
     Canon,
     Pieces,
     Replay,
+    Same,
     Unknown,
 }
 
@@ -25,6 +26,9 @@ fn asked() -> Verb {
     }
     if program_io::is_argument(1, b"replay") {
         return Verb::Replay;
+    }
+    if program_io::is_argument(1, b"same") {
+        return Verb::Same;
     }
     Verb::Unknown
 }
@@ -58,6 +62,7 @@ fn main() {
         Verb::Canon => canon(),
         Verb::Pieces => of_records(Task::Pieces),
         Verb::Replay => program_replay::run(2),
+        Verb::Same => program_pairs::run(),
         Verb::Unknown => {
             io::write_all(
                 libc::STDERR_FILENO,

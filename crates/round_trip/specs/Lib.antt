@@ -1,2 +1,3 @@
 pub mod RecordBack
 pub mod CatalogueBack
+pub mod OneText
