@@ -1,7 +1,7 @@
 """The case file: how a case is written, read back, and answered (see docs/VECTORS.md)."""
 
 from counter import feed
-from ctfile import check, fetch, next_record, read_record
+from ctfile import check, fetch, next_record, pairs_compared, read_record
 from limit import LIMIT
 from scanner import replay
 from writer import copy_record, write_catalogue, write_record
@@ -116,8 +116,9 @@ def tables_text(atoms, bonds):
 
 def answer_read(reader, kind, atom_room, bond_room, size):
     atoms, bonds = table(atom_room, 16), table(bond_room, 6)
-    answer = read_record(kind, reader.block(size), atoms, bonds)
-    return verdict(answer) + tables_text(atoms, bonds)
+    data = reader.block(size)
+    answer = read_record(kind, data, atoms, bonds)
+    return verdict(answer) + " compared %d" % pairs_compared(data, answer) + tables_text(atoms, bonds)
 
 
 def answer_fetch(reader, name_size, size):

@@ -248,6 +248,32 @@ def read_record(kind, data, atom_table, bond_table):
         return refusal.answer()
 
 
+def pairs_searched(data, answer):
+    """The pairs of bond lines that came to the search for a repeated one in a reading with that
+    answer, in order: those accepted, and the repeated one itself."""
+    sheet = Sheet(data)
+    if answer[0] == "accepted":
+        n, bonds = answer[1:3]
+    else:
+        _, number, line, _ = answer
+        if line <= 4:
+            return []
+        counts = COUNTS.judge(sheet.lines[3].text)      # good, since a later line is refused
+        n = counts["n"]
+        bonds = min(counts["m"], max(0, line - 5 - n)) + (number == 11)
+    judged = [BOND.judge(line.text, Context(n)) for line in sheet.lines[4 + n:4 + n + bonds]]
+    return [frozenset((bond["first"], bond["second"])) for bond in judged]
+
+
+def pairs_compared(data, answer):
+    """Each pair is held against the earlier ones in order from bond 1, up to the first that is the same."""
+    pairs, count = pairs_searched(data, answer), 0
+    for k, pair in enumerate(pairs):
+        earlier = pairs[:k]
+        count += earlier.index(pair) + 1 if pair in earlier else k
+    return count
+
+
 def next_record(cursor, data, atom_table, bond_table):
     """The record at a cursor (bytes, lines and records of the file before it): ("record", n, m,
     chiral, length, lines, header end, items start, items end, the cursor past it), the refusal with

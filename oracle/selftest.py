@@ -5,6 +5,7 @@ Expected answers here were worked out by hand from the rules of the format.
 
 import sys
 
+import comparison_tests
 import crosschecks
 import field_tests
 import meaning_tests
@@ -186,7 +187,7 @@ def counting():
 
 if __name__ == "__main__":
     for test in (bench_samples, sample_record, easy_mistakes, refusals_by_hand, good_by_hand, counting,
-                 *meaning_tests.ALL, *writer_tests.ALL, *part_tests.ALL, *scanner_tests.ALL, *field_tests.ALL,
+                 *meaning_tests.ALL, *comparison_tests.ALL, *writer_tests.ALL, *part_tests.ALL, *scanner_tests.ALL, *field_tests.ALL,
                  *crosschecks.ALL):
         before = len(FAILURES)
         try:

@@ -17,7 +17,7 @@ from cases import (MOST_ROOM, OPERATIONS, Reader, answers, catalogue_case, check
                    next_case, read_case, replay_case, write_case)
 from counter import BUFFER, MOST
 from ctfile import SDFILE, one_record, record_at
-from damage import AIMED_NUMBERS, aimed, blind, damaged, surplus, truncated
+from damage import AIMED_NUMBERS, aimed, blind, damaged, spoiled_bond, surplus, truncated
 from generate import (NAMES, all_symbols, draft_record, file_rows, good_drafts, plain_bytes,
                       record_rows, to_bytes)
 from limit import LIMIT
@@ -106,7 +106,7 @@ def make_check(rng):
 
 def make_read(rng):
     kind = any_kind(rng)
-    data = any_file(rng, min(kind, 1))
+    data = to_bytes(rng, spoiled_bond(rng, min(kind, 1)).rows) if rng.random() < 0.15 else any_file(rng, min(kind, 1))
     if kind == 1 and rng.random() < 0.3:
         data += rng.choice([b"\x00", b"x" * 90, b"$$$$\n", b"\r"])   # after the record
     return read_case(kind, *table_rooms(rng), data)
@@ -330,6 +330,27 @@ def coded_cases():
         yield next_case((0, 0, 0), LIMIT, LIMIT, data)
 
 
+def repeat_cases():
+    """Six bonds over four atoms: every one of them repeated by every later one, the record cut after each
+    line, and every other refusal on the fifth bond's line or after the last."""
+    pairs = [(1, 2), (3, 4), (2, 3), (4, 1), (1, 3), (2, 4)]
+    for later in range(1, 6):
+        for earlier in range(later):
+            again = pairs[earlier][::1 if (later + earlier) % 2 else -1]
+            yield read_case(1, LIMIT, LIMIT, bare(4, pairs[:later] + [again] + pairs[later + 1:]))
+    good = bare(4, pairs)
+    lines = good.splitlines(keepends=True)
+    for count in range(len(lines) + 1):
+        yield read_case(1, LIMIT, LIMIT, b"".join(lines[:count]))
+    for kind in (0, 1):             # 18 in a molfile
+        yield read_case(kind, LIMIT, LIMIT, good)
+    for line in (b" " * 81, b"M  END\t", b"M  END x", b"M END", b"M  CHG  x", b"M  CHG  9", b"M  CHG  2   1   1   1   1",
+                 b"M  END\n", b"M  END\n>  <A>"):
+        yield read_case(1, LIMIT, LIMIT, good.replace(b"M  END", line))
+    for line in (b" " * 81, b"\xff", b"  1  x", b"  1  5", b"  3  3  1", b"  1  3  1".ljust(40) + b"x"):
+        yield read_case(1, LIMIT, LIMIT, good.replace(b"  1  3  1", line))
+
+
 def written(atoms, pairs, rooms=(LIMIT, LIMIT)):
     """Carbons and single bonds to be written."""
     rows = [(0, 0, 0, 6) + (0,) * 12] * atoms, [(a, b, 1, 0, 0, 0) for a, b in pairs]
@@ -378,7 +399,7 @@ MAKERS = [make_check] * 35 + [make_read] * 25 + [make_fetch] * 10 + [make_write]
 def case_list(seed, count, operations):
     rng = random.Random(seed)
     cases = list(fixed_cases(rng)) + list(sweeps(rng, count // 6))
-    cases += [*sample_cases(), *coded_cases()]
+    cases += [*sample_cases(), *coded_cases(), *repeat_cases()]
     cases = [case for case in cases if operation_of(case) in operations]
     makers = [make for make in MAKERS if make.__name__[5:] in operations]
     rng = random.Random(seed)           # anew, so that what stands before does not change what is drawn
