@@ -2,6 +2,7 @@
 
 from counter import feed
 from ctfile import check, fetch, next_record, pairs_compared, read_record
+from formula import FOUND, compare_formula
 from limit import LIMIT
 from scanner import replay
 from writer import copy_record, write_catalogue, write_record
@@ -70,6 +71,10 @@ def feed_case(records, lines, ended, room, part):
 
 def next_case(cursor, atom_room, bond_room, data):
     return head("next", *cursor, atom_room, bond_room, len(data)) + block(data)
+
+
+def formula_case(atom_room, bond_room, data):
+    return head("formula", atom_room, bond_room, len(data)) + block(data)
 
 
 def replay_case(log):
@@ -163,6 +168,12 @@ def answer_next(reader, at, lines, records, atom_room, bond_room, size):
     return verdict(answer) + tables_text(atoms, bonds)
 
 
+def answer_formula(reader, atom_room, bond_room, size):
+    atoms, bonds, found = table(atom_room, 16), table(bond_room, 6), table(1, FOUND)
+    answer = compare_formula(reader.block(size), atoms, bonds, found)
+    return verdict(answer) + " found %d" % digest(found) + tables_text(atoms, bonds)
+
+
 def answer_replay(reader, size):
     store = replay(reader.block(size))
     told = []
@@ -181,7 +192,7 @@ OPERATIONS = {
     "check": lambda reader, kind, size: verdict(check(kind, reader.block(size))),
     "read": answer_read, "fetch": answer_fetch, "write": answer_write,
     "catalogue": answer_catalogue, "copy": answer_copy, "feed": answer_feed,
-    "next": answer_next, "replay": answer_replay}
+    "next": answer_next, "replay": answer_replay, "formula": answer_formula}
 
 
 def answers(data):

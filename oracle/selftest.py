@@ -8,6 +8,7 @@ import sys
 import comparison_tests
 import crosschecks
 import field_tests
+import formula_tests
 import meaning_tests
 import part_tests
 import scanner_tests
@@ -188,7 +189,7 @@ def counting():
 
 if __name__ == "__main__":
     for test in (bench_samples, sample_record, easy_mistakes, refusals_by_hand, good_by_hand, counting,
-                 *meaning_tests.ALL, *comparison_tests.ALL, *writer_tests.ALL, *part_tests.ALL, *scanner_tests.ALL, *field_tests.ALL, *small_tests.ALL,
+                 *meaning_tests.ALL, *comparison_tests.ALL, *writer_tests.ALL, *part_tests.ALL, *scanner_tests.ALL, *field_tests.ALL, *small_tests.ALL, *formula_tests.ALL,
                  *crosschecks.ALL):
         before = len(FAILURES)
         try:

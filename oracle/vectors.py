@@ -14,10 +14,11 @@ import sys
 from collections import Counter
 
 from cases import (MOST_ROOM, OPERATIONS, Reader, answers, catalogue_case, check_case, copy_case, feed_case, fetch_case,
-                   next_case, read_case, replay_case, write_case)
+                   formula_case, next_case, read_case, replay_case, write_case)
 from counter import BUFFER, MOST
 from ctfile import SDFILE, one_record, record_at
 from damage import AIMED_NUMBERS, aimed, blind, damaged, spoiled_bond, surplus, truncated
+from formulas import any_record, fixed_records
 from generate import (NAMES, all_symbols, draft_record, file_rows, good_drafts, plain_bytes,
                       record_rows, to_bytes)
 from limit import LIMIT
@@ -25,6 +26,7 @@ from lines import Refusal, Sheet
 from logs import any_log, fixed_logs
 from samples import MOLFILE, SAMPLE, bare, coded, edit, ring
 from scanner import replay
+from small import small_refusals
 from writer import catalogue_text, text_of
 
 MOST_STORED = 3_000_000     # bytes of all stored files together
@@ -33,12 +35,14 @@ LEAST_OF_EACH = 10          # stored cases for every refusal number that an oper
 BASE = ("check", "read", "fetch", "write", "catalogue")
 STORED = {                  # seed, cases, operations
     "base": (1, 2400, BASE), "copy": (4, 540, ("copy",)), "feed": (3, 460, ("feed",)),
-    "next": (18, 420, ("next",)), "replay": (11, 700, ("replay",))}
+    "next": (18, 420, ("next",)), "replay": (11, 700, ("replay",)),
+    "formula": (1, 430, ("formula",))}
 LINES = {*range(3, 18), 19}  # refusals that a record of an SDfile can meet
 NUMBERS = {
     "check": {1, 18} | LINES, "read": {1, 2, 18} | LINES, "fetch": {22} | LINES,
     "write": {2, 3, 4, 5, 16, 17, 18, 19, 20, 21}, "catalogue": {2, 20} | LINES, "copy": {1, 2, 18, 20} | LINES,
-    "feed": LINES, "next": {2} | LINES, "replay": set(range(26, 31))}
+    "feed": LINES, "next": {2} | LINES, "replay": set(range(26, 31)),
+    "formula": {2, 22, 31, 32, 33, 34} | LINES}
 SWEEP_LINES = {
     b"counts": b"  2  1  0  0  0  0  0  0  0  0999 V2000",
     b"atom": b"    1.2500   -0.8250    0.0000 O   0  5  0  0  0  0  0  0  0  0  0  0",
@@ -296,6 +300,21 @@ def make_replay(rng):
     return replay_case(any_log(rng))
 
 
+def make_formula(rng):
+    return formula_case(*table_rooms(rng), any_record(rng))
+
+
+def formula_cases():
+    """Formulas one by one, and the record's own refusals before them."""
+    for data in fixed_records():
+        yield formula_case(LIMIT, LIMIT, data)
+    for _, _, _, data in small_refusals():
+        yield formula_case(LIMIT, LIMIT, data)
+    for rooms in ((LIMIT - 1, LIMIT), (LIMIT, LIMIT - 1), (LIMIT, 0), (0, LIMIT), (0, 0)):
+        for data in (b"", SAMPLE):
+            yield formula_case(*rooms, data)
+
+
 def sample_cases():
     """The sample of the rules and small edits of it, where room, part and cursor lie on either side of a limit."""
     for room in (0, 264, 265, 266):
@@ -393,13 +412,14 @@ def operation_of(case):
 
 
 MAKERS = [make_check] * 35 + [make_read] * 25 + [make_fetch] * 10 + [make_write] * 22 + [
-    make_catalogue] * 8 + [make_copy] * 15 + [make_feed] * 15 + [make_next] * 12 + [make_replay] * 15
+    make_catalogue] * 8 + [make_copy] * 15 + [make_feed] * 15 + [make_next] * 12 + [make_replay] * 15 + [
+    make_formula] * 12
 
 
 def case_list(seed, count, operations):
     rng = random.Random(seed)
     cases = list(fixed_cases(rng)) + list(sweeps(rng, count // 6))
-    cases += [*sample_cases(), *coded_cases(), *repeat_cases()]
+    cases += [*sample_cases(), *coded_cases(), *repeat_cases(), *formula_cases()]
     cases = [case for case in cases if operation_of(case) in operations]
     makers = [make for make in MAKERS if make.__name__[5:] in operations]
     rng = random.Random(seed)           # anew, so that what stands before does not change what is drawn
