@@ -26,16 +26,17 @@ from lines import Refusal, Sheet
 from logs import any_log, fixed_logs
 from samples import MOLFILE, SAMPLE, bare, coded, edit, ring
 from scanner import replay
-from small import small_refusals
+from small import small_refusals, small_surplus
 from writer import catalogue_text, text_of
 
 MOST_STORED = 3_000_000     # bytes of all stored files together
 MOST_ROWS = LIMIT + 5       # that a table is lent room for
+SHORT_ROOMS = [(LIMIT - 1, LIMIT), (LIMIT, LIMIT - 1), (LIMIT, 0), (0, LIMIT), (0, 0)]      # 2
 LEAST_OF_EACH = 10          # stored cases for every refusal number that an operation can give
 BASE = ("check", "read", "fetch", "write", "catalogue")
 STORED = {                  # seed, cases, operations
-    "base": (1, 2400, BASE), "copy": (4, 540, ("copy",)), "feed": (3, 460, ("feed",)),
-    "next": (18, 420, ("next",)), "replay": (11, 700, ("replay",)),
+    "base": (1, 2400, BASE), "copy": (1, 500, ("copy",)), "feed": (1, 420, ("feed",)),
+    "next": (1, 400, ("next",)), "replay": (11, 700, ("replay",)),
     "formula": (1, 430, ("formula",))}
 LINES = {*range(3, 18), 19}  # refusals that a record of an SDfile can meet
 NUMBERS = {
@@ -310,9 +311,26 @@ def formula_cases():
         yield formula_case(LIMIT, LIMIT, data)
     for _, _, _, data in small_refusals():
         yield formula_case(LIMIT, LIMIT, data)
-    for rooms in ((LIMIT - 1, LIMIT), (LIMIT, LIMIT - 1), (LIMIT, 0), (0, LIMIT), (0, 0)):
+    for rooms in SHORT_ROOMS:
         for data in (b"", SAMPLE):
             yield formula_case(*rooms, data)
+
+
+def small_cases():
+    """Short files for each refusal, where no chance brings every number often enough."""
+    for _, _, _, data in small_refusals():
+        yield copy_case(1, LIMIT, LIMIT, 300, data)
+        yield feed_case(7, 90, 1, len(data), data)
+        yield next_case((0, 0, 0), LIMIT, LIMIT, data)
+    for _, _, _, data in small_surplus():
+        yield copy_case(0, LIMIT, LIMIT, 300, data)
+    for kind in (2, 3, 7, 48, 255):
+        yield copy_case(kind, LIMIT, LIMIT, 9, b"")
+        yield copy_case(kind, 0, 0, 300, SAMPLE)
+    for rooms in SHORT_ROOMS:
+        for data in (b"", SAMPLE):
+            yield copy_case(1, *rooms, 300, data)
+            yield next_case((0, 0, 0), *rooms, data)
 
 
 def sample_cases():
@@ -419,7 +437,7 @@ MAKERS = [make_check] * 35 + [make_read] * 25 + [make_fetch] * 10 + [make_write]
 def case_list(seed, count, operations):
     rng = random.Random(seed)
     cases = list(fixed_cases(rng)) + list(sweeps(rng, count // 6))
-    cases += [*sample_cases(), *coded_cases(), *repeat_cases(), *formula_cases()]
+    cases += [*sample_cases(), *coded_cases(), *repeat_cases(), *formula_cases(), *small_cases()]
     cases = [case for case in cases if operation_of(case) in operations]
     makers = [make for make in MAKERS if make.__name__[5:] in operations]
     rng = random.Random(seed)           # anew, so that what stands before does not change what is drawn
