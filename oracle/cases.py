@@ -4,6 +4,7 @@ from counter import feed
 from ctfile import check, fetch, next_record, pairs_compared, read_record
 from formula import FOUND, compare_formula
 from limit import LIMIT
+from pieces import split_record
 from scanner import replay
 from writer import copy_record, write_catalogue, write_record
 
@@ -75,6 +76,10 @@ def next_case(cursor, atom_room, bond_room, data):
 
 def formula_case(atom_room, bond_room, data):
     return head("formula", atom_room, bond_room, len(data)) + block(data)
+
+
+def pieces_case(kind, atom_room, bond_room, data):
+    return head("pieces", kind, atom_room, bond_room, len(data)) + block(data)
 
 
 def replay_case(log):
@@ -174,6 +179,12 @@ def answer_formula(reader, atom_room, bond_room, size):
     return verdict(answer) + " found %d" % digest(found) + tables_text(atoms, bonds)
 
 
+def answer_pieces(reader, kind, atom_room, bond_room, size):
+    atoms, bonds, lists = table(atom_room, 16), table(bond_room, 6), [table(1, LIMIT) for _ in range(3)]
+    answer = split_record(kind, reader.block(size), atoms, bonds, *lists)
+    return verdict(answer) + " labels %d heads %d sizes %d" % tuple(map(digest, lists)) + tables_text(atoms, bonds)
+
+
 def answer_replay(reader, size):
     store = replay(reader.block(size))
     told = []
@@ -192,7 +203,8 @@ OPERATIONS = {
     "check": lambda reader, kind, size: verdict(check(kind, reader.block(size))),
     "read": answer_read, "fetch": answer_fetch, "write": answer_write,
     "catalogue": answer_catalogue, "copy": answer_copy, "feed": answer_feed,
-    "next": answer_next, "replay": answer_replay, "formula": answer_formula}
+    "next": answer_next, "replay": answer_replay, "formula": answer_formula,
+    "pieces": answer_pieces}
 
 
 def answers(data):

@@ -166,10 +166,10 @@ def counter_around_its_buffer():
 
 def vector_cases():
     """The case file is the same for a seed, reads back to its end, and knows every operation."""
-    data = vectors.make_cases(5, 2600)
-    expect("same cases for a seed", vectors.make_cases(5, 2600) == data, True)
+    data = vectors.make_cases(5, 3000)
+    expect("same cases for a seed", vectors.make_cases(5, 3000) == data, True)
     expected = answers(data)
-    expect("one line a case", expected.count("\n"), 2600)
+    expect("one line a case", expected.count("\n"), 3000)
     for operation in map(str.encode, OPERATIONS):
         expect("%s cases" % operation, data.count(b"\n" + operation + b" ") > 20, True)
     expect("digest of nothing", digest([]), 1)

@@ -11,6 +11,7 @@ import field_tests
 import formula_tests
 import meaning_tests
 import part_tests
+import piece_tests
 import scanner_tests
 import small_tests
 import writer_tests
@@ -189,7 +190,7 @@ def counting():
 
 if __name__ == "__main__":
     for test in (bench_samples, sample_record, easy_mistakes, refusals_by_hand, good_by_hand, counting,
-                 *meaning_tests.ALL, *comparison_tests.ALL, *writer_tests.ALL, *part_tests.ALL, *scanner_tests.ALL, *field_tests.ALL, *small_tests.ALL, *formula_tests.ALL,
+                 *meaning_tests.ALL, *comparison_tests.ALL, *writer_tests.ALL, *part_tests.ALL, *scanner_tests.ALL, *field_tests.ALL, *small_tests.ALL, *formula_tests.ALL, *piece_tests.ALL,
                  *crosschecks.ALL):
         before = len(FAILURES)
         try:

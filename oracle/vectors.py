@@ -14,13 +14,14 @@ import sys
 from collections import Counter
 
 from cases import (MOST_ROOM, OPERATIONS, Reader, answers, catalogue_case, check_case, copy_case, feed_case, fetch_case,
-                   formula_case, next_case, read_case, replay_case, write_case)
+                   formula_case, next_case, pieces_case, read_case, replay_case, write_case)
 from counter import BUFFER, MOST
 from ctfile import SDFILE, one_record, record_at
 from damage import AIMED_NUMBERS, aimed, blind, damaged, spoiled_bond, surplus, truncated
 from formulas import any_record, fixed_records
 from generate import (NAMES, all_symbols, draft_record, file_rows, good_drafts, plain_bytes,
                       record_rows, to_bytes)
+from graphs import any_graph, fixed_graphs
 from limit import LIMIT
 from lines import Refusal, Sheet
 from logs import any_log, fixed_logs
@@ -37,13 +38,13 @@ BASE = ("check", "read", "fetch", "write", "catalogue")
 STORED = {                  # seed, cases, operations
     "base": (1, 2400, BASE), "copy": (1, 500, ("copy",)), "feed": (1, 420, ("feed",)),
     "next": (1, 400, ("next",)), "replay": (11, 700, ("replay",)),
-    "formula": (1, 430, ("formula",))}
+    "formula": (1, 430, ("formula",)), "pieces": (1, 360, ("pieces",))}
 LINES = {*range(3, 18), 19}  # refusals that a record of an SDfile can meet
 NUMBERS = {
     "check": {1, 18} | LINES, "read": {1, 2, 18} | LINES, "fetch": {22} | LINES,
     "write": {2, 3, 4, 5, 16, 17, 18, 19, 20, 21}, "catalogue": {2, 20} | LINES, "copy": {1, 2, 18, 20} | LINES,
     "feed": LINES, "next": {2} | LINES, "replay": set(range(26, 31)),
-    "formula": {2, 22, 31, 32, 33, 34} | LINES}
+    "formula": {2, 22, 31, 32, 33, 34} | LINES, "pieces": {1, 2, 18} | LINES}
 SWEEP_LINES = {
     b"counts": b"  2  1  0  0  0  0  0  0  0  0999 V2000",
     b"atom": b"    1.2500   -0.8250    0.0000 O   0  5  0  0  0  0  0  0  0  0  0  0",
@@ -316,6 +317,27 @@ def formula_cases():
             yield formula_case(*rooms, data)
 
 
+def make_pieces(rng):
+    kind = any_kind(rng)
+    return pieces_case(kind, *table_rooms(rng), any_graph(rng, min(kind, 1)))
+
+
+def pieces_cases():
+    """Pieces of many shapes, and the refusals before them."""
+    for n, pairs in fixed_graphs():
+        yield pieces_case(1, LIMIT, LIMIT, bare(n, pairs))
+    for _, _, _, data in small_refusals():
+        yield pieces_case(1, LIMIT, LIMIT, data)
+    for _, _, _, data in small_surplus():
+        yield pieces_case(0, LIMIT, LIMIT, data)
+    for rooms in SHORT_ROOMS:
+        for data in (b"", SAMPLE):
+            yield pieces_case(1, *rooms, data)
+    for kind in (2, 3, 7, 48, 255):
+        yield pieces_case(kind, LIMIT, LIMIT, SAMPLE)
+        yield pieces_case(kind, 0, 0, b"")
+
+
 def small_cases():
     """Short files for each refusal, where no chance brings every number often enough."""
     for _, _, _, data in small_refusals():
@@ -431,13 +453,13 @@ def operation_of(case):
 
 MAKERS = [make_check] * 35 + [make_read] * 25 + [make_fetch] * 10 + [make_write] * 22 + [
     make_catalogue] * 8 + [make_copy] * 15 + [make_feed] * 15 + [make_next] * 12 + [make_replay] * 15 + [
-    make_formula] * 12
+    make_formula] * 12 + [make_pieces] * 12
 
 
 def case_list(seed, count, operations):
     rng = random.Random(seed)
     cases = list(fixed_cases(rng)) + list(sweeps(rng, count // 6))
-    cases += [*sample_cases(), *coded_cases(), *repeat_cases(), *formula_cases(), *small_cases()]
+    cases += [*sample_cases(), *coded_cases(), *repeat_cases(), *formula_cases(), *pieces_cases(), *small_cases()]
     cases = [case for case in cases if operation_of(case) in operations]
     makers = [make for make in MAKERS if make.__name__[5:] in operations]
     rng = random.Random(seed)           # anew, so that what stands before does not change what is drawn
