@@ -5,6 +5,7 @@ Expected answers here were worked out by hand from the rules of the format.
 
 import sys
 
+import bond_row_tests
 import comparison_tests
 import crosschecks
 import field_tests
@@ -190,7 +191,7 @@ def counting():
 
 if __name__ == "__main__":
     for test in (bench_samples, sample_record, easy_mistakes, refusals_by_hand, good_by_hand, counting,
-                 *meaning_tests.ALL, *comparison_tests.ALL, *writer_tests.ALL, *part_tests.ALL, *scanner_tests.ALL, *field_tests.ALL, *small_tests.ALL, *formula_tests.ALL, *piece_tests.ALL,
+                 *meaning_tests.ALL, *comparison_tests.ALL, *bond_row_tests.ALL, *writer_tests.ALL, *part_tests.ALL, *scanner_tests.ALL, *field_tests.ALL, *small_tests.ALL, *formula_tests.ALL, *piece_tests.ALL,
                  *crosschecks.ALL):
         before = len(FAILURES)
         try:
