@@ -189,10 +189,22 @@ def counting():
            "refused 3 line 1 column 81")
 
 
+MODULES = (
+    meaning_tests,
+    comparison_tests,
+    bond_row_tests,
+    writer_tests,
+    part_tests,
+    scanner_tests,
+    field_tests,
+    small_tests,
+    formula_tests,
+    piece_tests,
+    crosschecks)
+
 if __name__ == "__main__":
-    for test in (bench_samples, sample_record, easy_mistakes, refusals_by_hand, good_by_hand, counting,
-                 *meaning_tests.ALL, *comparison_tests.ALL, *bond_row_tests.ALL, *writer_tests.ALL, *part_tests.ALL, *scanner_tests.ALL, *field_tests.ALL, *small_tests.ALL, *formula_tests.ALL, *piece_tests.ALL,
-                 *crosschecks.ALL):
+    tests = [bench_samples, sample_record, easy_mistakes, refusals_by_hand, good_by_hand, counting]
+    for test in tests + [test for module in MODULES for test in module.ALL]:
         before = len(FAILURES)
         try:
             test()
