@@ -15,6 +15,7 @@ import part_tests
 import piece_tests
 import scanner_tests
 import small_tests
+import tally_tests
 import writer_tests
 from counter import counter_line
 from ctfile import check, fetch, read_record
@@ -200,6 +201,7 @@ MODULES = (
     small_tests,
     formula_tests,
     piece_tests,
+    tally_tests,
     crosschecks)
 
 if __name__ == "__main__":
