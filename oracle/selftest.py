@@ -8,6 +8,7 @@ import sys
 import bond_row_tests
 import comparison_tests
 import crosschecks
+import delivery_tests
 import field_tests
 import formula_tests
 import meaning_tests
@@ -202,6 +203,7 @@ MODULES = (
     formula_tests,
     piece_tests,
     tally_tests,
+    delivery_tests,
     crosschecks)
 
 if __name__ == "__main__":
