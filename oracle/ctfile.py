@@ -148,9 +148,10 @@ def bond_numbers(bond):
     return [bond[name] for name in ("first", "second", "type", "stereo", "topology", "centre")]
 
 
-def record_at(sheet, first, kind):
-    """The record whose first line has index `first`; places count from that line's first byte."""
-    record, origin = Record(), sheet.starts_at(first)
+def record_front(sheet, first):
+    """The record whose first line has index `first`, but for its items, and the index of the line
+    after its `M  END`."""
+    record = Record()
     record.header = header_lines(sheet, first)
     counts = judge(COUNTS, sheet, first + 3)
     record.n, record.m, record.chiral = counts["n"], counts["m"], counts["chiral"]
@@ -162,6 +163,13 @@ def record_at(sheet, first, kind):
     found, after = property_lines(sheet, first_bond + record.m, record.n)
     record.atoms = [atom_numbers(a, k, found) for k, a in enumerate(atoms, 1)]
     record.bonds = [bond_numbers(b) for b in bonds]
+    return record, after
+
+
+def record_at(sheet, first, kind):
+    """The record whose first line has index `first`; places count from that line's first byte."""
+    origin = sheet.starts_at(first)
+    record, after = record_front(sheet, first)
     record.header_end = sheet.starts_at(first + 3) - origin
     record.items_start = record.items_end = sheet.starts_at(after) - origin
     if kind == SDFILE:

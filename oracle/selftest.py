@@ -12,6 +12,7 @@ import delivery_tests
 import field_tests
 import formula_tests
 import meaning_tests
+import mending_tests
 import part_tests
 import piece_tests
 import scanner_tests
@@ -204,6 +205,7 @@ MODULES = (
     piece_tests,
     tally_tests,
     delivery_tests,
+    mending_tests,
     crosschecks)
 
 if __name__ == "__main__":
