@@ -15,6 +15,7 @@ import meaning_tests
 import mending_tests
 import part_tests
 import piece_tests
+import same_tests
 import scanner_tests
 import small_tests
 import tally_tests
@@ -206,6 +207,7 @@ MODULES = (
     tally_tests,
     delivery_tests,
     mending_tests,
+    same_tests,
     crosschecks)
 
 if __name__ == "__main__":
