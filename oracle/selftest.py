@@ -18,6 +18,7 @@ import piece_tests
 import same_tests
 import scanner_tests
 import small_tests
+import stock_tests
 import tally_tests
 import writer_tests
 from counter import counter_line
@@ -208,6 +209,7 @@ MODULES = (
     delivery_tests,
     mending_tests,
     same_tests,
+    stock_tests,
     crosschecks)
 
 if __name__ == "__main__":
