@@ -34,7 +34,8 @@ def rows_by_hand():
         expect("two bits", sum(bin(word).count("1") for word in rows), 2)
     expect("rows of 16 words", (WORDS, len(row_words([]))), ((LIMIT + 63) // 64, ROWS))
     answer, asked, _, rows = told(bare(4, PAIRS))
-    expect("all pairs of four", (answer[:3], asked, [rows[k * WORDS] for k in range(5)]), (("accepted", 4, 6), 6, [0b1110, 0b1101, 0b1011, 0b0111, 0]))
+    expect("all pairs of four", (answer[:3], asked, [rows[k * WORDS] for k in range(5)]),
+        (("accepted", 4, 6), 6, [0b1110, 0b1101, 0b1011, 0b0111, 0]))
     expect("words beyond", rows[ROWS:], [FILL] * 3)
 
 
@@ -51,7 +52,8 @@ def rows_asked():
 
 
 def rows_too_short():
-    for kind, atoms, room, number in ((2, 0, 0, 1), (2, LIMIT, ROWS - 1, 1), (1, LIMIT - 1, 0, 2), (1, LIMIT, ROWS - 1, 35), (0, LIMIT, 0, 35)):
+    for kind, atoms, room, number in ((2, 0, 0, 1), (2, LIMIT, ROWS - 1, 1), (1, LIMIT - 1, 0, 2), (1, LIMIT, ROWS - 1, 35),
+            (0, LIMIT, 0, 35)):
         expect("%d changes nothing" % number, told(b"", kind, atoms, room), (("refused", number, 0, 0), 0, tables(atoms), [FILL] * room))
     expect("just enough", told(SAMPLE, room=ROWS)[0][0], "accepted")
 

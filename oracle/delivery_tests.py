@@ -19,8 +19,10 @@ def told(old, new):
 
 def changes_by_hand():
     for name, new, want in (
-            ("nothing", SAMPLE, []), ("line ends", SAMPLE.replace(b"\n", b"\r\n"), []), ("a header's spaces", SAMPLE.replace(b">  <", b">    <"), []),
-            ("columns not read", edit(4, b"xyz", 19), []), ("a code that M  CHG voids", edit(6, b"  0", 37), []), ("a blank of spaces", edit(12, b"   "), []),
+            ("nothing", SAMPLE, []), ("line ends", SAMPLE.replace(b"\n", b"\r\n"), []),
+            ("a header's spaces", SAMPLE.replace(b">  <", b">    <"), []),
+            ("columns not read", edit(4, b"xyz", 19), []), ("a code that M  CHG voids", edit(6, b"  0", 37), []),
+            ("a blank of spaces", edit(12, b"   "), []),
             ("one zero", edit(11, b"0417"), ['{"record":1,"part":"value","item":1,"line":1,"old":"00417","new":"0417"}']),
             ("a coordinate", edit(6, b"1.2600", 5), ['{"record":1,"part":"atom","number":2,"field":"x","old":12500,"new":12600}']),
             ("a symbol", edit(6, b"S", 32), ['{"record":1,"part":"atom","number":2,"field":"symbol","old":"O","new":"S"}']),
@@ -38,9 +40,11 @@ def changes_by_hand():
     new = record((b"C",), [(b"B", [b"2", b"3"]), (b"B", [b"2"]), (b"C", [b"4", b"5"])])
     expect("items place by place", told(old, new), [
         '{"record":1,"part":"atoms","old":2,"new":1}', '{"record":1,"part":"name","item":1,"old":"A","new":"B"}',
-        '{"record":1,"part":"value","item":1,"line":1,"old":"1","new":"2"}', '{"record":1,"part":"value","item":1,"line":2,"old":null,"new":"3"}',
+        '{"record":1,"part":"value","item":1,"line":1,"old":"1","new":"2"}',
+        '{"record":1,"part":"value","item":1,"line":2,"old":null,"new":"3"}',
         '{"record":1,"part":"value","item":2,"line":2,"old":"3","new":null}', '{"record":1,"part":"item","item":3,"only":"new"}'])
-    expect("names differ and values not", compare(record((), [(b"A", [b"1"])]), record((), [(b"B", [b"1"])])), [Difference(1, "name", (1,), b"A", b"B")])
+    expect("names differ and values not", compare(record((), [(b"A", [b"1"])]), record((), [(b"B", [b"1"])])),
+        [Difference(1, "name", (1,), b"A", b"B")])
 
 
 def refused_comparisons():

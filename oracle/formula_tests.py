@@ -32,11 +32,13 @@ def formulas_by_hand():
     for text, want in (
             (b"C", {"C": 1}), (b"Co", {"Co": 1}), (b"CO", {"C": 1, "O": 1}), (b"Ca(OH)2", {"Ca": 1, "O": 2, "H": 2}),
             (b"C2H6O", {"C": 2, "H": 6, "O": 1}), (b"Al2(SO4)3", {"Al": 2, "S": 3, "O": 12}), (b"((C2)3O)4", {"C": 24, "O": 4}),
-            (b"Fe4(Fe(CN)6)3", {"Fe": 7, "C": 18, "N": 18}), (b"CC2C", {"C": 4}), (b"HHe", {"H": 1, "He": 1}), (b"SnSN", {"Sn": 1, "S": 1, "N": 1}),
+            (b"Fe4(Fe(CN)6)3", {"Fe": 7, "C": 18, "N": 18}), (b"CC2C", {"C": 4}), (b"HHe", {"H": 1, "He": 1}),
+            (b"SnSN", {"Sn": 1, "S": 1, "N": 1}),
             (b"(C101)99", {"C": 9999}), (b"C(C(C)2)3", {"C": 1 + 3 * 3})):
         counts, deepest = multiplied_out(text)
         expect("formula %s" % text, counts, Counter({NUMBER[name]: count for name, count in want.items()}))
-    for text, want in ((b"C", 0), (b"(C)", 1), (b"(C)(O)", 1), (b"((C)O)(O)", 2), (b"(" * 8 + b"C" + b")" * 8, 8), (b"(" * 9 + b"C" + b")" * 9, 9)):
+    for text, want in ((b"C", 0), (b"(C)", 1), (b"(C)(O)", 1), (b"((C)O)(O)", 2), (b"(" * 8 + b"C" + b")" * 8, 8),
+            (b"(" * 9 + b"C" + b")" * 9, 9)):
         expect("depth of %s" % text, multiplied_out(text)[1], want)
     expect("symbols", [ELEMENTS[s] for s in (b"H", b"Og", b"Co")] + [len(ELEMENTS)], [1, 118, 27, 118])
     expect("no wrapping", multiplied_out(b"(" * 9 + b"C999" + b")999" * 9)[0][6], 999 ** 10)
@@ -48,7 +50,8 @@ def refusals_of_formulas():
             expect("%d of %s" % (number, text), number_of(text), number)
             for other in OTHERS:
                 expect("%d of %s before 34" % (number, text), number_of(text, (b"C", other)), number or 34)
-    for name, items, number in (("no item", [], 22), ("another name", [(b"formula", [b"C"])], 22), ("no value line", [(b"FORMULA", [])], 31),
+    for name, items, number in (("no item", [], 22), ("another name", [(b"formula", [b"C"])], 22),
+            ("no value line", [(b"FORMULA", [])], 31),
                                 ("the first item counts", [(b"FORMULA", []), (b"FORMULA", [b"C"])], 31),
                                 ("the first line counts", [(b"FORMULA", [b"c", b"C"])], 31)):
         for symbols in ((b"C",), (b"LP",)):

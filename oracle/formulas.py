@@ -9,19 +9,27 @@ NAMES = ELEMENTS[:118]
 ALIKE = "H He Ho Hf B Be Br C Ca Co Cs N Na Ni O Os F Fe P Pb S Sc Sn Cl I In K Og U".split()
 OTHERS = [b"A", b"Q", b"*", b"LP"]      # symbols of an atom table that no formula has
 NO_FORMULA = [
-    b"co", b"cO", b"Cx", b"COx", b"Xx", b"D2O", b"A", b"Q", b"*", b"LP", b"CA", b"Uue", b"C1", b"C0", b"C00", b"C01", b"C02", b"C1000", b"C0999",
-    b"C10000", b"(C)1", b"(C)0", b"(C)02", b"(C)1000", b"2", b"2C", b"(2C)", b"C(2)", b"()", b"C()", b"()C", b"(())", b"()2", b"(", b")", b"(C",
-    b"C)", b"((C)", b"(C))", b")C(", b"C2)", b"(C2", b" C", b"C ", b"C 2", b"C2 ", b"C O", b"( C)", b"C-2", b"C+", b"Cl-", b"C.O", b"C2.5", b"[C]",
-    b"{C}2", b"C,O", b"C$", b"C>", b"Ca(OH)2.H2O", b"C2H6O1", b"(C)(", b"C" + b"9" * 150, b"(" * 9 + b"C1" + b")" * 9, b"(" * 9 + b"C" + b")" * 8,
+    b"co", b"cO", b"Cx", b"COx", b"Xx", b"D2O", b"A", b"Q", b"*", b"LP", b"CA", b"Uue", b"C1", b"C0", b"C00", b"C01", b"C02",
+    b"C1000", b"C0999",
+    b"C10000", b"(C)1", b"(C)0", b"(C)02", b"(C)1000", b"2", b"2C", b"(2C)", b"C(2)", b"()", b"C()", b"()C", b"(())", b"()2",
+    b"(", b")", b"(C",
+    b"C)", b"((C)", b"(C))", b")C(", b"C2)", b"(C2", b" C", b"C ", b"C 2", b"C2 ", b"C O", b"( C)", b"C-2", b"C+", b"Cl-", b"C.O",
+    b"C2.5", b"[C]",
+    b"{C}2", b"C,O", b"C$", b"C>", b"Ca(OH)2.H2O", b"C2H6O1", b"(C)(", b"C" + b"9" * 150, b"(" * 9 + b"C1" + b")" * 9,
+    b"(" * 9 + b"C" + b")" * 8,
     b"(" * 9 + b"C" + b")" * 10, b"(" * 9 + b")" * 9, b"(" * 200, b"(" * 99 + b"C" + b")" * 100]
-GOOD = [b"C", b"C2", b"C999", b"C10", b"C90", b"CC", b"CO", b"Co", b"CoO", b"COCo", b"Ca(OH)2", b"(C)", b"(C)2", b"(C2)2", b"((C))", b"(C(O)2)3", b"Og", b"HHe",
-        b"H2", b"(H)9", b"Sc", b"SC", b"OsOS", b"C(O)(O)2O", b"Al2(SO4)3", b"Fe4(Fe(CN)6)3", b"(H101)99C", b"(C101)99", b"C999" * 10 + b"C9",
+GOOD = [b"C", b"C2", b"C999", b"C10", b"C90", b"CC", b"CO", b"Co", b"CoO", b"COCo", b"Ca(OH)2", b"(C)", b"(C)2", b"(C2)2",
+    b"((C))", b"(C(O)2)3", b"Og", b"HHe",
+        b"H2", b"(H)9", b"Sc", b"SC", b"OsOS", b"C(O)(O)2O", b"Al2(SO4)3", b"Fe4(Fe(CN)6)3", b"(H101)99C", b"(C101)99",
+        b"C999" * 10 + b"C9",
         b"(" * 8 + b"C" + b")" * 8, b"(C" * 8 + b")2" * 8, b"(C)(C)(((C)))", b"C" * 200]
 DEEP = [b"(" * 9 + b"C" + b")" * 9, b"C(" + b"(" * 8 + b"C" + b")" * 8 + b")2", b"(" * 10 + b"C" + b")" * 10, b"(" * 99 + b"C" + b")" * 99,
-        b"(C" * 9 + b")" * 9, b"(" * 9 + b"C" + b")999" * 9, b"(" * 40 + b"H" + b")999" * 37 + b")" * 3, b"(C)" + b"(" * 9 + b"Co2" + b")" * 9,
+        b"(C" * 9 + b")" * 9, b"(" * 9 + b"C" + b")999" * 9, b"(" * 40 + b"H" + b")999" * 37 + b")" * 3,
+        b"(C)" + b"(" * 9 + b"Co2" + b")" * 9,
         b"(" * 8 + b"(C)O" + b")" * 8, b"(" * 8 + b"C(O)" + b")" * 8, b"(" * 16 + b"C" + b")" * 16]
 HIGH = [b"(C100)100", b"(C101)99C", b"C999" * 10 + b"C10", b"(H100)100", b"(H101)99H", b"((H999)999)999", b"(C999)999O", b"C(H999)11",
-        b"(" * 8 + b"C999" + b")999" * 8, b"(" * 8 + b"H999" + b")999" * 8, b"(" * 8 + b"COg2" + b")99" * 8, b"(C2(O101)99)2", b"(" * 4 + b"He10" + b")10" * 4]
+        b"(" * 8 + b"C999" + b")999" * 8, b"(" * 8 + b"H999" + b")999" * 8, b"(" * 8 + b"COg2" + b")99" * 8, b"(C2(O101)99)2",
+        b"(" * 4 + b"He10" + b")10" * 4]
 
 
 def record(symbols, items, bonds=(), end=b"\n"):
@@ -118,8 +126,10 @@ def fixed_records():
     for atoms in ((), (b"C",), (b"Co",), (b"C", b"O"), (b"H", b"C", b"O", b"H"), (b"Os",), (b"O", b"Ca", b"O")):
         for text in (b"CO", b"Co", b"Ca(OH)2"):
             yield sent(text, atoms)
-    for items in ([], [(b"FORMULA", [])], [(b"FORMULA", []), (b"FORMULA", [b"C"])], [(b"FORMULA", [b"C", b"c"])], [(b"FORMULA", [b"c", b"C"])],
+    for items in ([], [(b"FORMULA", [])], [(b"FORMULA", []), (b"FORMULA", [b"C"])], [(b"FORMULA", [b"C", b"c"])],
+            [(b"FORMULA", [b"c", b"C"])],
                   [(b"formula", [b"C"])], [(b"FORMULA ", [b"C"])], [(b" FORMULA", [b"C"])], [(b"FORMULAR", [b"C"])], [(b"FORMUL", [b"C"])],
-                  [(b"Formula", [b"C"])], [(b"LOT", [b"C"])], [(b"F", [b"C"]), (b"FORMULA", [b"C2"])], [(b"FORMULA", [b"C2"]), (b"FORMULA", [b"C"])]):
+                  [(b"Formula", [b"C"])], [(b"LOT", [b"C"])], [(b"F", [b"C"]), (b"FORMULA", [b"C2"])],
+                  [(b"FORMULA", [b"C2"]), (b"FORMULA", [b"C"])]):
         yield record((b"C",), items)
     yield sent("".join(NAMES[:60]).encode(), [name.encode() for name in NAMES[60:]])

@@ -20,11 +20,13 @@ def told(data):
 def repairs_by_hand():
     for name, tail, text, repairs in (
             ("good", TAIL, TAIL, []), ("no LF at the end", TAIL[:-1], TAIL, [(13, ENDED)]),
-            ("no blank before $$$$", b">  <A>\n1\n$$$$\n", TAIL, [(12, PUT)]), ("no blank, no LF", b">  <A>\n1\n$$$$", TAIL, [(12, PUT), (12, ENDED)]),
+            ("no blank before $$$$", b">  <A>\n1\n$$$$\n", TAIL, [(12, PUT)]),
+            ("no blank, no LF", b">  <A>\n1\n$$$$", TAIL, [(12, PUT), (12, ENDED)]),
             ("no blank before a header", b">  <A>\n1\n> <B>\n\n$$$$\n", b">  <A>\n1\n\n> <B>\n\n$$$$\n", [(12, PUT)]),
             ("two headers", b">  <A>\n> <B>\n\n$$$$\n", b">  <A>\n\n> <B>\n\n$$$$\n", [(11, PUT)]),
             ("$$$$ after a header", b">  <A>\n$$$$\n", b">  <A>\n\n$$$$\n", [(11, PUT)]),
-            ("a blank before an item", b"\n" + TAIL, TAIL, [(10, DROPPED)]), ("a blank without items", b"\n$$$$\n", b"$$$$\n", [(10, DROPPED)]),
+            ("a blank before an item", b"\n" + TAIL, TAIL, [(10, DROPPED)]),
+            ("a blank without items", b"\n$$$$\n", b"$$$$\n", [(10, DROPPED)]),
             ("two blanks before an item", b"\n   \n" + TAIL, TAIL, [(10, DROPPED), (11, DROPPED)]),
             ("two blanks after values", b">  <A>\n1\n  \n\n$$$$\n", b">  <A>\n1\n  \n$$$$\n", [(13, DROPPED)]),
             ("a blank of 300", b" " * 300 + b"\n" + TAIL, TAIL, [(10, DROPPED)]),
@@ -46,13 +48,17 @@ def repairs_by_hand():
 def not_mended():
     for name, data, want in (
             ("blanks alone", b"\n\n", (19, 3, 1)), ("a blank alone, unfinished", b" ", (19, 2, 1)), ("many blanks", b"\n" * 9, (6, 4, 34)),
-            ("$$$$x at a value", edit(drop=12).replace(b"$$$$", b"$$$$x"), (17, 12, 1)), ("a long $$$$", edit(drop=12).replace(b"$$$$", b"$$$$" + b" " * 77), (17, 12, 1)),
+            ("$$$$x at a value", edit(drop=12).replace(b"$$$$", b"$$$$x"), (17, 12, 1)),
+            ("a long $$$$", edit(drop=12).replace(b"$$$$", b"$$$$" + b" " * 77), (17, 12, 1)),
             ("a bad byte in a header", edit(11, b">  <\t>"), (4, 11, 5)), ("a long blank at a value", edit(12, b" " * 201), (3, 12, 201)),
             ("a value at an item", SAMPLE.replace(b"\n\n$$$$", b"\n\nx\n$$$$"), (16, 13, 1)),
             ("a line counted in the mended text", edit(drop=12) + edit(4, b"x", 1), (7, 17, 1)),
-            ("no $$$$, blanks", SAMPLE[:-5] + b"\n\n", (19, 13, 1)), ("cut in a value", SAMPLE[:256], (19, 12, 1)), ("cut in an atom", SAMPLE[:70], (9, 5, 32)),
-            ("an unfinished blank at a value", SAMPLE[:259] + b" ", (19, 13, 1)), ("an unfinished CR at a value", SAMPLE[:259] + b"\r", (19, 13, 1)),
-            ("something after blanks", SAMPLE + b"\n\nx\n", (19, 17, 1)), ("a blank in the atoms", SAMPLE.replace(LINES[5], b"\n" + LINES[5]), (9, 6, 32))):
+            ("no $$$$, blanks", SAMPLE[:-5] + b"\n\n", (19, 13, 1)), ("cut in a value", SAMPLE[:256], (19, 12, 1)),
+            ("cut in an atom", SAMPLE[:70], (9, 5, 32)),
+            ("an unfinished blank at a value", SAMPLE[:259] + b" ", (19, 13, 1)),
+            ("an unfinished CR at a value", SAMPLE[:259] + b"\r", (19, 13, 1)),
+            ("something after blanks", SAMPLE + b"\n\nx\n", (19, 17, 1)),
+            ("a blank in the atoms", SAMPLE.replace(LINES[5], b"\n" + LINES[5]), (9, 6, 32))):
         answer, text, repairs = told(data)
         expect("not mended, " + name, (answer, text, repairs), (("refused", *want), b"", []))
     damage = edit(drop=12)[:-1]

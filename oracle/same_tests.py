@@ -13,18 +13,21 @@ from writer import catalogue_text, text_of
 
 def deliveries_by_hand():
     for name, new, want in (
-            ("itself", SAMPLE, "same 1"), ("line ends", SAMPLE.replace(b"\n", b"\r\n"), "same 1"), ("columns not read", edit(4, b"xyz", 19), "same 1"),
+            ("itself", SAMPLE, "same 1"), ("line ends", SAMPLE.replace(b"\n", b"\r\n"), "same 1"),
+            ("columns not read", edit(4, b"xyz", 19), "same 1"),
             ("columns not read in an atom", edit(5, b"999", 55), "same 1"), ("spaces of an item header", edit(10, b"> <LOT>  "), "same 1"),
             ("a blank of spaces", edit(12, b"  "), "same 1"), ("leading zeros of a number", edit(7, b"001", 1), "same 1"),
             ("minus zero", edit(5, b"-0.0000", 4), "same 1"), ("a code that M  CHG voids", edit(5, b"  4", 37), "same 1"),
             ("one zero of a lot", edit(11, b"0417"), "differ 1"), ("a space after a value", edit(11, b"00417 "), "differ 1"),
             ("a space after a title", edit(1, b"AB-00417 "), "differ 1"), ("a name's case", edit(10, b">  <Lot>"), "differ 1"),
-            ("a record more", SAMPLE * 2, "differ 2"), ("none", b"", "differ 1"), ("a refused file", edit(drop=12), "refused 2 17 line 12 column 1")):
+            ("a record more", SAMPLE * 2, "differ 2"), ("none", b"", "differ 1"),
+            ("a refused file", edit(drop=12), "refused 2 17 line 12 column 1")):
         expect("same, " + name, line_of(same(SAMPLE, new)), want)
     expect("two empty files", line_of(same(b"", b"")), "same 0")
     expect("the first judged first", line_of(same(SAMPLE + b"x", b"x")), "refused 1 19 line 14 column 1")
     expect("the second record", line_of(same(SAMPLE * 3, SAMPLE + edit(4, b"1", 15) + edit(11, b"x"))), "differ 2")
-    expect("a charge by code or by line", line_of(same(coded(), coded(b"M  CHG  6   2   3   3   2   4   1   6  -1   7  -2   8  -3", b"M  RAD  1   5   2"))), "same 1")
+    expect("a charge by code or by line", line_of(same(coded(),
+        coded(b"M  CHG  6   2   3   3   2   4   1   6  -1   7  -2   8  -3", b"M  RAD  1   5   2"))), "same 1")
 
 
 def same_text_exactly():

@@ -22,8 +22,10 @@ SPOILED = {
     4: [((line, SHORT[line - 1] + byte), len(SHORT[line - 1]) + 1) for line, byte in (
         (1, b"\t"), (2, b"\x00"), (3, b"\r\r"), (COUNTS, b"\x7f"), (ATOM, b"\xff"), (BOND, b"\x1f"), (CHARGE, b"\x80"),
         (HEADER, b"\t"), (VALUE, b"\x00"), (CLOSE, b"\x0b"))],
-    5: [((1, text), 1) for text in (b"$$$$", b"$MDL", b"$RXN", b"$RDFILE", b"a$MDL", b" $$$$", b"$$$$$", b"x$RXN y", b"$$MDL", b"$RDFILE 1")],
-    6: [(over(COUNTS, 34, text), 34) for text in (b" V3000", b" v2000", b"V2000 ", b"      ", b" V200 ", b"1V2000", b" V200O", b"  V200", b" W2000", b" V2001")],
+    5: [((1, text), 1) for text in (b"$$$$", b"$MDL", b"$RXN", b"$RDFILE", b"a$MDL", b" $$$$", b"$$$$$", b"x$RXN y", b"$$MDL",
+    b"$RDFILE 1")],
+    6: [(over(COUNTS, 34, text), 34) for text in (b" V3000", b" v2000", b"V2000 ", b"      ", b" V200 ", b"1V2000", b" V200O",
+    b"  V200", b" W2000", b" V2001")],
     7: [(over(COUNTS, 1, b"1 1"), 1), (over(COUNTS, 4, b" -1"), 4), (over(ATOM, 1, b"    1,0000"), 1), (over(ATOM, 11, b"     .0000"), 11),
         (over(ATOM, 37, b"  x"), 37), (over(BOND, 1, b"1 2"), 1), (over(BOND, 16, b" -0"), 16), (over(CHARGE, 7, b" 1."), 7),
         (over(CHARGE, 11, b" -1"), 11), (over(CHARGE, 15, b" 1-"), 15)],
@@ -32,17 +34,20 @@ SPOILED = {
         (over(CHARGE, 11, b"  4"), 11), (over(CHARGE, 15, b" 16"), 15)],
     9: [(over(ATOM, 32, text), 32) for text in (b"   ", b"c  ", b"CL ", b" C ", b"Xx ", b"D  ", b"lp ", b"C1 ", b"L  ", b"Uue")],
     10: [((line, b"%3d%3d  %d" % (a, a, kind)), 1) for line, a, kind in (
-        (BOND - 1, 1, 1), (BOND - 1, 2, 1), (BOND - 1, 3, 2), (BOND, 1, 1), (BOND, 2, 1), (BOND, 3, 1), (BOND, 1, 4), (BOND, 2, 8), (BOND, 3, 2), (BOND - 1, 1, 3))],
+        (BOND - 1, 1, 1), (BOND - 1, 2, 1), (BOND - 1, 3, 2), (BOND, 1, 1), (BOND, 2, 1), (BOND, 3, 1), (BOND, 1, 4),
+        (BOND, 2, 8), (BOND, 3, 2), (BOND - 1, 1, 3))],
     11: [((BOND, pair + b"  %d" % kind), 1) for pair in (b"  1  2", b"  2  1") for kind in (1, 2, 4, 7, 8)],
     12: [(over(COUNTS, 4, b"%3d" % m), 4) for m in (4, 5, 6, 7, 9, 10, 12, 99, 100, 254)],
-    13: [((END, text), 1) for text in (b"M END", b"M  ALS", b"m  END", b"", b"$$$$", b"M  CHH  1   1   1", b"END", b" M  END", b"M  EN", b"A    1")],
+    13: [((END, text), 1) for text in (b"M END", b"M  ALS", b"m  END", b"", b"$$$$", b"M  CHH  1   1   1", b"END", b" M  END",
+    b"M  EN", b"A    1")],
     14: [((CHARGE, charges(*atoms)), 3 + 8 * len(atoms)) for atoms in (
         (1, 1), (1, 2, 1), (1, 2, 2), (1, 2, 3, 1), (1, 2, 3, 2), (1, 2, 3, 3))] + [
         ((END, b"M  CHG  1   1%4d" % charge), 11) for charge in (0, 1, -1, 15)],
     15: [(over(COUNTS, 40, b"x"), 40), (over(COUNTS, 80, b"0"), 80), (over(ATOM, 31, b"."), 31), (over(ATOM, 70, b"0"), 70),
          (over(BOND, 22, b"1"), 22), (over(CHARGE, 10, b"0"), 10), (over(CHARGE, 14, b"-"), 14), (over(CHARGE, 18, b" 1"), 19),
          (over(END, 7, b"x"), 7), (over(END, 80, b"."), 80)],
-    16: [((HEADER, text), 1) for text in (b"", b" ", b"><A>", b">  <>", b">  <A", b"> 5 <A>", b"$$$$x", b"C3", b">  <A<B>", b">  <" + b"n" * 31 + b">")],
+    16: [((HEADER, text), 1) for text in (b"", b" ", b"><A>", b">  <>", b">  <A", b"> 5 <A>", b"$$$$x", b"C3", b">  <A<B>",
+    b">  <" + b"n" * 31 + b">")],
     17: [((line, text), 1) for line in (VALUE, BLANK) for text in (b"$$$$", b"$$$$x", b">  <A>", b"> <LOT>  ", b"$$$$$$$$")],
 }
 

@@ -30,15 +30,18 @@ def joins_by_hand():
         '{"file":"a.sdf","record":1,"supplier":"ABCD","lot":"417","never_received":true}',
         '{"lots":1,"paper":1,"records":1,"received":0,"never_received":1,"no_key":0}'])
     for supplier, lot, reason in ((None, b"1", "supplier missing"), (b"AB", None, "lot missing"), (None, None, "supplier missing"),
-                                  (b"ABCDE", b"1", "supplier too long"), (b"AB", b"123456789", "lot too long"), (b"AB ", b"1", "supplier ends in the pad byte"),
-                                  (b"AB", b"1 ", "lot ends in the pad byte"), (b"ABCDE", None, "supplier too long"), (b"AB  ", b"1", "supplier ends in the pad byte")):
+                                  (b"ABCDE", b"1", "supplier too long"), (b"AB", b"123456789", "lot too long"),
+                                  (b"AB ", b"1", "supplier ends in the pad byte"),
+                                  (b"AB", b"1 ", "lot ends in the pad byte"), (b"ABCDE", None, "supplier too long"),
+                                  (b"AB  ", b"1", "supplier ends in the pad byte")):
         expect(reason, told(b"", bottle(supplier, lot)), ['{"file":"a.sdf","record":1,"no_key":"%s"}' % reason,
                                                           '{"lots":0,"paper":0,"records":1,"received":0,"never_received":0,"no_key":1}'])
     expect("a space in front stays", told(event(b"R", b" AB 1       ", 0), bottle(b" AB", b"1"))[-1],
            '{"lots":1,"paper":0,"records":1,"received":1,"never_received":0,"no_key":0}')
     expect("another pad byte", told(event(b"R", b"AB00100     ", 0), bottle(b"AB", b"100     "), pad=b"0")[-1],
            '{"lots":1,"paper":0,"records":1,"received":1,"never_received":0,"no_key":0}')
-    expect("only the first items", told(event(b"R", KEY, 0), record((), [(b"LOT", [b"00417", b"x"]), (b"SUPPLIER", [b"ABCD"]), (b"LOT", [b"9"])]))[-1],
+    expect("only the first items", told(event(b"R", KEY, 0), record((),
+        [(b"LOT", [b"00417", b"x"]), (b"SUPPLIER", [b"ABCD"]), (b"LOT", [b"9"])]))[-1],
            '{"lots":1,"paper":0,"records":1,"received":1,"never_received":0,"no_key":0}')
     expect("an item without values", told(b"", record((), [(b"SUPPLIER", []), (b"SUPPLIER", [b"AB"]), (b"LOT", [b"1"])]))[0],
            '{"file":"a.sdf","record":1,"no_key":"supplier missing"}')
@@ -54,7 +57,8 @@ def settled_stocks():
             ("settled", event(b"R", KEY, 3) + event(b"C", KEY, 3), good, True), ("no count", event(b"R", KEY, 3), good, True),
             ("the last count differs", event(b"R", KEY, 3) + event(b"C", KEY, 3) + event(b"C", KEY, 2), good, False),
             ("an earlier count differs", event(b"R", KEY, 3) + event(b"C", KEY, 2) + event(b"C", KEY, 3), good, True),
-            ("no record", event(b"R", KEY, 3), [], False), ("no lot", b"", good, False), ("no key", b"", [("a", bottle(None, b"1"))], False),
+            ("no record", event(b"R", KEY, 3), [], False), ("no lot", b"", good, False),
+            ("no key", b"", [("a", bottle(None, b"1"))], False),
             ("a log that stops", event(b"R", KEY, 3) + b"x", good, False), ("nothing at all", b"", [], True)):
         expect(name, settled(join(log, files)), want)
 

@@ -44,9 +44,11 @@ def reports_by_hand():
 
 
 def refusals_of_tallies():
-    for name, tally, room in (("room", EMPTY, 63), ("order", Tally(((b"B", 1), (b"A", 1)), 0, 2), 64), ("a name twice", Tally(((b"A", 1), (b"A", 1)), 0, 2), 64),
+    for name, tally, room in (("room", EMPTY, 63), ("order", Tally(((b"B", 1), (b"A", 1)), 0, 2), 64),
+            ("a name twice", Tally(((b"A", 1), (b"A", 1)), 0, 2), 64),
                               ("sum", Tally(((b"A", 1),), 0, 2), 64), ("missing in the sum", Tally(((b"A", 1),), 1, 1), 64),
-                              ("a long name", Tally(((b"A" * 25, 1),), 0, 1), 64), ("a high total", Tally(((b"A", 1000000),), 0, 1000000), 64)):
+                              ("a long name", Tally(((b"A" * 25, 1),), 0, 1), 64),
+                              ("a high total", Tally(((b"A", 1000000),), 0, 1000000), 64)):
         expect("2, " + name, refused(tally, b"\x00\n", room), (2, 0, 0, 0))
     expect("24 bytes", refused(EMPTY, sent(b"A" * 24)), None)
     expect("23", refused(EMPTY, sent(b"AB", None, b"A" * 25)), (23, 0, 0, 3))
