@@ -4,7 +4,7 @@ Every aim takes good rows, spoils one line, and names the refusal's number and c
 below are copied from the layout of the lines by hand, apart from forms.py, so each checks the other.
 """
 
-from generate import Row, draft_record, file_rows, good_drafts, to_bytes
+from generate import Row, aligned, draft_record, file_rows, good_drafts, integer, to_bytes
 from limit import LIMIT
 
 # first column, last column, good numbers; the top of an atom number is n
@@ -32,6 +32,11 @@ BAD_HEADERS = [b"", b" ", b"$$$$x", b"$$$", b" $$$$", b"><A>", b">  <>", b">  <A
                b">  <A>(M)", b"> 55 <A>", b">  <A<B>", b"<A>", b">  A", b">  <" + b"n" * 31 + b">",
                b"> ", b"00417", b">  DT12", b"$$$$ $$$$", b">  <A>>", b" >  <A>"]
 RESERVED = [b"$$$$", b"$MDL", b"$RXN", b"$RDFILE"]
+MALFORMED = [["x", "1x", ".", "0.", "e1", "-1x"],           # a byte that no integer has
+             ["1 1", "1 2", "0 0", "9 9"],                  # a space between digits
+             ["-", "+", "- 1", "+ 1", "+ 0"],               # a sign, and no digit right after it
+             ["1-", "1+", "--1", "++1", "+-1", "-+1", "1-1", "1+1"]]
+SIGNED = ["-1", "-0", "+1", "+0", "+9", "-99", "+99", "+00"]    # malformed where no number is negative
 
 
 def put(text, first, new):
@@ -46,10 +51,10 @@ def limits(good, n):
 
 
 def malformed(rng, width, signed):
-    """A text of that width which is no integer field."""
-    texts = ["x", "1 ", "- 1", "+1", "-", "1-", "1x", ".", "0.", "1 1", "--1", "e1", "-1x"]
-    texts += [] if signed else ["-1", "-0"]
-    return rng.choice([t for t in texts if len(t) <= width]).rjust(width)
+    """A text of that width which is no integer field, at any place of its columns."""
+    ways = MALFORMED if signed else MALFORMED + [SIGNED]
+    ways = [[text for text in texts if len(text) <= width] for texts in ways]
+    return aligned(rng, rng.choice(rng.choice([texts for texts in ways if texts])), width)
 
 
 def outside(rng, good, width):
@@ -62,8 +67,7 @@ def outside(rng, good, width):
     wrong = near + far + [v for v in lows[:3] if v not in good]
     if not wrong:
         return None
-    value = rng.choice(wrong)
-    return " " * width if value == 0 and rng.random() < 0.5 else str(value).rjust(width)
+    return integer(rng, rng.choice(wrong), width, signed)
 
 
 class Aim:
@@ -111,16 +115,19 @@ def spoil_version(rng, row):
 def spoil_bond_total(rng, row):
     """m above n(n-1)/2 but good by itself."""
     least = row.draft.n * (row.draft.n - 1) // 2 + 1
-    row.text = put(row.text, 4, "%3d" % rng.choice([least, rng.randrange(least, LIMIT + 1), LIMIT]))
+    row.text = put(row.text, 4, integer(rng, rng.choice([least, rng.randrange(least, LIMIT + 1), LIMIT]), 3))
     return 12, 4
 
 
 def spoil_stereo(rng, row):
-    """Type and stereo that don't go together; the ends stay good."""
+    """Type and stereo that don't go together, or a malformed stereo; the ends stay good."""
     kind = rng.randrange(1, 9)
     wrong = sorted(set(range(10)) - set({1: [0, 1, 4, 6], 2: [0, 3]}.get(kind, [0])))
-    row.text = put(row.text, 7, "%3d%3d" % (kind, rng.choice(wrong + [999])))
-    return 8, 10
+    number, text = 8, integer(rng, rng.choice(wrong + [999]), 3)
+    if rng.random() < 0.3:
+        number, text = 7, malformed(rng, 3, False)
+    row.text = put(row.text, 7, integer(rng, kind, 3) + text)
+    return number, 10
 
 
 def spoil_ends(rng, row):
@@ -128,10 +135,10 @@ def spoil_ends(rng, row):
     earlier = row.draft.bonds[:row.index]
     if not earlier or rng.random() < 0.3:
         a = rng.randrange(1, row.draft.n + 1)
-        row.text = put(row.text, 1, "%3d%3d" % (a, a))
+        row.text = put(row.text, 1, integer(rng, a, 3) + integer(rng, a, 3))
         return 10, 1
     a, b = rng.sample(rng.choice(earlier)[:2], 2)
-    row.text = put(row.text, 1, "%3d%3d" % (a, b))
+    row.text = put(row.text, 1, integer(rng, a, 3) + integer(rng, b, 3))
     return 11, 1
 
 
@@ -152,7 +159,7 @@ def spoil_tag(rng, row):
 
 
 def spoil_entry_count(rng, row):
-    number, text = 8, rng.choice(["   ", "  0", "  9", "000", " 10", "999"])
+    number, text = 8, integer(rng, rng.choice([0, 0, 0, 9, 9, 10, 999]), 3)
     if rng.random() < 0.4:
         number, text = 7, malformed(rng, 3, False)
     row.text = put(row.text, 7, text)
@@ -182,9 +189,9 @@ def spoil_entry(rng, row):
         row.text = put(row.text, first + 5, outside(rng, NUMBERS[tag], 3))
         return 8, first + 5
     if choice == 5 and len(entries) < 8 and rng.random() < 0.5:
-        row.text = put(row.text[:9 + 8 * len(entries)], 7, "%3d" % (len(entries) + 1))
+        row.text = put(row.text[:9 + 8 * len(entries)], 7, integer(rng, len(entries) + 1, 3))
         return 8, 11 + 8 * len(entries)
-    row.text = put(row.text, first + 1, "  0")
+    row.text = put(row.text, first + 1, integer(rng, 0, 3))
     return 8, first + 1
 
 
@@ -198,7 +205,7 @@ def spoil_repeat(rng, row):
     if not earlier:
         row.text = put(row.text, first, "  0")
         return 8, first
-    row.text = put(row.text, first, "%3d" % rng.choice(earlier))
+    row.text = put(row.text, first, integer(rng, rng.choice(earlier), 3))
     return 14, first
 
 
@@ -243,7 +250,7 @@ SPOILERS = [        # the place, the way, how often, and the numbers that can co
     ("counts", spoil_rest, 1, (15,)), ("atom", spoil_field, 5, (7, 8)),
     ("atom", spoil_coordinate, 2, (7,)), ("atom", spoil_symbol, 1, (9,)),
     ("atom", spoil_gap, 1, (15,)), ("atom", spoil_rest, 1, (15,)), ("bond", spoil_field, 3, (7, 8)),
-    ("bond", spoil_stereo, 1, (8,)), ("bond", spoil_ends, 3, (10, 11)), ("bond", spoil_rest, 1, (15,)),
+    ("bond", spoil_stereo, 1, (7, 8)), ("bond", spoil_ends, 3, (10, 11)), ("bond", spoil_rest, 1, (15,)),
     ("property", spoil_tag, 1, (13,)), ("property", spoil_entry_count, 1, (7, 8)),
     ("property", spoil_entry, 4, (7, 8, 15)), ("property", spoil_repeat, 2, (14,)),
     ("property", spoil_rest, 1, (15,)), ("end", spoil_tag, 1, (13,)), ("end", spoil_rest, 1, (15,)),
@@ -335,9 +342,9 @@ def blind(rng, data):
     if choice == 1:
         return data[:at] + data[at + rng.choice([1, 1, 1, 3, 20]):]
     if choice == 2:
-        return data[:at] + bytes([rng.choice(b"0 1-.>$x\n\r9")]) + data[at:]
+        return data[:at] + bytes([rng.choice(b"0 1-+.>$x\n\r9")]) + data[at:]
     if choice == 3:
-        return data[:at] + bytes([rng.choice(b"0 1-.>$x\n\r9")]) + data[at + 1:]
+        return data[:at] + bytes([rng.choice(b"0 1-+.>$x\n\r9")]) + data[at + 1:]
     if choice == 4:
         return data[:at]
     lines = data.split(b"\n")

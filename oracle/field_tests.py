@@ -1,30 +1,99 @@
-"""Every number of every field, and every column of the lines that have columns."""
+"""Every number of every field in every spelling, and every column of the lines that have columns."""
+
+import re
 
 from ctfile import Context
-from damage import FIELDS, limits, put
+from damage import put
 from expect import expect
-from forms import ATOM, BOND, COUNTS, Complaint, property_form
+from forms import ATOM, BOND, COUNTS, Complaint, ENTRY_COUNT, integer_shape, integer_value, property_form
 from limit import LIMIT
+from spelled import every_text, integer_fields, positions
 
 PLAIN = {"counts": b"  2  1  0  0  0  0  0  0  0  0999 V2000",
          "atom": b"    0.0000    0.0000    0.0000 C   0  0  0  0  0  0  0  0  0  0  0  0",
          "bond": b"  1  2  1  0  0  0  0"}
+ATOMS = 8                   # of the record around a field
+
+
+def number_in(text, signed):
+    """What an integer field says, taken apart by hand; None if it is malformed."""
+    inner = text.strip(" ")
+    sign = inner[:1] if inner[:1] in ("+", "-") else ""
+    digits = inner[len(sign):]
+    if inner == "":
+        return 0
+    if (sign and not signed) or digits == "" or set(digits) - set("0123456789"):
+        return None
+    value = sum(int(digit) * 10 ** k for k, digit in enumerate(reversed(digits)))
+    return -value if sign == "-" else value
+
+
+def every_width():
+    """Fields of one to five columns, signed or not, in every text of a few bytes."""
+    for width in range(1, 6):
+        for signed in (False, True):
+            pattern = re.compile(integer_shape(width, signed))
+            for text in every_text(width, " +-07" if width > 3 else " +-079.x"):
+                found = pattern.fullmatch(text.encode())
+                expect("%r, signed %s" % (text, signed), found and integer_value(found.group()), number_in(text, signed))
+
+
+def spellings_by_hand():
+    """The forms of a field as they are told, in a signed field and in one that is not."""
+    for text, signed, unsigned in (
+            ("1  ", 1, 1), (" 1 ", 1, 1), ("  1", 1, 1), ("01 ", 1, 1), ("   ", 0, 0), ("12 ", 12, 12), ("000", 0, 0),
+            ("+1 ", 1, None), (" +1", 1, None), ("+01", 1, None), ("+0 ", 0, None), ("-1 ", -1, None), (" -1", -1, None),
+            ("-0 ", 0, None), ("+  ", None, None), ("  +", None, None), (" - ", None, None), ("- 1", None, None),
+            ("+ 1", None, None), ("1 2", None, None), ("1 1", None, None), ("1+ ", None, None), ("1 -", None, None),
+            ("+-1", None, None), ("++1", None, None), ("1. ", None, None)):
+        for sign, want in ((True, signed), (False, unsigned)):
+            found = re.fullmatch(integer_shape(3, sign), text.encode())
+            expect("%r, signed %s" % (text, sign), found and integer_value(found.group()), want)
+            expect("%r by hand, signed %s" % (text, sign), number_in(text, sign), want)
+
+
+def form_and_line(field):
+    """The form that judges the field, and a good line around it."""
+    if field.place == "property":
+        form = ENTRY_COUNT if field.first == 7 else property_form(field.tag, 2)
+        return form, b"M  " + field.tag + b"  2   8   1   7   1"
+    line = put(PLAIN[field.place], 4, "  0") if field.place == "counts" else PLAIN[field.place]
+    return {"counts": COUNTS, "atom": ATOM, "bond": BOND}[field.place], line
+
+
+def verdict(field, value):
+    """What a line plain but for this field gives; None for the value is a malformed field."""
+    if value is None:
+        return 7, field.first
+    if (field.place, field.first) == ("counts", 4) and value in range(2, LIMIT + 1):     # m above what n = 2 allows
+        return 12, 4
+    if (field.place, field.first, value) in (("property", 11, 7), ("property", 19, 8)):    # the line's other atom
+        return 14, 19
+    return None if value in field.good else (8, field.first)
 
 
 def every_number_of_every_field():
-    """All numbers a field can hold, by the lists that the damage goes by: good, or 8 there."""
-    forms = {"counts": COUNTS, "atom": ATOM, "bond": BOND}
-    for place, fields in FIELDS.items():
-        line = put(PLAIN[place], 4, "  0") if place == "counts" else PLAIN[place]
-        for first, last, good in fields:
-            width, good = last - first + 1, limits(good, 2)
-            low = -(10 ** (width - 1)) + 1 if min(good) < 0 else 0
-            for value in range(low, 10 ** width):
-                got = judged(forms[place], put(line, first, str(value).rjust(width)))
-                # stereo is 0 here, which goes with every bond type; m is held down by n = 2 too
-                want = None if value in good else (8, first)
-                want = (12, 4) if (place, first) == ("counts", 4) and value in range(2, LIMIT + 1) else want
-                expect("%s column %d, %d" % (place, first, value), got, want)
+    """All numbers a field can hold, at each place of its columns and with either sign."""
+    for field in integer_fields(ATOMS):
+        form, line = form_and_line(field)
+        for value in range(10 ** field.width):
+            for text in (str(value), "+%d" % value, "-%d" % value):
+                for spelled in positions(text, field.width):
+                    judge_text(field, form, line, spelled)
+
+
+def every_text_in_every_field():
+    """Spaces, signs and a few digits in every order, in every field of every line."""
+    for field in integer_fields(ATOMS):
+        form, line = form_and_line(field)
+        for text in every_text(field.width):
+            judge_text(field, form, line, text)
+
+
+def judge_text(field, form, line, text):
+    name = "%s %s column %d, %r" % (field.place, field.tag.decode(), field.first, text)
+    want = verdict(field, number_in(text, field.signed))
+    expect(name, judged(form, put(line, field.first, text), ATOMS), want)
 
 
 def every_bond_type_with_every_stereo():
@@ -58,7 +127,7 @@ def one_changed_byte():
     for place, spots in SPOTS.items():
         form = {"atom": ATOM, "bond": BOND}[place]
         for column in range(1, 81):
-            for byte in b"#9- 0.5xCl$":
+            for byte in b"#9-+ 0.5xCl$":
                 got = judged(form, put(PLAIN[place], column, bytes([byte])))
                 first = next((f for last, f in spots if column <= last), column)
                 fitting = [None] + [(number, first) for number in spot_numbers(place, first)]
@@ -77,14 +146,14 @@ def spot_numbers(place, first):
     return (9,) if first == 32 else (7, 8)
 
 
-def judged(form, line):
-    """None, or number and column, for a line of a record with two atoms."""
+def judged(form, line, n=2):
+    """None, or number and column, for a line of a record with so many atoms."""
     try:
-        form.judge(line, Context(2))
+        form.judge(line, Context(n))
         return None
     except Complaint as complaint:
         return complaint.args
 
 
-ALL = [every_number_of_every_field, every_bond_type_with_every_stereo, every_property_number,
-       one_changed_byte]
+ALL = [every_width, spellings_by_hand, every_number_of_every_field, every_text_in_every_field,
+       every_bond_type_with_every_stereo, every_property_number, one_changed_byte]

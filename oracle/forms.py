@@ -39,12 +39,14 @@ class Part(NamedTuple):
     demands: Tuple = ()         # (number, test(value, seen, ctx)) in order
 
 
-def integer_shape(width, negative):
-    """All spaces, or spaces, perhaps a minus, and digits up to the last column."""
+def integer_shape(width, signed):
+    """All spaces, or spaces, perhaps a sign, digits, and spaces; every alternative has the field's width."""
     shapes = [" " * width]
-    shapes += ["%s[0-9]{%d}" % (" " * (width - d), d) for d in range(1, width + 1)]
-    if negative:
-        shapes += ["%s-[0-9]{%d}" % (" " * (width - 1 - d), d) for d in range(1, width)]
+    for sign in ["", "[-+]"] if signed else [""]:
+        for digits in range(1, width + 1 - bool(sign)):
+            spare = width - bool(sign) - digits
+            shapes += ["%s%s[0-9]{%d}%s" % (" " * before, sign, digits, " " * (spare - before))
+                       for before in range(spare + 1)]
     return ("(?:%s)" % "|".join(shapes)).encode()
 
 
@@ -53,12 +55,13 @@ def integer_value(text):
 
 
 def integer(name, first, last, allowed, *later):
-    """`allowed` is a range or list; or, where it hangs on the record, a pair (negative, test)."""
+    """`allowed` is a range or list; or, where it hangs on the record, a pair (signed, test). Both signs are
+    good where some number allowed is negative, and neither elsewhere."""
     if isinstance(allowed, tuple) and callable(allowed[-1]):
-        negative, test = allowed
+        signed, test = allowed
     else:
-        negative, test = min(allowed) < 0, lambda v, seen, ctx: v in allowed
-    shape = integer_shape(last - first + 1, negative)
+        signed, test = min(allowed) < 0, lambda v, seen, ctx: v in allowed
+    shape = integer_shape(last - first + 1, signed)
     return Part(name, first, last, shape, 7, integer_value, ((8, test),) + later)
 
 

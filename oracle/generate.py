@@ -3,7 +3,7 @@
     python3 generate.py SEED N DIRECTORY     writes N files, good and damaged ones mixed
 
 A draft is a record before it is spelled. The same number can be spelled in several ways (leading
-zeros, all spaces for zero, `-0`), and every way is used.
+zeros, all spaces for zero, `-0`, `+1`, at the left of its field), and every way is used.
 """
 
 import os
@@ -154,11 +154,19 @@ def integer(rng, value, width, signed=False):
     """One of the good spellings of a number in a field."""
     if value == 0 and rng.random() < 0.2:
         return " " * width
-    digits = str(abs(value))
-    sign = "-" if value < 0 or (signed and value == 0 and rng.random() < 0.2) else ""
+    digits, sign = str(abs(value)), "-" if value < 0 else ""
+    if signed and value >= 0 and len(digits) < width and rng.random() < 0.2:
+        sign = "+" if value else rng.choice("-+")
     if rng.random() < 0.1:
         digits = digits.zfill(rng.randrange(len(digits), width - len(sign) + 1))
-    return (sign + digits).rjust(width)
+    return aligned(rng, sign + digits, width)
+
+
+def aligned(rng, text, width):
+    """The text at the right of its columns, at times at the left or between."""
+    spare = width - len(text)
+    before = rng.randrange(spare + 1) if rng.random() < 0.08 else spare
+    return (" " * before + text).ljust(width)
 
 
 def coordinate(rng, value):

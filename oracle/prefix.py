@@ -25,11 +25,12 @@ def spellings(values, width=3):
         for digits in range(1, width + 1):
             plain = "%0*d" % (digits, abs(value))
             texts = [plain] if value >= 0 else []
+            texts += ["+" + plain] if signed and value >= 0 else []
             texts += ["-" + plain] if signed and value <= 0 else []
-            out += [t.rjust(width) for t in texts if len(t) <= width]
+            out += [(" " * before + t).ljust(width) for t in texts for before in range(width - len(t) + 1)]
         if value == 0:
             out.append(" " * width)
-    return "(?:%s)" % "|".join(sorted(set(out)))
+    return "(?:%s)" % "|".join(re.escape(text) for text in sorted(set(out)))
 
 
 ANY = "[ -~]"

@@ -114,13 +114,29 @@ def refusals_by_hand():
         refused("5", edit(1, tag), 5, 1, 1)
     refused("6", edit(4, b" V3000", 34), 6, 4, 34)
     refused("6, line too short", edit(4, LINES[3][:38]), 6, 4, 34)
-    refused("7 in n", edit(4, b"2  ", 1), 7, 4, 1)
+    refused("7 in n", edit(4, b"2 2", 1), 7, 4, 1)
     refused("7 by a minus", edit(4, b" -0", 4), 7, 4, 4)
-    refused("7 by the line's end", edit(7, b"  1  2 1"), 7, 7, 7)
+    refused("7 by a plus", edit(4, b"+1 ", 4), 7, 4, 4)
+    refused("7 by a plus in a charge code", edit(6, b" +5", 37), 7, 6, 37)
+    refused("7 by a sign alone", edit(5, b"+ ", 35), 7, 5, 35)
+    refused("7 by the line's end after a sign", edit(7, b"  1  2  1  0  0  0 -"), 7, 7, 19)
+    refused("7 by a space after a sign", edit(8, b"M  CHG  1   2 + 1"), 7, 8, 15)
+    refused("7 by a space between digits", edit(7, b"1 2", 19), 7, 7, 19)
+    refused("7 before 8", edit(5, b"9 9", 49), 7, 5, 49)
+    refused("7 in an entry count", edit(8, b"M  CHG +1   2  -1"), 7, 8, 7)
+    refused("7 in an entry's atom", edit(8, b"M  CHG  1  +2  -1"), 7, 8, 11)
+    refused("7 by a plus in a radical", edit(8, b"M  RAD  1   2  +1"), 7, 8, 15)
+    refused("7 by a plus in an isotope", edit(8, b"M  ISO  1   2 +13"), 7, 8, 15)
+    refused("7 by a plus in a coordinate", edit(5, b"   +1.0000", 1), 7, 5, 1)
+    refused("7 by a coordinate at the left", edit(5, b"0.0000    ", 1), 7, 5, 1)
     refused("7 in y", edit(5, b"    0.000 ", 11), 7, 5, 11)
     for above in range(LIMIT + 1, WIDEST + 1)[:1]:      # no such number where three columns cannot hold it
         refused("8 in n", edit(4, b"%3d" % above, 1), 8, 4, 1)
         refused("8 in m before 12", edit(4, b"%3d" % above, 4), 8, 4, 4)
+    refused("8 at the left", edit(5, b"8  ", 37), 8, 5, 37)
+    refused("8 after a plus", edit(8, b"M  CHG  1   2 +16"), 8, 8, 15)
+    refused("10 in two spellings", edit(7, b"2    2", 1), 10, 7, 1)
+    refused("14 in two spellings", edit(8, b"M  CHG  2 2    -1  02   1"), 14, 8, 19)
     refused("8 in atom lists", edit(4, b"  1", 7), 8, 4, 7)
     refused("8 in chiral", edit(4, b"  2", 13), 8, 4, 13)
     refused("8 in stext", edit(4, b"  1", 16), 8, 4, 16)
@@ -175,8 +191,15 @@ def good_by_hand():
             ("minus zero", edit(5, b"-0.0000", 4)),
             ("minus zero in mass", edit(5, b"-0", 35)),
             ("leading zeros", edit(7, b"001002001")),
+            ("counts at the left", edit(4, b"2  1  0  0  0  0  ", 1)),
+            ("an atom's numbers at the left", edit(6, b"+05  " + b"0  " * 10, 35)),
+            ("digits at the line's end", edit(7, b"  1  2 1")),
+            ("a bond at the left", edit(7, b"1  2  1  0  0  0  +1 ")),
+            ("an entry at the left", edit(8, b"M  CHG1   2   +1")),
             ("title of 80 columns", edit(1, b"$$$" + b"x" * 77))):
         expect(name, check(1, data), ("accepted", 1))
+    _, atoms, bonds = read(edit(8, b"M  CHG 2  2   +1   1  -2").replace(b"  1  2  1  0", b"1  02  1 1"))
+    expect("numbers in other spellings", (atoms[5], atoms[21], bonds[:4]), (-2, 1, [1, 2, 1, 1]))
     double = SAMPLE[:253] + b"1\n2\n\n> <LOT>\n3\n\n>  <E>\n\n$$$$\n"
     start, end = fetch(double, b"LOT")[1:]
     expect("first item of a name, all its lines", double[start:end], b"1\n2")

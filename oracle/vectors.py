@@ -28,6 +28,7 @@ from logs import any_log, fixed_logs
 from samples import MOLFILE, SAMPLE, bare, coded, edit, ring
 from scanner import replay
 from small import small_refusals, small_surplus
+from spelled import spelled_lines
 from writer import catalogue_text, text_of
 
 MOST_STORED = 3_000_000     # bytes of all stored files together
@@ -36,7 +37,7 @@ SHORT_ROOMS = [(LIMIT - 1, LIMIT), (LIMIT, LIMIT - 1), (LIMIT, 0), (0, LIMIT), (
 LEAST_OF_EACH = 10          # stored cases for every refusal number that an operation can give
 BASE = ("check", "read", "fetch", "write", "catalogue")
 STORED = {                  # seed, cases, operations
-    "base": (1, 2400, BASE), "copy": (1, 500, ("copy",)), "feed": (1, 420, ("feed",)),
+    "base": (1, 2700, BASE), "copy": (1, 500, ("copy",)), "feed": (1, 420, ("feed",)),
     "next": (1, 400, ("next",)), "replay": (11, 700, ("replay",)),
     "formula": (1, 430, ("formula",)), "pieces": (1, 360, ("pieces",))}
 LINES = {*range(3, 18), 19}  # refusals that a record of an SDfile can meet
@@ -69,10 +70,22 @@ def sweep_file(place, text):
 def sweeps(rng, count):
     """Every column of every line written over with one byte; a sample of these of that size."""
     places = [(place, column, byte) for place in SWEEP_LINES for column in range(1, 82)
-              for byte in (b"#", b"9", b"-", b" ", b"\x1f")]
+              for byte in (b"#", b"9", b"-", b"+", b" ", b"\x1f")]
     for place, column, byte in rng.sample(places, min(count, len(places))):
         text = SWEEP_LINES[place].ljust(column)
         yield check_case(1, sweep_file(place, text[:column - 1] + byte + text[column:]))
+
+
+def spelled_cases(rng, count):
+    """Every integer field with digits at each place of it, with signs, and malformed: a sample of that size, read, and
+    smaller ones for the operations that have files of their own."""
+    files = [sweep_file(place, line) for place, line in spelled_lines(SWEEP_LINES)]
+    for data in rng.sample(files, min(count, len(files))):
+        yield read_case(1, LIMIT, LIMIT, data)
+    for data in rng.sample(files, min(count // 2, len(files))):
+        yield copy_case(1, LIMIT, LIMIT, 400, data)
+        yield feed_case(7, 90, 1, len(data), data)
+        yield next_case((0, 0, 0), LIMIT, LIMIT, data)
 
 
 def aimed_file(rng, kind):
@@ -459,7 +472,7 @@ MAKERS = [make_check] * 35 + [make_read] * 25 + [make_fetch] * 10 + [make_write]
 
 def case_list(seed, count, operations):
     rng = random.Random(seed)
-    cases = list(fixed_cases(rng)) + list(sweeps(rng, count // 6))
+    cases = list(fixed_cases(rng)) + list(sweeps(rng, count // 6)) + list(spelled_cases(rng, count // 6))
     cases += [*sample_cases(), *coded_cases(), *repeat_cases(), *formula_cases(), *pieces_cases(), *small_cases()]
     cases = [case for case in cases if operation_of(case) in operations]
     makers = [make for make in MAKERS if make.__name__[5:] in operations]
