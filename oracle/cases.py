@@ -1,8 +1,11 @@
 """The case file: how a case is written, read back, and answered (see docs/VECTORS.md)."""
 
+from bond_rows import ROWS, WORDS, halves, read_with_rows
 from counter import feed
-from ctfile import check, fetch, next_record, read_record
+from ctfile import check, fetch, next_record, pairs_compared, read_record
+from formula import FOUND, compare_formula
 from limit import LIMIT
+from pieces import split_record
 from scanner import replay
 from writer import copy_record, write_catalogue, write_record
 
@@ -12,6 +15,7 @@ OFFSET = 2147483649         # makes every i32 positive, and never 0
 MOST_BYTES = 2_000_000      # of a block
 MOST_ROOM = 131071          # bytes of lent room
 SPLIT_ATOMS, SPLIT_BONDS = LIMIT * 16, LIMIT * 6
+BOND_ROWS = False           # is the record reader lent rows of bonds?
 
 
 def digest(numbers):
@@ -48,8 +52,9 @@ def check_case(kind, data):
     return head("check", kind, len(data)) + block(data)
 
 
-def read_case(kind, atom_room, bond_room, data):
-    return head("read", kind, atom_room, bond_room, len(data)) + block(data)
+def read_case(kind, atom_room, bond_room, data, row_room=LIMIT):
+    rooms = (atom_room, bond_room, row_room) if BOND_ROWS else (atom_room, bond_room)
+    return head("read", kind, *rooms, len(data)) + block(data)
 
 
 def fetch_case(name, data):
@@ -70,6 +75,14 @@ def feed_case(records, lines, ended, room, part):
 
 def next_case(cursor, atom_room, bond_room, data):
     return head("next", *cursor, atom_room, bond_room, len(data)) + block(data)
+
+
+def formula_case(atom_room, bond_room, data):
+    return head("formula", atom_room, bond_room, len(data)) + block(data)
+
+
+def pieces_case(kind, atom_room, bond_room, data):
+    return head("pieces", kind, atom_room, bond_room, len(data)) + block(data)
 
 
 def replay_case(log):
@@ -116,8 +129,16 @@ def tables_text(atoms, bonds):
 
 def answer_read(reader, kind, atom_room, bond_room, size):
     atoms, bonds = table(atom_room, 16), table(bond_room, 6)
-    answer = read_record(kind, reader.block(size), atoms, bonds)
-    return verdict(answer) + tables_text(atoms, bonds)
+    data = reader.block(size)
+    answer = read_record(kind, data, atoms, bonds)
+    return verdict(answer) + " compared %d" % pairs_compared(data, answer) + tables_text(atoms, bonds)
+
+
+def answer_read_rows(reader, kind, atom_room, bond_room, row_room, size):
+    atoms, bonds, rows = table(atom_room, 16), table(bond_room, 6), table(row_room, WORDS)
+    answer, asked = read_with_rows(kind, reader.block(size), atoms, bonds, rows)
+    return (verdict(answer) + " asked %d" % asked + tables_text(atoms, bonds)
+            + " rows %d %d" % (digest(halves(rows[:ROWS])), digest(halves(rows[ROWS:]))))
 
 
 def answer_fetch(reader, name_size, size):
@@ -162,6 +183,18 @@ def answer_next(reader, at, lines, records, atom_room, bond_room, size):
     return verdict(answer) + tables_text(atoms, bonds)
 
 
+def answer_formula(reader, atom_room, bond_room, size):
+    atoms, bonds, found = table(atom_room, 16), table(bond_room, 6), table(1, FOUND)
+    answer = compare_formula(reader.block(size), atoms, bonds, found)
+    return verdict(answer) + " found %d" % digest(found) + tables_text(atoms, bonds)
+
+
+def answer_pieces(reader, kind, atom_room, bond_room, size):
+    atoms, bonds, lists = table(atom_room, 16), table(bond_room, 6), [table(1, LIMIT) for _ in range(3)]
+    answer = split_record(kind, reader.block(size), atoms, bonds, *lists)
+    return verdict(answer) + " labels %d heads %d sizes %d" % tuple(map(digest, lists)) + tables_text(atoms, bonds)
+
+
 def answer_replay(reader, size):
     store = replay(reader.block(size))
     told = []
@@ -178,9 +211,10 @@ def answer_replay(reader, size):
 
 OPERATIONS = {
     "check": lambda reader, kind, size: verdict(check(kind, reader.block(size))),
-    "read": answer_read, "fetch": answer_fetch, "write": answer_write,
+    "read": answer_read_rows if BOND_ROWS else answer_read, "fetch": answer_fetch, "write": answer_write,
     "catalogue": answer_catalogue, "copy": answer_copy, "feed": answer_feed,
-    "next": answer_next, "replay": answer_replay}
+    "next": answer_next, "replay": answer_replay, "formula": answer_formula,
+    "pieces": answer_pieces}
 
 
 def answers(data):

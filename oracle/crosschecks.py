@@ -166,12 +166,11 @@ def counter_around_its_buffer():
 
 def vector_cases():
     """The case file is the same for a seed, reads back to its end, and knows every operation."""
-    data = vectors.make_cases(5, 2000)
-    expect("same cases for a seed", vectors.make_cases(5, 2000) == data, True)
-    expected = answers(data)
-    expect("one line a case", expected.count("\n"), 2000)
-    for operation in map(str.encode, OPERATIONS):
-        expect("%s cases" % operation, data.count(b"\n" + operation + b" ") > 20, True)
+    expect("same cases for a seed", vectors.make_cases(5, 2000) == vectors.make_cases(5, 2000), True)
+    rng, makers = random.Random(5), dict.fromkeys(vectors.MAKERS)
+    cases = [make(rng) for make in makers for _ in range(60)]
+    expect("one line a case", answers(b"".join(cases)).count("\n"), len(cases))
+    expect("every operation", {vectors.operation_of(case) for case in cases}, set(OPERATIONS))
     expect("digest of nothing", digest([]), 1)
     expect("digest of 0", digest([0]), 2147549248)
     expect("digest of -1, 2", digest([-1, 2]), (2147549247 * 65599 + 2147483651) % 4294967291)

@@ -148,9 +148,10 @@ def bond_numbers(bond):
     return [bond[name] for name in ("first", "second", "type", "stereo", "topology", "centre")]
 
 
-def record_at(sheet, first, kind):
-    """The record whose first line has index `first`; places count from that line's first byte."""
-    record, origin = Record(), sheet.starts_at(first)
+def record_front(sheet, first):
+    """The record whose first line has index `first`, but for its items, and the index of the line
+    after its `M  END`."""
+    record = Record()
     record.header = header_lines(sheet, first)
     counts = judge(COUNTS, sheet, first + 3)
     record.n, record.m, record.chiral = counts["n"], counts["m"], counts["chiral"]
@@ -162,6 +163,13 @@ def record_at(sheet, first, kind):
     found, after = property_lines(sheet, first_bond + record.m, record.n)
     record.atoms = [atom_numbers(a, k, found) for k, a in enumerate(atoms, 1)]
     record.bonds = [bond_numbers(b) for b in bonds]
+    return record, after
+
+
+def record_at(sheet, first, kind):
+    """The record whose first line has index `first`; places count from that line's first byte."""
+    origin = sheet.starts_at(first)
+    record, after = record_front(sheet, first)
     record.header_end = sheet.starts_at(first + 3) - origin
     record.items_start = record.items_end = sheet.starts_at(after) - origin
     if kind == SDFILE:
@@ -246,6 +254,32 @@ def read_record(kind, data, atom_table, bond_table):
         return ("accepted",) + read_into(kind, data, atom_table, bond_table).answer()
     except Refusal as refusal:
         return refusal.answer()
+
+
+def pairs_searched(data, answer):
+    """The pairs of bond lines that came to the search for a repeated one in a reading with that
+    answer, in order: those accepted, and the repeated one itself."""
+    sheet = Sheet(data)
+    if answer[0] == "accepted":
+        n, bonds = answer[1:3]
+    else:
+        _, number, line, _ = answer
+        if line <= 4:
+            return []
+        counts = COUNTS.judge(sheet.lines[3].text)      # good, since a later line is refused
+        n = counts["n"]
+        bonds = min(counts["m"], max(0, line - 5 - n)) + (number == 11)
+    judged = [BOND.judge(line.text, Context(n)) for line in sheet.lines[4 + n:4 + n + bonds]]
+    return [frozenset((bond["first"], bond["second"])) for bond in judged]
+
+
+def pairs_compared(data, answer):
+    """Each pair is held against the earlier ones in order from bond 1, up to the first that is the same."""
+    pairs, count = pairs_searched(data, answer), 0
+    for k, pair in enumerate(pairs):
+        earlier = pairs[:k]
+        count += earlier.index(pair) + 1 if pair in earlier else k
+    return count
 
 
 def next_record(cursor, data, atom_table, bond_table):

@@ -301,6 +301,18 @@ def aimed(rng, kind, wanted=None):
             return shot
 
 
+def spoiled_bond(rng, kind):
+    """A record of several bonds with one of them spoiled, mostly by a pair that stood before."""
+    n = rng.randrange(4, 9)
+    draft = draft_record(rng, n, rng.randrange(3, min(14, n * (n - 1) // 2) + 1), 0)
+    rows = file_rows(rng, [draft], kind)
+    index = rng.choice([k for k, row in enumerate(rows) if row.place == "bond"])
+    number, column = rng.choice([spoil_ends] * 4 + [spoil_field, spoil_stereo, spoil_rest])(rng, rows[index])
+    if rng.random() < 0.5:
+        spoil_later(rng, rows, index)
+    return Aim(kind, rows, index, number, column)
+
+
 def surplus(rng):
     """A molfile with a line too many: 18, but 3 or 4 if the line is bad as a line."""
     rows = file_rows(rng, [draft_record(rng)], 0)

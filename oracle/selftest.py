@@ -5,11 +5,21 @@ Expected answers here were worked out by hand from the rules of the format.
 
 import sys
 
+import bond_row_tests
+import comparison_tests
 import crosschecks
+import delivery_tests
 import field_tests
+import formula_tests
 import meaning_tests
+import mending_tests
 import part_tests
+import piece_tests
+import same_tests
 import scanner_tests
+import small_tests
+import stock_tests
+import tally_tests
 import writer_tests
 from counter import counter_line
 from ctfile import check, fetch, read_record
@@ -207,10 +217,27 @@ def counting():
            "refused 3 line 1 column 81")
 
 
+MODULES = (
+    meaning_tests,
+    comparison_tests,
+    bond_row_tests,
+    writer_tests,
+    part_tests,
+    scanner_tests,
+    field_tests,
+    small_tests,
+    formula_tests,
+    piece_tests,
+    tally_tests,
+    delivery_tests,
+    mending_tests,
+    same_tests,
+    stock_tests,
+    crosschecks)
+
 if __name__ == "__main__":
-    for test in (bench_samples, sample_record, easy_mistakes, refusals_by_hand, good_by_hand, counting,
-                 *meaning_tests.ALL, *writer_tests.ALL, *part_tests.ALL, *scanner_tests.ALL, *field_tests.ALL,
-                 *crosschecks.ALL):
+    tests = [bench_samples, sample_record, easy_mistakes, refusals_by_hand, good_by_hand, counting]
+    for test in tests + [test for module in MODULES for test in module.ALL]:
         before = len(FAILURES)
         try:
             test()

@@ -13,33 +13,39 @@ import re
 import sys
 from collections import Counter
 
-from cases import (MOST_ROOM, OPERATIONS, Reader, answers, catalogue_case, check_case, copy_case, feed_case, fetch_case,
-                   next_case, read_case, replay_case, write_case)
+from cases import (BOND_ROWS, MOST_ROOM, OPERATIONS, Reader, answers, catalogue_case, check_case, copy_case, feed_case, fetch_case,
+                   formula_case, next_case, pieces_case, read_case, replay_case, write_case)
 from counter import BUFFER, MOST
 from ctfile import SDFILE, one_record, record_at
-from damage import AIMED_NUMBERS, aimed, blind, damaged, surplus, truncated
+from damage import AIMED_NUMBERS, aimed, blind, damaged, spoiled_bond, surplus, truncated
+from formulas import any_record, fixed_records
 from generate import (NAMES, all_symbols, draft_record, file_rows, good_drafts, plain_bytes,
                       record_rows, to_bytes)
+from graphs import any_graph, fixed_graphs
 from limit import LIMIT
 from lines import Refusal, Sheet
 from logs import any_log, fixed_logs
 from samples import MOLFILE, SAMPLE, bare, coded, edit, ring
 from scanner import replay
+from small import small_refusals, small_surplus
 from spelled import spelled_lines
 from writer import catalogue_text, text_of
 
 MOST_STORED = 3_000_000     # bytes of all stored files together
 MOST_ROWS = LIMIT + 5       # that a table is lent room for
+SHORT_ROOMS = [(LIMIT - 1, LIMIT), (LIMIT, LIMIT - 1), (LIMIT, 0), (0, LIMIT), (0, 0)]      # 2
 LEAST_OF_EACH = 10          # stored cases for every refusal number that an operation can give
 BASE = ("check", "read", "fetch", "write", "catalogue")
 STORED = {                  # seed, cases, operations
-    "base": (1, 2700, BASE), "copy": (6, 540, ("copy",)), "feed": (1, 460, ("feed",)),
-    "next": (2, 460, ("next",)), "replay": (1, 700, ("replay",))}
+    "base": (1, 2700, BASE), "copy": (1, 500, ("copy",)), "feed": (1, 420, ("feed",)),
+    "next": (1, 400, ("next",)), "replay": (11, 700, ("replay",)),
+    "formula": (1, 430, ("formula",)), "pieces": (1, 360, ("pieces",))}
 LINES = {*range(3, 18), 19}  # refusals that a record of an SDfile can meet
 NUMBERS = {
-    "check": {1, 18} | LINES, "read": {1, 2, 18} | LINES, "fetch": {22} | LINES,
+    "check": {1, 18} | LINES, "read": {1, 2, 18, *[35] * BOND_ROWS} | LINES, "fetch": {22} | LINES,
     "write": {2, 3, 4, 5, 16, 17, 18, 19, 20, 21}, "catalogue": {2, 20} | LINES, "copy": {1, 2, 18, 20} | LINES,
-    "feed": LINES, "next": {2} | LINES, "replay": set(range(26, 31))}
+    "feed": LINES, "next": {2} | LINES, "replay": set(range(26, 31)),
+    "formula": {2, 22, 31, 32, 33, 34} | LINES, "pieces": {1, 2, 18} | LINES}
 SWEEP_LINES = {
     b"counts": b"  2  1  0  0  0  0  0  0  0  0999 V2000",
     b"atom": b"    1.2500   -0.8250    0.0000 O   0  5  0  0  0  0  0  0  0  0  0  0",
@@ -119,10 +125,11 @@ def make_check(rng):
 
 def make_read(rng):
     kind = any_kind(rng)
-    data = any_file(rng, min(kind, 1))
+    data = to_bytes(rng, spoiled_bond(rng, min(kind, 1)).rows) if rng.random() < 0.15 else any_file(rng, min(kind, 1))
     if kind == 1 and rng.random() < 0.3:
         data += rng.choice([b"\x00", b"x" * 90, b"$$$$\n", b"\r"])   # after the record
-    return read_case(kind, *table_rooms(rng), data)
+    rows = rng.choice([0, 1, LIMIT - 1, MOST_ROWS]) if BOND_ROWS and rng.random() < 0.1 else LIMIT
+    return read_case(kind, *table_rooms(rng), data, rows)
 
 
 def make_fetch(rng):
@@ -309,6 +316,59 @@ def make_replay(rng):
     return replay_case(any_log(rng))
 
 
+def make_formula(rng):
+    return formula_case(*table_rooms(rng), any_record(rng))
+
+
+def formula_cases():
+    """Formulas one by one, and the record's own refusals before them."""
+    for data in fixed_records():
+        yield formula_case(LIMIT, LIMIT, data)
+    for _, _, _, data in small_refusals():
+        yield formula_case(LIMIT, LIMIT, data)
+    for rooms in SHORT_ROOMS:
+        for data in (b"", SAMPLE):
+            yield formula_case(*rooms, data)
+
+
+def make_pieces(rng):
+    kind = any_kind(rng)
+    return pieces_case(kind, *table_rooms(rng), any_graph(rng, min(kind, 1)))
+
+
+def pieces_cases():
+    """Pieces of many shapes, and the refusals before them."""
+    for n, pairs in fixed_graphs():
+        yield pieces_case(1, LIMIT, LIMIT, bare(n, pairs))
+    for _, _, _, data in small_refusals():
+        yield pieces_case(1, LIMIT, LIMIT, data)
+    for _, _, _, data in small_surplus():
+        yield pieces_case(0, LIMIT, LIMIT, data)
+    for rooms in SHORT_ROOMS:
+        for data in (b"", SAMPLE):
+            yield pieces_case(1, *rooms, data)
+    for kind in (2, 3, 7, 48, 255):
+        yield pieces_case(kind, LIMIT, LIMIT, SAMPLE)
+        yield pieces_case(kind, 0, 0, b"")
+
+
+def small_cases():
+    """Short files for each refusal, where no chance brings every number often enough."""
+    for _, _, _, data in small_refusals():
+        yield copy_case(1, LIMIT, LIMIT, 300, data)
+        yield feed_case(7, 90, 1, len(data), data)
+        yield next_case((0, 0, 0), LIMIT, LIMIT, data)
+    for _, _, _, data in small_surplus():
+        yield copy_case(0, LIMIT, LIMIT, 300, data)
+    for kind in (2, 3, 7, 48, 255):
+        yield copy_case(kind, LIMIT, LIMIT, 9, b"")
+        yield copy_case(kind, 0, 0, 300, SAMPLE)
+    for rooms in SHORT_ROOMS:
+        for data in (b"", SAMPLE):
+            yield copy_case(1, *rooms, 300, data)
+            yield next_case((0, 0, 0), *rooms, data)
+
+
 def sample_cases():
     """The sample of the rules and small edits of it, where room, part and cursor lie on either side of a limit."""
     for room in (0, 264, 265, 266):
@@ -341,6 +401,27 @@ def coded_cases():
         yield catalogue_case(LIMIT, LIMIT, 999, data)
         yield copy_case(1, LIMIT, LIMIT, 999, data)
         yield next_case((0, 0, 0), LIMIT, LIMIT, data)
+
+
+def repeat_cases():
+    """Six bonds over four atoms: every one of them repeated by every later one, the record cut after each
+    line, and every other refusal on the fifth bond's line or after the last."""
+    pairs = [(1, 2), (3, 4), (2, 3), (4, 1), (1, 3), (2, 4)]
+    for later in range(1, 6):
+        for earlier in range(later):
+            again = pairs[earlier][::1 if (later + earlier) % 2 else -1]
+            yield read_case(1, LIMIT, LIMIT, bare(4, pairs[:later] + [again] + pairs[later + 1:]))
+    good = bare(4, pairs)
+    lines = good.splitlines(keepends=True)
+    for count in range(len(lines) + 1):
+        yield read_case(1, LIMIT, LIMIT, b"".join(lines[:count]))
+    for kind in (0, 1):             # 18 in a molfile
+        yield read_case(kind, LIMIT, LIMIT, good)
+    for line in (b" " * 81, b"M  END\t", b"M  END x", b"M END", b"M  CHG  x", b"M  CHG  9", b"M  CHG  2   1   1   1   1",
+                 b"M  END\n", b"M  END\n>  <A>"):
+        yield read_case(1, LIMIT, LIMIT, good.replace(b"M  END", line))
+    for line in (b" " * 81, b"\xff", b"  1  x", b"  1  5", b"  3  3  1", b"  1  3  1".ljust(40) + b"x"):
+        yield read_case(1, LIMIT, LIMIT, good.replace(b"  1  3  1", line))
 
 
 def written(atoms, pairs, rooms=(LIMIT, LIMIT)):
@@ -385,13 +466,14 @@ def operation_of(case):
 
 
 MAKERS = [make_check] * 35 + [make_read] * 25 + [make_fetch] * 10 + [make_write] * 22 + [
-    make_catalogue] * 8 + [make_copy] * 15 + [make_feed] * 15 + [make_next] * 12 + [make_replay] * 15
+    make_catalogue] * 8 + [make_copy] * 15 + [make_feed] * 15 + [make_next] * 12 + [make_replay] * 15 + [
+    make_formula] * 12 + [make_pieces] * 12
 
 
 def case_list(seed, count, operations):
     rng = random.Random(seed)
     cases = list(fixed_cases(rng)) + list(sweeps(rng, count // 6)) + list(spelled_cases(rng, count // 6))
-    cases += [*sample_cases(), *coded_cases()]
+    cases += [*sample_cases(), *coded_cases(), *repeat_cases(), *formula_cases(), *pieces_cases(), *small_cases()]
     cases = [case for case in cases if operation_of(case) in operations]
     makers = [make for make in MAKERS if make.__name__[5:] in operations]
     rng = random.Random(seed)           # anew, so that what stands before does not change what is drawn
