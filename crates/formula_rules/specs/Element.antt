@@ -68,6 +68,18 @@ onlyElement Unknown = 0
 unfoldable pub elementOf : ℕ → ℕ → ℕ
 elementOf x y = onlyElement (symbolIn (x ∷ y ∷ 32 ∷ []))
 
+pub element-le : (x y : ℕ) → elementOf x y ≤ elements
+unfolding elementOf
+element-le x y = go (symbolIn (x ∷ y ∷ 32 ∷ []))
+  where
+    low : (k : ℕ) (t : Bool) → leb k elements ≡ t → cond t k 0 ≤ elements
+    low k true e = leb-true k elements e
+    low k false e = omega arith
+
+    go : (r : SymbolRead) → onlyElement r ≤ elements
+    go (Is k) = low k (leb k elements) refl
+    go Unknown = omega arith
+
 columns-one : (x : ℕ) → columns (x ∷ []) 1 3 ≡ x ∷ 32 ∷ 32 ∷ []
 unfolding columnsFor
 columns-one x = refl

@@ -42,12 +42,17 @@ treesRead UnitsRead.no = Trees.none
 unfoldable pub treesOf : Bytes → Trees
 treesOf s = treesRead (unitsOf s deepest 0)
 
+-- of a text that is a formula, but may nest too deep
+unfoldable pub shallowOf : Bytes → Verdict
+shallowOf s = cond (formulaOf s deepest) (cond (crowded (sumsOf s) 1 elements) (refused 33) (counts (treesOf s))) (refused 32)
+
 -- the text's own length is depth enough for any formula
 unfoldable pub verdictOf : Bytes → Verdict
-verdictOf s =
-    cond (formulaOf s (length s))
-    (cond (formulaOf s deepest) (cond (crowded (sumsOf s) 1 elements) (refused 33) (counts (treesOf s))) (refused 32))
-    (refused 31)
+verdictOf s = cond (formulaOf s (length s)) (shallowOf s) (refused 31)
+
+-- the table of counts
+unfoldable pub countsOf : Bytes → List ℕ
+countsOf s = cond (formulaOf s deepest) (sumsOf s) empty
 
 -- what a verdict carries: 0 is none
 abbrev pub numberOf : Verdict → ℕ
@@ -64,7 +69,7 @@ empty-place j = zeros places j
     zeros (suc n) zero = refl
     zeros (suc n) (suc j) = zeros n j
 
-empty-below : Below empty
+pub empty-below : Below empty
 unfolding Below
 empty-below j = omega (arith, empty-place j)
 
@@ -90,9 +95,11 @@ module _ (s : Bytes) (ts : Trees) (f : Formula s ts) (i : TreesIn ts deepest) wh
 
   none-above : ((k : ℕ) → 1 ≤ k → k < 1 + elements → getD (sumsOf s) k 0 ≤ most) → Few ts
   none-above h =
-      record { each = λ k e.
-        let l = h k (e .low) (omega (arith, e .high)) in
-        omega (arith, capped-small (countTrees ts k) (omega (arith, sum-at k (e .high))), sum-at k (e .high)) }
+      record {
+        each = λ k e.
+            let l = h k (e .low) (omega (arith, e .high)) in
+            omega (arith, capped-small (countTrees ts k) (omega (arith, sum-at k (e .high))), sum-at k (e .high));
+      }
 
 crowded-none : (t : List ℕ) (i n : ℕ) → crowded t i n ≡ false → (k : ℕ) → i ≤ k → k < i + n → getD t k 0 ≤ most
 unfolding crowded
@@ -124,7 +131,7 @@ never : {X : Type 0} {b : Bool} → b ≡ true → b ≡ false → X
 never h k = absurd (let z : true ≡ false = sym h ∙ k in let z : _≡_ {A = ℕ} 0 1 = cc in omega arith)
 
 pub judged : (s : Bytes) → Judged s (verdictOf s)
-unfolding verdictOf
+unfolding verdictOf shallowOf
 judged s = go (formulaOf s (length s)) refl (formulaOf s deepest) refl (crowded (sumsOf s) 1 elements) refl
   where
     go : (p : Bool) → formulaOf s (length s) ≡ p → (q : Bool) → formulaOf s deepest ≡ q → (r : Bool) → crowded (sumsOf s) 1 elements ≡ r →
@@ -139,6 +146,15 @@ judged s = go (formulaOf s (length s)) refl (formulaOf s deepest) refl (crowded 
         let x = formula-sound s deepest f in
         subst (λ (ts : Trees). Judged s (counts ts)) (sym (trees-are s (x .0) (x .1 .0) (x .1 .1)))
         (Judged.formula (x .1 .0) (x .1 .1) (none-above s (x .0) (x .1 .0) (x .1 .1) (crowded-none (sumsOf s) 1 elements g)))
+
+-- what is no formula is none to any depth
+pub counts-none : (s : Bytes) → formulaOf s (length s) ≡ false → empty ≡ countsOf s
+unfolding countsOf
+counts-none s h = go (formulaOf s deepest) refl
+  where
+    go : (b : Bool) → formulaOf s deepest ≡ b → empty ≡ cond b (sumsOf s) empty
+    go true e = never (formula-any s (formula-sound s deepest e .1 .0)) h
+    go false e = refl
 
 -- a line has one verdict
 pub one-verdict : {s : Bytes} {v w : Verdict} → Judged s v → Judged s w → v ≡ w

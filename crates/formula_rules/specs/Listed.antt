@@ -64,16 +64,16 @@ module _ (w d : ℕ → ℕ) where
   pub listed : (x : Difference) → Lists x (differences w d) ↔ Differs w d x
   listed x = (
     (λ h.
-      let r = listed-from 2 (elements - 1) h in
-      record {
-        is-element = record { low = omega (arith, r .low); high = omega (arith, r .high) };
-        no-hydrogen = λ e. omega (arith, r .low);
-        as-written = r .as-written;
-        as-drawn = r .as-drawn;
-        apart = r .apart;
-      }),
+        let r = listed-from 2 (elements - 1) h in
+        record {
+          is-element = record { low = omega (arith, r .low); high = omega (arith, r .high) };
+          no-hydrogen = λ e. omega (arith, r .low);
+          as-written = r .as-written;
+          as-drawn = r .as-drawn;
+          apart = r .apart;
+        }),
     (λ h. back x (h .as-written) (h .as-drawn)
-      (let n : (x .element ≡ 1 → ⊥) = h .no-hydrogen in from-listed 2 (elements - 1) (x .element) (omega (arith, h .is-element .low)) (omega (arith, h .is-element .high)) (λ e. h .apart (rw (h .as-written, h .as-drawn) e)))),
+        (let n : (x .element ≡ 1 → ⊥) = h .no-hydrogen in from-listed 2 (elements - 1) (x .element) (omega (arith, h .is-element .low)) (omega (arith, h .is-element .high)) (λ e. h .apart (rw (h .as-written, h .as-drawn) e)))),
   )
     where
       back : (x : Difference) → x .written ≡ w (x .element) → x .drawn ≡ d (x .element) → Lists (entry (x .element)) (differences w d) → Lists x (differences w d)

@@ -12,7 +12,7 @@ use Rattle.formula_rules.specs.Element.{elementOf}
 use Rattle.formula_rules.specs.Parse.{countAt, symbolEnd, elementAt, symbolAt, unitsBy, unitsOf, formulaOf}
 use Rattle.formula_rules.specs.Total.{countTree}
 use Rattle.formula_rules.specs.Sums.{sat, addTree, addedUnits}
-use Rattle.formula_rules.specs.Judged.{sumsOf, crowded, treesOf, verdictOf, numberOf}
+use Rattle.formula_rules.specs.Judged.{sumsOf, crowded, treesOf, shallowOf, verdictOf, numberOf}
 
 pub record Sample : Type 0 where
   pub text : String
@@ -44,5 +44,5 @@ samples =
     []
 
 pub samples-hold : map (λ (s : Sample). numberOf (verdictOf (bytes (s .text)))) samples ≡ map (λ (s : Sample). s .number) samples
-unfolding verdictOf formulaOf unitsOf unitsBy countAt symbolAt symbolEnd elementAt elementOf symbolIn among sameBytes columnsFor between sumsOf addedUnits addTree sat crowded treesOf
+unfolding verdictOf shallowOf formulaOf unitsOf unitsBy countAt symbolAt symbolEnd elementAt elementOf symbolIn among sameBytes columnsFor between sumsOf addedUnits addTree sat crowded treesOf
 samples-hold = refl
