@@ -37,7 +37,7 @@ fn times_count(times: u32, count: u32) -> u32
 }
 
 // So many more of one element.
-fn add_at(counts: &mut [u32; PLACES], at: usize, n: u32)
+pub fn add_at(counts: &mut [u32; PLACES], at: usize, n: u32)
     requires { ⌜ (at < 119) × (n ≤ 10000) × (getD (now counts) at 0 ≤ 10000) ⌝ }
     ensures { λ _. ⌜ now (counts .exit) ≡ set (now (counts .entry)) at (sat (getD (now (counts .entry)) at 0 + n)) ⌝ }
 {
