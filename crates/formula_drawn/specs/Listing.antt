@@ -74,8 +74,8 @@ module _ (w d : ℕ → ℕ) (f₀ : List ℕ) where
           high = omega arith;
           count = h .count ∙ ap (λ (m : ℕ). c + length (differing w d k m)) z ∙ omega (arith, b .0, er);
           same = h .same ∙ ap (λ (m : ℕ). sets f (3 * c) (numbers (differing w d k m))) z ∙ b .1
-          ∙ ap (λ (x : List ℕ). sets x (3 * (c + length (one k (w k) (d k)))) (numbers (differing w d (k + 1) (119 - (k + 1))))) (sym eu)
-          ∙ ap (λ (i : ℕ). sets u (3 * i) (numbers (differing w d (k + 1) (119 - (k + 1))))) (sym er);
+              ∙ ap (λ (x : List ℕ). sets x (3 * (c + length (one k (w k) (d k)))) (numbers (differing w d (k + 1) (119 - (k + 1))))) (sym eu)
+              ∙ ap (λ (i : ℕ). sets u (3 * i) (numbers (differing w d (k + 1) (119 - (k + 1))))) (sym er);
         }
 
     pub listing-end : 119 ≤ k → (c ≡ length (differences w d)) × (f ≡ sets f₀ 0 (numbers (differences w d)))

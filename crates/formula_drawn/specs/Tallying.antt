@@ -67,7 +67,7 @@ module _ (t : List ℤ) (n : ℕ) (d₀ : List ℕ) where
           low = below-at d u k 1 (h .low) eu;
           only = h .only ∙ ap (λ (m : ℕ). onlyElements (symbolsFrom t i m)) (step l) ∙ rw p;
           same = h .same ∙ ap (λ (m : ℕ). tallied (symbolsFrom t i m) d) (step l)
-          ∙ rw p (ap (tallied (symbolsFrom t (i + 1) (n - (i + 1)))) (sym (eu ∙ ap (λ (j : ℕ). set d j (sat (getD d j 0 + 1))) e)));
+              ∙ rw p (ap (tallied (symbolsFrom t (i + 1) (n - (i + 1)))) (sym (eu ∙ ap (λ (j : ℕ). set d j (sat (getD d j 0 + 1))) e)));
         }
 
     pub tally-end : n ≤ i → (true ≡ onlyElements (symbolsFrom t 0 n)) × (d ≡ tallied (symbolsFrom t 0 n) d₀)

@@ -67,7 +67,11 @@ fn list_one(found: &mut [u32; FOUND], count: usize, k: usize, written: u32, draw
 }
 
 // The elements of which not as many are written as drawn, hydrogen left out; how many they are.
-pub fn list_differences(written: &[u32; PLACES], drawn: &[u32; PLACES], found: &mut [u32; FOUND]) -> usize
+pub fn list_differences(
+    written: &[u32; PLACES],
+    drawn: &[u32; PLACES],
+    found: &mut [u32; FOUND],
+) -> usize
     ensures { λ r. ⌜ r ≡ length (differences (entry (now (written .entry))) (entry (now (drawn .entry)))) ⌝ }
     ensures { λ _. ⌜ now (found .exit) ≡ sets (now (found .entry)) 0 (numbers (differences (entry (now (written .entry))) (entry (now (drawn .entry))))) ⌝ }
 {
