@@ -8,3 +8,4 @@ pub mod Catalogue
 pub mod Next
 pub mod Feed
 pub mod Replay
+pub mod Formula
