@@ -5,6 +5,7 @@ enum Verb {
     Read,
     Fetch,
     Canon,
+    Formula,
     Replay,
     Unknown,
 }
@@ -18,6 +19,9 @@ fn asked() -> Verb {
     }
     if program_io::is_argument(1, b"canon") {
         return Verb::Canon;
+    }
+    if program_io::is_argument(1, b"formula") {
+        return Verb::Formula;
     }
     if program_io::is_argument(1, b"replay") {
         return Verb::Replay;
@@ -47,11 +51,17 @@ fn canon() {
     program_printer::run(Task::Canon, true, b"", 2);
 }
 
+// The formula of every record of SDfiles against its atoms, as JSON: perhaps `--progress`, then the names.
+fn formula() {
+    program_printer::run(Task::Formula, true, b"", 2);
+}
+
 fn main() {
     match asked() {
         Verb::Read => read(),
         Verb::Fetch => fetch(),
         Verb::Canon => canon(),
+        Verb::Formula => formula(),
         Verb::Replay => program_replay::run(2),
         Verb::Unknown => {
             io::write_all(
