@@ -41,6 +41,10 @@
      28  an issue above the lot's paper figure
      29  a receipt that would make the lot's paper figure more than 1,000,000
      30  a receipt for a 513th lot
+     31  the first value line of the FORMULA item is not a formula, or the item has no value line
+     32  a formula nests deeper than 8
+     33  a formula names an element more than 9,999 times
+     34  a symbol in the atom table is no element (119 to 122)
 
    Tables
      An atom is 16 numbers: x, y, z in ten-thousandths, symbol (1 to 118 by atomic number, 119 A, 120 Q, 121 *, 122 LP),
@@ -174,6 +178,24 @@ void capellanote_write_catalogue(const capellanote_byte *text, capellanote_size 
                                  capellanote_int *bonds, capellanote_size bonds_length,
                                  capellanote_byte *room, capellanote_size room_length,
                                  capellanote_size answer[3]);
+
+/* ---- A formula against the structure */
+
+enum { CAPELLANOTE_FOUND = 118 * 3 };
+
+/* The formula of the record of an SDfile that the bytes begin with, held against its atoms. The formula is the first value line of the first
+   item named FORMULA: one or more units, a unit being an element symbol or one or more units in round parentheses, and then no count or one from
+   2 to 999 without leading zeros.
+   Judged in this order: 2, the record, 22, 31, 32, 33, 34; from 22 on no line and no column.
+   Accepted: answer = { 0, number of elements that differ, 0 }: for each of them, by rising element number, found holds the element, how many of
+   it the formula names and how many are drawn; then zeros. Hydrogen is not compared.
+   Refused: after 2 nothing is written but the answer; after any other found is all zeros. The tables are as capellanote_read leaves them; from 22
+   on that is with the rows of the record. */
+void capellanote_formula(const capellanote_byte *text, capellanote_size text_length,
+                         capellanote_int *atoms, capellanote_size atoms_length,
+                         capellanote_int *bonds, capellanote_size bonds_length,
+                         capellanote_count found[CAPELLANOTE_FOUND],
+                         capellanote_size answer[3]);
 
 /* ---- The replay of a scanner log */
 

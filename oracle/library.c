@@ -266,6 +266,26 @@ static void catalogue_case(const size *n)
     print_tables(a, b);
 }
 
+/* ---- A formula against the structure */
+
+static unsigned int found[CAPELLANOTE_FOUND];
+
+/* ATOM_ROOM BOND_ROOM SIZE */
+static void formula_case(const size *n)
+{
+    size answer[3], digest = 1, a = 16 * n[0], b = 6 * n[1];
+    fresh_tables(a, b);
+    for (size k = 0; k < CAPELLANOTE_FOUND; k++)
+        found[k] = 1000003 + k;
+    capellanote_formula(block(n[2]), n[2], atoms, a, bonds, b, found, answer);
+    if (!refused(answer))
+        printf("differ %lu", answer[1]);
+    for (size k = 0; k < CAPELLANOTE_FOUND; k++)
+        digest = step(digest, found[k]);
+    printf(" found %lu", digest);
+    print_tables(a, b);
+}
+
 /* ---- The replay of a scanner log */
 
 static unsigned int keys[CAPELLANOTE_KEYS], papers[CAPELLANOTE_LOTS];
@@ -328,6 +348,7 @@ static const struct { const char *word; void (*answer)(const size *); size count
     { "write ", write_case, 10, { I32, I32, I32, ROWS, ROWS, ROWS, ROWS, MOST, MOST, ROOM - 1 } },
     { "copy ", copy_case, 5, { 255, ROWS, ROWS, ROOM - 1, MOST } },
     { "catalogue ", catalogue_case, 4, { ROWS, ROWS, ROOM - 1, MOST } },
+    { "formula ", formula_case, 3, { ROWS, ROWS, MOST } },
     { "replay ", replay_case, 1, { MOST } },
 };
 

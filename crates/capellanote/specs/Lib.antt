@@ -9,3 +9,4 @@ pub mod Next
 pub mod Feed
 pub mod Replay
 pub mod Pieces
+pub mod Formula

@@ -8,12 +8,13 @@ use program_json_rows::BONDS;
 use program_verdict::Verdict;
 use rules::LISTED;
 
-// Every record as JSON; the item of a name; the canonical text; the pieces.
+// Every record as JSON; the item of a name; the canonical text; the pieces; the formula against the atoms.
 pub enum Task {
     Readings,
     Item,
     Canon,
     Pieces,
+    Formula,
 }
 
 // How files are written.
@@ -32,6 +33,8 @@ struct Pass {
     ended: bool,
     records: usize,
     lines: usize,
+    // Records whose formula does not agree.
+    apart: usize,
     out: Out,
 }
 
@@ -89,12 +92,26 @@ fn read_on(fd: i32, buf: &mut [u8], pass: Pass, stepped: Stepped) -> Stepped {
     }
 }
 
+// Of an accepted file; number 0 says how many records do not agree with their formula.
+fn agreement(pass: Pass) -> Verdict {
+    if pass.apart == 0 {
+        return Verdict::Accepted {
+            records: pass.records,
+        };
+    }
+    Verdict::Refused {
+        no: 0,
+        line: pass.apart,
+        column: 0,
+    }
+}
+
 // The end of the second reading: what is gathered is written, and the first reading found as many records.
 fn finish(pass: Pass, room: &[u8], records: usize) -> Verdict {
     let done = pass.out.flush(room);
     if done.good {
         if pass.records == records {
-            return Verdict::Accepted { records };
+            return agreement(pass);
         }
         return Verdict::Changed;
     }
@@ -111,6 +128,7 @@ fn begin(way: Way) -> Pass {
         ended: false,
         records: 0,
         lines: 0,
+        apart: 0,
         out: Out::new(libc::STDOUT_FILENO),
     }
 }

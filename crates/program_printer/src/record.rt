@@ -6,6 +6,8 @@ ghost use Rattle.rules.specs.Record.{limit};
 use crate::Pass;
 use crate::Stepped;
 use crate::Task;
+use formula_drawn::FOUND;
+use formula_record::Compared;
 use line_text::ItemRead;
 use piece_record::RecordSplit;
 use program_io::Out;
@@ -27,6 +29,7 @@ enum Next {
     Fetch,
     Copy,
     Split,
+    Compare,
     // More has to be read first.
     Fill,
     // Nothing is left.
@@ -53,6 +56,7 @@ fn by_task(task: Task) -> Next {
         Task::Item => Next::Fetch,
         Task::Canon => Next::Copy,
         Task::Pieces => Next::Split,
+        Task::Formula => Next::Compare,
     }
 }
 
@@ -365,6 +369,69 @@ fn put_copy(
     after_copy(pass, room, copied)
 }
 
+// One record more whose formula does not agree, unless it does.
+fn told_apart(pass: Pass, agrees: bool) -> Pass {
+    if agrees {
+        return pass;
+    }
+    let mut next = pass;
+    next.apart = plus(pass.apart, 1);
+    next
+}
+
+// The formula of a record that is wholly there. It was accepted, so what is refused is the formula.
+fn put_compared(
+    pass: Pass,
+    record: &[u8],
+    lines: usize,
+    room: &mut [u8],
+    atoms: &mut [i32; ATOMS],
+    bonds: &mut [i32; BONDS],
+) -> Stepped {
+    let mut found = [0u32; FOUND];
+    let number = plus(pass.records, 1);
+    match formula_record::compare_formula(record, atoms, bonds, &mut found) {
+        Compared::Differ { count } => {
+            let out = program_formula::put_differences(pass.out, room, number, count, &found);
+            behind(told_apart(pass, count == 0), record.len(), lines, out)
+        }
+        Compared::Refused {
+            no,
+            line: _,
+            column: _,
+        } => {
+            if no < 22 {
+                Stepped::Failed(Verdict::Changed)
+            } else {
+                let out = program_formula::put_refused(pass.out, room, number, no);
+                behind(told_apart(pass, false), record.len(), lines, out)
+            }
+        }
+    }
+}
+
+fn put_formula(
+    pass: Pass,
+    s: &[u8],
+    room: &mut [u8],
+    atoms: &mut [i32; ATOMS],
+    bonds: &mut [i32; BONDS],
+) -> Stepped {
+    match first_end(s) {
+        Ends::At { length, lines } => {
+            put_compared(
+                pass,
+                program_io::front(s, length),
+                lines,
+                room,
+                atoms,
+                bonds,
+            )
+        }
+        Ends::Beyond => Stepped::Short,
+    }
+}
+
 // The record at the front of s, where one may stand.
 pub fn put_next(
     pass: Pass,
@@ -383,6 +450,7 @@ pub fn put_next(
         Next::Fetch => put_item(pass, item, s, room, listed),
         Next::Copy => put_copy(pass, s, room, atoms, bonds),
         Next::Split => put_split(pass, s, room, atoms, bonds),
+        Next::Compare => put_formula(pass, s, room, atoms, bonds),
         Next::Fill => Stepped::Short,
         Next::End => Stepped::Done,
     }

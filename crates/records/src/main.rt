@@ -6,6 +6,7 @@ enum Verb {
     Fetch,
     Canon,
     Pieces,
+    Formula,
     Replay,
     Same,
     Unknown,
@@ -23,6 +24,9 @@ fn asked() -> Verb {
     }
     if program_io::is_argument(1, b"pieces") {
         return Verb::Pieces;
+    }
+    if program_io::is_argument(1, b"formula") {
+        return Verb::Formula;
     }
     if program_io::is_argument(1, b"replay") {
         return Verb::Replay;
@@ -55,12 +59,18 @@ fn canon() {
     program_printer::run(Task::Canon, true, b"", 2);
 }
 
+// The formula of every record of SDfiles against its atoms, as JSON: perhaps `--progress`, then the names.
+fn formula() {
+    program_printer::run(Task::Formula, true, b"", 2);
+}
+
 fn main() {
     match asked() {
         Verb::Read => of_records(Task::Readings),
         Verb::Fetch => fetch(),
         Verb::Canon => canon(),
         Verb::Pieces => of_records(Task::Pieces),
+        Verb::Formula => formula(),
         Verb::Replay => program_replay::run(2),
         Verb::Same => program_pairs::run(),
         Verb::Unknown => {

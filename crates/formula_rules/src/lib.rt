@@ -1,0 +1,1 @@
+// Formulas: definitions and theorems, all in specs/. Nothing runs here.
