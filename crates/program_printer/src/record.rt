@@ -255,6 +255,10 @@ fn put_item(
     }
 }
 
+fn kind_of(sd: bool) -> u8 {
+    if sd { 1 } else { 0 }
+}
+
 // Where the record at the front of s ends: a molfile's is all of s.
 fn record_end(sd: bool, s: &[u8]) -> Ends {
     if sd {
