@@ -89,6 +89,8 @@ find_loader() {
         bin=$here/target/bin libs=$tools/lib emulator=$tools/bin/qemu-x86_64
     fi
     loader=$libs/ld-linux-x86-64.so.2
+    leash= # where it is there: the program ends even with a command that is killed outright
+    if setpriv --pdeathsig TERM true 2>/dev/null; then leash="setpriv --pdeathsig TERM"; fi
     [ -x "$emulator" ] || emulator=
     [ -e "$loader" ] || die "$libs has no loader for this machine"
 }
@@ -96,7 +98,8 @@ find_loader() {
 launch() { # PROGRAM WORDS...
     program=$1
     shift
-    exec ${emulator:+"$emulator"} "$loader" --library-path "$libs" "$bin/$program" "$@"
+    # shellcheck disable=SC2086
+    exec $leash ${emulator:+"$emulator"} "$loader" --library-path "$libs" "$bin/$program" "$@"
 }
 
 # Starts a program beside the command: its verdict lines to one file, its output to another, or to standard output if that is "".

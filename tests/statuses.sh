@@ -60,8 +60,11 @@ done
 in_room python3 - "$room/status/many.sdf" <<'END' && ok || bad "status: a killed command" "see above"
 import os, signal, subprocess, sys, time
 bad = 0
+signals = [signal.SIGTERM, signal.SIGINT, signal.SIGHUP]
+if subprocess.run("setpriv --pdeathsig TERM true", shell=True, stderr=subprocess.DEVNULL).returncode == 0:
+    signals.append(signal.SIGKILL)
 for verb in (["read"], ["fetch", "LOT"], ["canon"]):
-    for number in (signal.SIGTERM, signal.SIGINT, signal.SIGHUP):
+    for number in signals:
         run = subprocess.Popen(["./capellanote"] + verb + [sys.argv[1]], stdout=subprocess.PIPE, stderr=subprocess.PIPE)
         first = run.stdout.readline()
         run.send_signal(number)
@@ -73,6 +76,8 @@ for verb in (["read"], ["fetch", "LOT"], ["canon"]):
             bad = 1
 sys.exit(bad)
 END
+
+rm -rf "$room"/tmp/capellanote.* # what a command killed outright leaves
 
 # A program that is ended: a sentence, and the status 2.
 in_room python3 - "$room/status/many.sdf" <<'END' && ok || bad "status: a killed program" "see above"
