@@ -62,9 +62,8 @@ open_output() {
         return
     fi
     [ ! -L "$target" ] || target=$(resolved "$target")
-    temporary=$(dirname "$target")/.capellanote.$$
-    # shellcheck disable=SC3045
-    (set -C && : >"$temporary") 2>/dev/null || { temporary= && die "$option_o: cannot be written there"; }
+    temporary=$(mktemp "$(dirname "$target")/.capellanote.XXXXXX" 2>/dev/null) || { temporary= && die "$option_o: cannot be written there"; }
+    chmod "$(printf '%o' $((0666 & ~$(umask))))" "$temporary" # as any new file is
     exec >"$temporary"
 }
 

@@ -31,6 +31,10 @@ for name in $(./capellanote help | sed -n 's/^  capellanote \([a-z]*\).*/\1/p');
     got ./capellanote help "$name"
     is "help $name" 0 "$(cat "$room/help")" ""
 done
+got ./capellanote check - -
+is "check: standard input twice" 2 "" "- stands twice"
+got env TMPDIR="$o/nowhere" ./capellanote check "$sample"
+is "no temporary folder" 2 "" "set TMPDIR to a folder with room"
 got ./capellanote help tidy
 is "help: no such verb" 2 "" "unknown command tidy"
 got ./capellanote --version
@@ -152,6 +156,8 @@ run.send_signal(signal.SIGTERM)
 run.wait()
 sys.exit(1 if os.path.exists(name) or glob.glob(beside) else 0)
 END
+(umask 027 && ./capellanote canon "$sample" -o "$o/mode.sdf")
+case $(ls -l "$o/mode.sdf") in -rw-r-----*) ok ;; *) bad "-o: the file's mode" "$(ls -l "$o/mode.sdf")" ;; esac
 [ -z "$(ls -A "$o" | grep '^\.capellanote')" ] && ok || bad "-o" "left behind: $(ls -A "$o" | grep '^\.capellanote')"
 
 # Several names and files; a table; a name that no record has.

@@ -11,7 +11,7 @@ in_room() { TMPDIR=$room/tmp "$@"; }
 
 # Every verb that writes, on a full disk.
 for task in "check $sample" "check $sample $room/status/one.mol" "count $sample" "read $sample" "fetch LOT $sample" "fetch --tsv LOT $sample" \
-    "canon $sample" "pieces $sample" "formula $sample" "same $sample $room/status/other.sdf" "replay $room/status/log" "--version"; do
+    "canon $sample" "pieces $sample" "formula $sample" "same $sample $room/status/other.sdf" "replay $room/status/log" "--version" "help" "check --help"; do
     # shellcheck disable=SC2086
     in_room ./capellanote $task >/dev/full 2>"$room/err"
     status=$?

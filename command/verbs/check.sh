@@ -48,6 +48,9 @@ show_verdict() { # FILE
 }
 
 verb() { # FILES...
+    dashes=0
+    for file in "$@"; do [ "$file" != - ] || dashes=$((dashes + 1)); done
+    [ "$dashes" -lt 2 ] || misused "standard input can be read once, and - stands twice"
     judge_kind sdfile "$@"
     judge_kind molfile "$@"
     worst=0 good=0 refused=0 unread=0 total=0 files=$#

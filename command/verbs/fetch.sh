@@ -66,7 +66,7 @@ merge='
     }'
 
 merge_items() { # FILE
-    FILE=$1 NAMES=$names LC_ALL=C awk -v room="$room" -v tsv="$option_tsv" -v several="$several" "$merge"
+    exec env FILE="$1" NAMES="$names" LC_ALL=C awk -v room="$room" -v tsv="$option_tsv" -v several="$several" "$merge"
 }
 
 # One file: a process a name, all read side by side.
