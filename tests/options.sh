@@ -160,7 +160,15 @@ END
 case $(ls -l "$o/mode.sdf") in -rw-r-----*) ok ;; *) bad "-o: the file's mode" "$(ls -l "$o/mode.sdf")" ;; esac
 [ -z "$(ls -A "$o" | grep '^\.capellanote')" ] && ok || bad "-o" "left behind: $(ls -A "$o" | grep '^\.capellanote')"
 
-# Several names and files; a table; a name that no record has.
+# Several names and files, a process a name; a table; a name that no record has.
+rm -f "$o/starts"
+RATTLE_HOME=$o/kit ./capellanote fetch -n LOT -n SUPPLIER "$o"/many/*.sdf "$o/many/78.sdf" "$odd" >"$room/out" 2>"$room/err"
+status=$?
+[ "$status" = 2 ] && [ "$(wc -l <"$o/starts")" = 2 ] && [ "$(grep -c '"record":' "$room/out")" = 995 ] && grep -qF '{"file":"'"$o"'/ends in a line feed\u000a","record":1,' "$room/out" && grep -q '77.sdf:29:1: refused 17' "$room/err" && grep -q '78.sdf: No such file' "$room/err" && ok || bad "fetch: 201 files" "status $status, $(wc -l <"$o/starts") processes, $(wc -l <"$room/out") lines: $(head -c 300 "$room/err")"
+got ./capellanote fetch DRUM "$sample" "$o/many/77.sdf" "$o/many/1.sdf"
+[ "$status" = 1 ] && [ "$(grep -c 'no record has an item named DRUM' "$room/err")" = 2 ] && grep -q '1.sdf: no record has' "$room/err" && ok || bad "fetch: names that no record of a file has" "$(cat "$room/err")"
+cat "$sample" | ./capellanote fetch LOT "$o/many/1.sdf" - "$o/many/2.sdf" >"$room/out" 2>"$room/err"
+[ "$(grep -c '^{"file":"-","record":' "$room/out")" = 5 ] && [ "$(wc -l <"$room/out")" = 15 ] && ok || bad "fetch: standard input between files" "$(head -c 300 "$room/out" "$room/err")"
 got ./capellanote fetch -n LOT -n SUPPLIER "$sample" "$o/long.sdf"
 [ "$status" = 0 ] && [ "$(sed -n 3p "$room/out")" = "{\"file\":\"$sample\",\"record\":3,\"line\":35,\"values\":{\"LOT\":[\"00419\"],\"SUPPLIER\":[\"Alder & Finch\"]}}" ] && [ "$(wc -l <"$room/out")" = 3005 ] && ok || bad "fetch: two names, two files" "status $status: $(sed -n 3p "$room/out")"
 got ./capellanote fetch LOT "$sample" "$damaged" "$o/long.sdf"
