@@ -5,7 +5,7 @@ sample=$PWD/examples/sample.sdf
 sed -n 1,9p "$sample" >"$room/status/one.mol"
 printf 'RABCD00000417\001\000D\000\000\000\000' >"$room/status/log"
 sed 's/00421/0421/' "$sample" >"$room/status/other.sdf"
-for i in $(seq 1 600); do cat "$sample"; done >"$room/status/many.sdf"
+for i in $(seq 1 1500); do cat "$sample"; done >"$room/status/many.sdf"
 
 in_room() { TMPDIR=$room/tmp "$@"; }
 
@@ -58,21 +58,21 @@ done
 
 # A command that is stopped takes its program with it: it ends by the signal, and what it wrote is not whole.
 in_room python3 - "$room/status/many.sdf" <<'END' && ok || bad "status: a killed command" "see above"
-import os, signal, subprocess, sys, time
+import signal, subprocess, sys
 bad = 0
 signals = [signal.SIGTERM, signal.SIGINT, signal.SIGHUP]
 if subprocess.run("setpriv --pdeathsig TERM true", shell=True, stderr=subprocess.DEVNULL).returncode == 0:
     signals.append(signal.SIGKILL)
 for verb in (["read"], ["fetch", "LOT"], ["canon"]):
+    whole = len(subprocess.run(["./capellanote"] + verb + [sys.argv[1]], stdout=subprocess.PIPE).stdout)
     for number in signals:
         run = subprocess.Popen(["./capellanote"] + verb + [sys.argv[1]], stdout=subprocess.PIPE, stderr=subprocess.PIPE)
         first = run.stdout.readline()
         run.send_signal(number)
-        status = run.wait(timeout=20)
-        began = time.time()
-        rest = run.stdout.read()
-        if status != -number or not first or rest.count(b"\n") >= 2999:
-            print(verb, number, "status", status, "lines", rest.count(b"\n"), run.stderr.read()[:300])
+        status = run.wait(timeout=60)
+        wrote = len(first + run.stdout.read())
+        if status != -number or not 0 < wrote < whole:
+            print(verb, number, "status", status, "bytes", wrote, "of", whole, run.stderr.read()[:300])
             bad = 1
 sys.exit(bad)
 END

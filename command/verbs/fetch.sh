@@ -82,8 +82,11 @@ merge='
         exit 0
     }'
 
+# It has a process of its own.
 merge_items() { # FILES...
-    exec env NAMES="$names" LC_ALL=C awk -v room="$room" -v tsv="$option_tsv" -v several="$several" "$merge" "$@"
+    NAMES=$names LC_ALL=C
+    export NAMES LC_ALL
+    exec awk -v room="$room" -v tsv="$option_tsv" -v several="$several" "$merge" "$@"
 }
 
 # The places of the files among the arguments, as names that can be read twice, in $paths.
