@@ -22,6 +22,7 @@ kill_tree() { # PROCESS
 # A signal stops the program, too; then the command ends by the same signal, so that its caller sees it.
 stopped() { # SIGNAL
     trap - EXIT "$1"
+    [ -z "$locked" ] || printf 'capellanote: the build was stopped; call it again, and it goes on from there\n' >&2
     clean_up
     kill -s "$1" $$
     exit 2

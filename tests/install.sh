@@ -106,6 +106,7 @@ before=$(grep -c ended "$i/calls")
 killed_build TERM 2>/dev/null
 sleep 4
 [ "$(grep -c ended "$i/calls")" = "$before" ] && [ ! -e "$repo/target/building" ] && ok || bad "build: killed" "rt went on, or the lock is still there"
+grep -q "the build was stopped; call it again" "$room/first" && ok || bad "build: killed" "nothing says what to do: $(cat "$room/first")"
 got at_repo repo/capellanote check sample.sdf
 is "build: after a killed one" 0 "$good" "check_files is older"
 sleep 1
