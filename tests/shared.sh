@@ -19,6 +19,28 @@ listed=$(sed -n '/^   Refusals$/,/^   Tables$/s/^ *\([0-9][0-9]*\)  .*/\1/p' inc
 named=$(sed -n '/^enum { CAPELLANOTE_BAD_KIND/,/};/p' include/capellanote.h | grep -o '= [0-9]*' | cut -c 3- | sort -n)
 [ "$named" = "$(echo "$listed" | sort -n)" ] && ok || bad "the header: names of refusals" "not those of the list: $(echo "$named" | diff - <(echo "$listed" | sort -n) | head -n 5)"
 
+# The items of records stepped over, in files of the second program's making, as `read` lists them.
+got examples/compile tests/items.c "$room/items"
+is "items: a C program" 0 "" ""
+python3 - "$room" <<'END'
+import random, sys
+sys.path.insert(0, "oracle")
+from generate import file_rows, good_drafts, to_bytes
+rng = random.Random(29)
+for k in range(12):
+    with open("%s/items%02d.sdf" % (sys.argv[1], k), "wb") as file:
+        file.write(to_bytes(rng, file_rows(rng, good_drafts(rng, 1), 1)))
+END
+for file in "$room"/items??.sdf; do
+    ./capellanote read "$file" | python3 -c 'import json, sys
+for line in sys.stdin:
+    record = json.loads(line)
+    for name, values in record["items"]:
+        print("%d %s=%s" % (record["record"], name, "/".join(values)))' >"$room/expected"
+    got examples/compile --run "$room/items" "$file"
+    is "items: $(basename "$file")" 0 "$(cat "$room/expected")" ""
+done
+
 # The Python module needs an x86-64 Python: this machine's, or the one that CAPELLANOTE_X86_PYTHON names.
 python=${CAPELLANOTE_X86_PYTHON:-}
 [ -n "$python" ] || [ "$(uname -m)" != x86_64 ] || python=python3
