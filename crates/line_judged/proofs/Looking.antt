@@ -8,22 +8,21 @@ use mir.Syntax.{w64}
 use mir.Val.{Fits}
 use borrow.Author.Tests.{eq-eqb, ne-eqb}
 use Rattle.text.specs.Text.{Bytes, Line}
-use Rattle.text.specs.Find.{lineAt, firstFrom}
+use Rattle.text.specs.Find.{firstFrom}
 use Rattle.text.specs.First.{first-hit, first-miss, first-within}
-use Rattle.text.specs.declared.LineAt.{LineAt}
 use Rattle.text.specs.declared.Found.{Found}
-use Rattle.line_judged.specs.Known.{Standing, whole-never, Header, Stands, isByte, opening, open-low, closing, named, end-told, header-told}
+use Rattle.line_judged.specs.Known.{ends, whole-inside, whole-empty, whole-cr, whole-lf, Header, Stands, isByte, opening, open-low, closing, named, end-told, header-told}
 
 -- ---- A whole line
 
-module _ (s : Bytes) (at : ℕ) (g : Standing s at) (x : LineAt) (e : x ≡ lineAt s at) where
-  pub whole-line : (n m : ℕ) → x ≡ LineAt.Line n m → lineAt s at ≡ LineAt.Line n m
-  whole-line n m h = sym e ∙ h
+module _ (s : Bytes) (at k : ℕ) (e : firstFrom (isByte 10) at (drop at s) ≡ Found.At k) where
+  pub whole-fits : length s * 1 < 2 ^ 63 → Fits w64 (k + 1)
+  whole-fits h = record { fits = omega (arith, whole-inside s at k e) }
 
-  pub whole-other : (n m : ℕ) → x ≡ LineAt.Unfinished → lineAt s at ≡ LineAt.Line n m
-  whole-other n m h = whole-never s at g x e h
+  pub whole-before : at < k → k - 1 < length s
+  whole-before h = omega (arith, whole-inside s at k e)
 
-pub ruleset whole-laws = (whole-line, whole-other)
+pub ruleset whole-laws = (ends, whole-fits, whole-before, whole-empty, whole-cr, whole-lf)
 
 pub ruleset end-laws = (end-told, header-told)
 

@@ -5,12 +5,12 @@ use mathlib.Core.Path.{_≡_, refl, sym, ap, _∙_, subst}
 use mathlib.Core.Bool.{Bool, true, false}
 use mathlib.Core.List.{List, [], _∷_, _++_}
 use lib.Dec.{eqb}
-use lib.ListN.{length, take, drop, length-append, length-drop}
+use lib.ListN.{length, getD, take, drop, length-drop}
 use lib.Seq.{take-at}
-use borrow.Author.Tests.{eq-eqb, ne-eqb}
+use borrow.Author.Tests.{eq-eqb, ne-eqb, lt-ltb, le-ltb}
 use Rattle.text.specs.Text.{Bytes, Line, Each}
 use Rattle.text.specs.Columns.{column, columns, columnsFor, spaces}
-use Rattle.text.specs.Find.{lineAt, firstFrom, isBlank}
+use Rattle.text.specs.Find.{lineAt, lineTo, firstFrom, isBlank}
 use Rattle.text.specs.First.{each-as, first-within}
 use Rattle.text.specs.Agree.{blank-is}
 use Rattle.text.specs.declared.LineAt.{LineAt}
@@ -29,10 +29,42 @@ pub record Standing (s : Bytes) (at : ℕ) : Type 0 where
   pub is : lineAt s at ≡ LineAt.Line end next
 
 -- no unfinished one does
-pub whole-never : {X : Type 0} (s : Bytes) (at : ℕ) → Standing s at → (x : LineAt) → x ≡ lineAt s at → x ≡ LineAt.Unfinished → X
-whole-never s at g x e h =
-    let z : LineAt.Line (g .end) (g .next) ≡ LineAt.Unfinished = sym (g .is) ∙ sym e ∙ h in
+pub whole-never : {X : Type 0} (s : Bytes) (at : ℕ) → Standing s at → lineAt s at ≡ LineAt.Unfinished → X
+whole-never s at g h =
+    let z : LineAt.Line (g .end) (g .next) ≡ LineAt.Unfinished = sym (g .is) ∙ h in
     absurd (let z : _≡_ {A = ℕ} 0 1 = cc in omega arith)
+
+abbrev pub isByte : ℕ → ℕ → Bool
+isByte b x = eqb x b
+
+-- a byte b stands at `at` or after it
+pub record Stands (b : ℕ) (s : Bytes) (at : ℕ) : Type 0 where
+  pub place : ℕ
+  pub is : firstFrom (isByte b) at (drop at s) ≡ Found.At place
+
+pub ends : (s : Bytes) (at : ℕ) → Standing s at → Stands 10 s at
+unfolding lineAt lineTo
+ends s at g = go (firstFrom (isByte 10) at (drop at s)) refl
+  where
+    go : (x : Found) → firstFrom (isByte 10) at (drop at s) ≡ x → Stands 10 s at
+    go (Found.At k) e = record { place = k; is = e }
+    go Found.Nothing e = whole-never s at g (ap (lineTo s at) e)
+
+module _ (s : Bytes) (at k : ℕ) (e : firstFrom (isByte 10) at (drop at s) ≡ Found.At k) where
+  pub whole-inside : k < length s
+  whole-inside = let w = first-within (isByte 10) at k (drop at s) e in omega (arith, w .0, w .1, length-drop at s)
+
+  pub whole-empty : k ≤ at → lineAt s at ≡ LineAt.Line k (k + 1)
+  unfolding lineAt lineTo
+  whole-empty h = rw (e, le-ltb at k h)
+
+  pub whole-cr : at < k → getD s (k - 1) 0 ≡ 13 → lineAt s at ≡ LineAt.Line (k - 1) (k + 1)
+  unfolding lineAt lineTo
+  whole-cr h c = rw (e, lt-ltb at k h, eq-eqb (getD s (k - 1) 0) 13 c)
+
+  pub whole-lf : at < k → (getD s (k - 1) 0 ≡ 13 → ⊥) → lineAt s at ≡ LineAt.Line k (k + 1)
+  unfolding lineAt lineTo
+  whole-lf h c = rw (e, lt-ltb at k h, ne-eqb (getD s (k - 1) 0) 13 c)
 
 -- ---- A data header or a `$$$$` line
 
@@ -70,14 +102,6 @@ pub record Named (l : Line) (from to : ℕ) : Type 0 where
   pub order : from ≤ to
   pub inside : to ≤ length l
   pub is : DataHeader l (take (to - from) (drop from l))
-
-abbrev pub isByte : ℕ → ℕ → Bool
-isByte b x = eqb x b
-
--- a byte b stands at `at` or after it
-pub record Stands (b : ℕ) (l : Line) (at : ℕ) : Type 0 where
-  pub place : ℕ
-  pub is : firstFrom (isByte b) at (drop at l) ≡ Found.At place
 
 first-after : (b i : ℕ) (xs ys : Bytes) → Each (λ x. isByte b x ≡ false) xs → firstFrom (isByte b) i (xs ++ (b ∷ ys)) ≡ Found.At (i + length xs)
 unfolding firstFrom Each

@@ -6,7 +6,6 @@ ghost use Rattle.text.specs.declared.Found.{Found};
 ghost use lib.ListN.{drop};
 ghost use Rattle.judge_line.specs.Judge.{isClose};
 ghost use Rattle.line_judged.specs.Known.{Standing, HeaderOrEnd, Header, Named, isByte, Stands};
-use text::LineAt;
 
 // A whole line: its bytes end before `end`, and the next line starts at `next`.
 pub struct Whole {
@@ -18,28 +17,6 @@ pub struct Whole {
 pub struct Name {
     pub from: usize,
     pub to: usize,
-}
-
-// The line at a position where a whole one is known to start. The other arm is never taken (`whole-never`): a match has to have it.
-pub fn whole_line(s: &[u8], at: usize) -> Whole
-    requires { ⌜ Standing (now s) at ⌝ }
-    ensures { λ r. ⌜ lineAt (now (s .entry)) at ≡ LineAt.Line (r .end) (r .next) ⌝ }
-{
-    match text::line_at(s, at) {
-        LineAt::Line { end, next } => Whole { end, next },
-        LineAt::Unfinished => Whole { end: at, next: at },
-    }
-}
-
-// Whether a line that is a data header or a `$$$$` line is a `$$$$` line: the first byte tells.
-pub fn is_end(line: &[u8]) -> bool
-    requires { ⌜ HeaderOrEnd (now line) ⌝ }
-    ensures { λ r. ⌜ r ≡ isClose (now (line .entry)) ⌝ }
-{
-    if text::column(line, 1) == b'$' {
-        return true;
-    }
-    false
 }
 
 // The first byte b from position `at` on, where one is known to stand.
@@ -54,6 +31,42 @@ fn find(line: &[u8], at: usize, b: u8) -> usize
         }
         i += 1;
     }
+}
+
+// The line at a position where a whole one is known to start, so that there is no other answer. A plain search: these lines are short, and the walk keeps
+// `text::line_at` to itself, inlined.
+pub fn whole_line(s: &[u8], at: usize) -> Whole
+    requires { ⌜ Standing (now s) at ⌝ }
+    ensures { λ r. ⌜ lineAt (now (s .entry)) at ≡ LineAt.Line (r .end) (r .next) ⌝ }
+{
+    let k = find(s, at, b'\n');
+    if k <= at {
+        return Whole {
+            end: k,
+            next: k + 1,
+        };
+    }
+    if s[k - 1] == b'\r' {
+        return Whole {
+            end: k - 1,
+            next: k + 1,
+        };
+    }
+    Whole {
+        end: k,
+        next: k + 1,
+    }
+}
+
+// Whether a line that is a data header or a `$$$$` line is a `$$$$` line: the first byte tells.
+pub fn is_end(line: &[u8]) -> bool
+    requires { ⌜ HeaderOrEnd (now line) ⌝ }
+    ensures { λ r. ⌜ r ≡ isClose (now (line .entry)) ⌝ }
+{
+    if text::column(line, 1) == b'$' {
+        return true;
+    }
+    false
 }
 
 // The name of a data header: it stands between the first `<` and the `>` after it.
