@@ -17,7 +17,7 @@ pub data Action : Type 0 where
   put : Action  -- an empty line before it
   lose : Action  -- a blank where a data header or `$$$$` must stand, or after the last record
 
-abbrev found : {A : Type 0} → Got A → Bool
+abbrev pub found : {A : Type 0} → Got A → Bool
 found (got a) = true
 found (bad e column) = false
 
