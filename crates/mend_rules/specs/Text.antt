@@ -98,7 +98,7 @@ unfolding joined
 onto-joined b [] r = refl
 onto-joined b (l ∷ ls) r = refl
 
-joined-split : (s : Bytes) → joined (split s .lines) ++ split s .rest ≡ s
+pub joined-split : (s : Bytes) → joined (split s .lines) ++ split s .rest ≡ s
 unfolding split joined
 joined-split [] = refl
 joined-split (b ∷ s) = go (eqb b LF) refl (joined-split s)
@@ -125,7 +125,7 @@ judged-text limit s =
     let c = joined-cut (applied t (pieces s)) (applied-clean t (pieces s) (pieces-clean s)) in
     rw (c, length-map (applied t (pieces s)) ended, applied-ended t (pieces s), judged-as limit first [] 1 (map ended (pieces s)))
 
-actions-many : (limit : ℕ) (s : Bytes) → length (actions limit s) ≡ length (pieces s)
+pub actions-many : (limit : ℕ) (s : Bytes) → length (actions limit s) ≡ length (pieces s)
 unfolding actions
 actions-many limit s = actions-length limit first [] (map ended (pieces s)) ∙ length-map (pieces s) ended
 
