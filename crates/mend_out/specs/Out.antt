@@ -50,7 +50,7 @@ pub record CanPut (m : Mender) : Type 0 where
 
 -- so many bytes, and the line end if it is added
 pub record CanKeep (m : Mender) (bytes late : ℕ) : Type 0 where
-  pub notes : CanNote m
+  pub notes : late ≡ 1 → CanNote m
   pub out : m .out + (bytes + late) < 2 ^ 64
   pub line : m .«out_line» + 1 < 2 ^ 64
   pub came : m .line + 1 < 2 ^ 64
@@ -134,7 +134,10 @@ module _ (m n : Mender) (e : n ≡ notedBy m) where
   pub ended-line : (bytes : ℕ) (l : Mender) → l ≡ laidBy n (bytes + 1) → m .line + 1 < 2 ^ 64 → l .line + 1 < 2 ^ 64
   ended-line bytes l h f = rw (h, e) f
 
-pub ruleset out-laws = (stored-two, noted-line, noted-dropped, noted-out, noted-out-line, noted-put, noted-ended, ended-line)
+pub can-end : (m : Mender) (bytes : ℕ) → CanKeep m bytes 1 → CanNote m
+can-end m bytes g = g .notes refl
+
+pub ruleset out-laws = (stored-two, noted-line, noted-dropped, noted-out, noted-out-line, noted-put, noted-ended, ended-line, can-end)
 
 -- ---- A line that is kept
 

@@ -19,7 +19,7 @@ store-byte-requires c κs = search needs
 
 -- src/lib.rt:153:9
 note-requires : tie.Need-note-requires
-note-requires c κs = search needs
+note-requires c κs = search (needs, out-laws)
 
 -- src/lib.rt:154:20
 add-laid : tie.Need-add-laid
