@@ -46,6 +46,8 @@
      32  a formula nests deeper than 8
      33  a formula names an element more than 9,999 times
      34  a symbol in the atom table is no element (119 to 122)
+     38  the room lent is shorter than the mended text
+     39  the list lent is too short
 
    Tables
      An atom is 16 numbers: x, y, z in ten-thousandths, symbol (1 to 118 by atomic number, 119 A, 120 Q, 121 *, 122 LP),
@@ -226,6 +228,24 @@ void capellanote_formula(const capellanote_byte *text, capellanote_size text_len
                          capellanote_int *bonds, capellanote_size bonds_length,
                          capellanote_count found[CAPELLANOTE_FOUND],
                          capellanote_size answer[3]);
+
+/* ---- A file mended */
+
+/* What was done at a line. */
+enum { CAPELLANOTE_BLANK_PUT = 1, CAPELLANOTE_BLANK_DROPPED = 2, CAPELLANOTE_LINE_ENDED = 3 };
+
+/* An SDfile with what can be mended mended, and no more: an empty line is put before a data header or a $$$$ line that stands where a value line or
+   the blank line after the values must stand; a blank line is dropped where a data header or $$$$ must stand; blank lines after the last record are
+   dropped; the line end that is missing at the very end is added. All other lines come out byte for byte.
+   Then the mended text is judged as an SDfile, and 38 and then 39 are given, both without a line.
+   Accepted: answer = { 0, length of the mended text, number of repairs }: the text stands at the front of the room; the list holds two numbers for
+   each repair, in line order, its line in the text as it came and what was done. The rest of room and list is as it was.
+   Refused: nothing is written but the answer; its line counts in the mended text.
+   The list has room for list_length / 2 repairs. A mended text has at most 2 * text_length + 1 bytes. */
+void capellanote_mend(const capellanote_byte *text, capellanote_size text_length,
+                      capellanote_byte *room, capellanote_size room_length,
+                      capellanote_size *list, capellanote_size list_length,
+                      capellanote_size answer[3]);
 
 /* ---- The replay of a scanner log */
 
