@@ -35,14 +35,15 @@ fn judge_arguments(from: usize, way: Way, buf: &mut [u8; BUFFER]) {
     }
 }
 
-fn judge_all(from: usize, sd: bool, progress: bool, buf: &mut [u8; BUFFER]) {
+// The names stand from `from` on, or from `next` on where `--all` is said first.
+fn judge_all(from: usize, next: usize, sd: bool, progress: bool, buf: &mut [u8; BUFFER]) {
     if program_io::is_argument(from, b"--all") {
         let way = Way {
             sd,
             progress,
             all: true,
         };
-        judge_arguments(from + 1, way, buf);
+        judge_arguments(next, way, buf);
     } else {
         let way = Way {
             sd,
@@ -57,8 +58,8 @@ fn main() {
     let mut buf = [0u8; BUFFER];
     let sd = program_io::is_argument(1, b"sdfile");
     if program_io::is_argument(2, b"--progress") {
-        judge_all(3, sd, true, &mut buf);
+        judge_all(3, 4, sd, true, &mut buf);
     } else {
-        judge_all(2, sd, false, &mut buf);
+        judge_all(2, 3, sd, false, &mut buf);
     }
 }
