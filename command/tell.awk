@@ -377,6 +377,7 @@ function whose(title) {
 # ---- Warnings
 
 function warn(what, record, line, text, words) {
+    if (names) return
     warned++
     if (json) {
         print "{\"file\":" quoted_name(name) ",\"warning\":\"" what "\"" (record == "" ? "" : ",\"record\":" record ",\"line\":" line) (text == "" ? "" : ",\"text\":" quoted(text)) "}"
@@ -408,7 +409,7 @@ function tell_file(    fact, status, word, by) {
         word = fact
         sub(/ .*/, "", word)
         if (word == "line" || word == "rest") { hold(fact, word); continue }
-        if (held) { tell_refusal(); held = 0 }
+        if (held) { if (!names) tell_refusal(); held = 0 }
         if (word == "record") begin_record(fact)
         else if (word == "item") { items++; counts_of[items] = part(fact, 2); names_of[items] = after(fact, 2) }
         else if (word == "names") full = 1
@@ -448,15 +449,21 @@ function hold(fact, word) {
 
 function tell_end(accepted, refused,    bad) {
     bad = refused > 0
-    if (names) { for (bad = 1; bad <= items; bad++) print counts_of[bad] "\t" plain(names_of[bad]); bad = refused > 0 }
-    else near_names()
+    if (names) { tell_names(refused); return bad }
+    near_names()
     if (accepted + refused == 0) warn("empty", "", "", "", "no records")
     if (json) print "{\"file\":" quoted_name(name) ",\"records\":" (accepted + refused) ",\"accepted\":" accepted ",\"refused\":" refused ",\"verdict\":\"" (bad ? "refused" : "accepted") "\"}"
-    else if (names) ;
     else if (!bad) print name ": accepted, " plural(accepted, "record")
     else if (all) print name ": refused; " plural(accepted, "record") " accepted, " refused " refused: " tallied()
     total += bad ? 0 : accepted
     return bad || (strict && warned) ? 1 : 0
+}
+
+# Item names alone.
+function tell_names(refused,    i) {
+    for (i = 1; i <= items; i++) print counts_of[i] "\t" plain(names_of[i])
+    if (full) print name ": more than 256 different names" | "cat 1>&2"
+    if (refused) print name ": " plural(refused, "record") " refused, and passed over" | "cat 1>&2"
 }
 
 # How many were refused by which number.
