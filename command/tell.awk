@@ -1,6 +1,6 @@
 # What is said of files, made of the facts that the program check_files writes: for people, or as JSON.
 # awk -f tell.awk ROOM KIND NAME KIND NAME...   with the facts of the files of a kind to be read from ROOM/KIND
-# -v json=yes: objects. -v all=yes: a tally. -v strict=yes: a warning makes status 1. -v names=yes: item names alone. The status goes to ROOM/status.
+# -v json=yes: objects. -v all=yes: a tally. -v strict=yes: a warning makes status 1. -v names=yes: item names alone. The status goes to ROOM/status, what is said beside names to ROOM/beside.
 
 # ---- Text
 
@@ -145,7 +145,7 @@ function earlier_bond(    a, b, j, c, d) {
 
 function first_bytes(    first, four) {
     if (record != 1 || count > 4 && !(place == "item" && item == "")) return ""
-    first = count > 1 ? lines[1] : line
+    first = (1 in lines) ? lines[1] : ""
     four = count == 4 ? line : ""
     if (first ~ /^\\x1f\\x8b/) return "this is a gzip file: unpack it first"
     if (first ~ /^PK\\x03\\x04/) return "this is a zip file: unpack it first"
@@ -186,7 +186,7 @@ function judge_it(    rest, k, s) {
         found = columns(34, 39)
         field = "version"
         allowed = " V2000"
-        if (line ~ /V3000/) { sentence = "this record is V3000, " served; ask = "the file in V2000" }
+        if (line ~ /V3000/) { sentence = "this record is V3000, which is " served; ask = "the file in V2000" }
         else { sentence = "columns 34 to 39 are '" found "', and must be ' V2000'"; ask = "V2000 with the counts line in its columns; a header line too few or too many has this effect, too" }
     } else if (number == 7) {
         find_field(column)
@@ -210,7 +210,7 @@ function judge_it(    rest, k, s) {
         found = columns(32, 34)
         s = trimmed(found)
         sentence = "'" found "' is no symbol"
-        if (s ~ /^R(#|[0-9])/ || s == "L") { sentence = "'" s "' stands for an Rgroup or an atom list, " served; ask = "whole structures" }
+        if (s ~ /^R(#|[0-9])/ || s == "L") { sentence = "'" s "' stands for an Rgroup or an atom list, which is " served; ask = "whole structures" }
         else if (s == "D" || s == "T") { sentence = sentence "; deuterium and tritium are H with an isotope"; ask = "H with its isotope in an 'M  ISO' line" }
         else if (found ~ /^ /) { sentence = sentence "; it must begin in column 32"; ask = "atom lines in their columns" }
         else if (s ~ /^[A-Z][A-Z]$/) { sentence = sentence "; symbols are written as in " substr(s, 1, 1) tolower(substr(s, 2)); ask = "symbols in their usual capitals" }
@@ -233,8 +233,8 @@ function judge_it(    rest, k, s) {
     } else if (number == 13) {
         found = columns(1, 6)
         allowed = "'M  CHG', 'M  RAD', 'M  ISO', 'M  END'"
-        if (line ~ /^M  [A-Z]/) { sentence = "'" found "' is a property " served; ask = "structures without '" found "' lines" }
-        else if (line ~ /^(A|V|G|S)  /) { sentence = "'" columns(1, 3) "' begins a line " served; ask = "structures without such lines" }
+        if (line ~ /^M  [A-Z]/) { sentence = "'" found "' is a property that is " served; ask = "structures without '" found "' lines" }
+        else if (line ~ /^(A|V|G|S)  /) { sentence = "'" columns(1, 3) "' begins a line that is " served; ask = "structures without such lines" }
         else if (line ~ /^ *[0-9]+ +[0-9]+ +[0-9]/) { sentence = "a bond line more than the counts line says, which is " plural(bonds, "bond"); ask = "a counts line with the right number of bonds" }
         else { sentence = "'M  END' is missing, or the counts line has too few bonds"; ask = "'M  END' after the bonds of each record" }
     } else if (number == 14) {
@@ -292,7 +292,7 @@ function item_line(    s, name, after) {
         field = "text after the name"
         found = trimmed(after)
         allowed = "spaces"
-        sentence = "'" found "' stands after the name of the item " name ", " served
+        sentence = "'" found "' stands after the name of the item " name ", which is " served
         ask = "data headers that end with the name, as '>  <" name ">'"
         return
     }
@@ -320,7 +320,7 @@ function cut_short(    j, inked) {
 # ---- A refusal is told
 
 function tell_refusal(    title, shown_line, mark, i, from, to) {
-    title = count > 1 || !unfinished ? lines[1] : ""
+    title = count > 1 || !unfinished ? lines[1] "" : ""
     if (long) {
         tally["too long"]++
         if (json) { print "{\"file\":" quoted_name(name) ",\"record\":" record ",\"title\":" quoted(title) ",\"number\":null,\"line\":" begun ",\"column\":null,\"field\":null,\"found\":\"more than 1048576 bytes\",\"allowed\":\"1048576 bytes\",\"text\":" quoted(title) "}"; return }
@@ -330,7 +330,7 @@ function tell_refusal(    title, shown_line, mark, i, from, to) {
         return
     }
     tally[number]++
-    line = lines[count]
+    line = (count in lines) ? lines[count] : ""
     size = sizes[count]
     find_place(count)
     judge_it()
@@ -369,9 +369,11 @@ function safe(s,    i, c, r) {
     return r
 }
 
+# The record by its number and its first header line.
 function whose(title) {
-    title = plain(title)
-    return "record " record (trimmed(title) == "" ? "" : ", " trimmed(title)) ", from line " begun
+    title = trimmed(plain(title))
+    if (length(title) > 60) title = substr(title, 1, 57) "..."
+    return "record " record (title == "" ? "" : ", " title) ", from line " begun
 }
 
 # ---- Warnings
@@ -444,7 +446,8 @@ function hold(fact, word) {
     count++
     sizes[count] = part(fact, 2)
     lines[count] = after(fact, 2)
-    if (word == "rest") unfinished = 1
+    if (word == "rest") unfinished = sizes[count] > 0
+    if (word == "rest" && !unfinished) delete lines[count]
 }
 
 function tell_end(accepted, refused,    bad) {
@@ -462,8 +465,8 @@ function tell_end(accepted, refused,    bad) {
 # Item names alone.
 function tell_names(refused,    i) {
     for (i = 1; i <= items; i++) print counts_of[i] "\t" plain(names_of[i])
-    if (full) print name ": more than 256 different names" | "cat 1>&2"
-    if (refused) print name ": " plural(refused, "record") " refused, and passed over" | "cat 1>&2"
+    if (full) print name ": more than 256 different names" >(room "/beside")
+    if (refused) print name ": " plural(refused, "record") " refused, and passed over" >(room "/beside")
 }
 
 # How many were refused by which number.
