@@ -1,6 +1,6 @@
 # What is said of files, made of the facts that the program check_files writes: for people, or as JSON.
 # awk -f tell.awk ROOM KIND NAME KIND NAME...   with the facts of the files of a kind to be read from ROOM/KIND
-# -v json=yes: objects. -v all=yes: a tally. -v strict=yes: a warning makes status 1. -v names=yes: item names alone. The status goes to ROOM/status, what is said beside names to ROOM/beside.
+# -v json=yes: objects. -v all=yes: a tally. -v strict=yes: a warning makes status 1. -v names=yes: item names alone. The status goes to ROOM/status, what belongs on standard error to ROOM/beside.
 
 # ---- Text
 
@@ -147,6 +147,7 @@ function first_bytes(    first, four) {
     if (record != 1 || count > 4 && !(place == "item" && item == "")) return ""
     first = (1 in lines) ? lines[1] : ""
     four = count == 4 ? line : ""
+    if (number == 19 && count == 1 && !unfinished) return "the file is empty"
     if (first ~ /^\\x1f\\x8b/) return "this is a gzip file: unpack it first"
     if (first ~ /^PK\\x03\\x04/) return "this is a zip file: unpack it first"
     if (first ~ /^(\\xff\\xfe|\\xfe\\xff)/ || first ~ /^.\\x00.\\x00/) return "this is text in UTF-16: ask for ASCII"
@@ -320,7 +321,7 @@ function cut_short(    j, inked) {
 # ---- A refusal is told
 
 function tell_refusal(    title, shown_line, mark, i, from, to) {
-    title = count > 1 || !unfinished ? lines[1] "" : ""
+    title = (1 in lines) && (count > 1 || !unfinished) ? lines[1] : ""
     if (long) {
         tally["too long"]++
         if (json) { print "{\"file\":" quoted_name(name) ",\"record\":" record ",\"title\":" quoted(title) ",\"number\":null,\"line\":" begun ",\"column\":null,\"field\":null,\"found\":\"more than 1048576 bytes\",\"allowed\":\"1048576 bytes\",\"text\":" quoted(title) "}"; return }
@@ -401,11 +402,9 @@ function near_names(    i, key, first) {
 
 # ---- A file
 
-function tell_file(    fact, status, word, by) {
-    held = 0
-    items = full = warned_before = 0
+function tell_file(    fact, status, word, ended) {
+    held = items = full = warned = 0
     for (word in tally) delete tally[word]
-    warned = 0
     status = 2
     while ((getline fact < (room "/" kind)) > 0) {
         word = fact
@@ -417,9 +416,10 @@ function tell_file(    fact, status, word, by) {
         else if (word == "names") full = 1
         else if (word == "twice") warn("twice", part(fact, 2), part(fact, 3), after(fact, 3), "the item " plain(after(fact, 3)) " stands twice in record " part(fact, 2) "; fetch sees the first alone")
         else if (word == "swallowed") warn("swallowed", part(fact, 2), part(fact, 3), after(fact, 3), "this value line looks like a data header, and is none, so an item may be missing in record " part(fact, 2) ": " plain(after(fact, 3)))
-        else if (word == "end") { status = tell_end(part(fact, 2), part(fact, 3)); break }
-        else if (word == "unread") { if (json) print "{\"file\":" quoted_name(name) ",\"records\":0,\"accepted\":0,\"refused\":0,\"verdict\":\"unread\"}"; break }
+        else if (word == "end") { ended = 1; status = tell_end(part(fact, 2), part(fact, 3)); break }
+        else if (word == "unread") { ended = 1; if (json) print "{\"file\":" quoted_name(name) ",\"records\":0,\"accepted\":0,\"refused\":0,\"verdict\":\"unread\"}"; break }
     }
+    if (!ended) print "capellanote: " name ": the program ended without a verdict" >(room "/beside")
     return status
 }
 

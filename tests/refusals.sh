@@ -43,52 +43,42 @@ from generate import sized_record
 ROOM = 1048576
 
 def resumed(data):
-    """(record, its first line, number or None, line, column) for each record that is not accepted; how many are."""
-    bad, good, at, line, record = [], 0, 0, 0, 0
+    """(record, number or None, line, column) for each record that is not accepted; how many are."""
+    ends = [i + 1 for i, byte in enumerate(data) if byte == 10]
+    bad, good, at, line = [], 0, 0, 0
     while at < len(data):
-        ends = [i + 1 for i in range(at, len(data)) if data[i:i + 1] == b"\n"] if len(data) - at < 20000 else ends_of(data, at)
-        record += 1
-        size, answer = front(data, at, ends)
+        answer, lines = front(data, at, ends, line)
         if answer is None:
             good += 1
-            lines = data[at:at + size].count(b"\n")
         else:
             number, first, column = answer
-            bad.append((record, line + 1, number, line + first if number else line + 1, column))
-            size, lines, start = len(data) - at, len(ends), at
-            for k, end in enumerate(ends):
-                if k + 1 >= first and data[start:start + 4] == b"$$$$":
-                    size, lines = end - at, k + 1
-                    break
-                start = end
-        at, line = at + size, line + lines
+            bad.append((len(bad) + good + 1, number, line + (first if number else 1), column))
+            lines = first
+            while line + lines <= len(ends) and not begins(data, ends, line + lines):
+                lines += 1
+        line += lines
+        at = ends[line - 1] if line <= len(ends) else len(data)
     return bad, good
 
-def ends_of(data, at):
-    found, i = [], data.find(b"\n", at)
-    while i >= 0:
-        found.append(i + 1)
-        i = data.find(b"\n", i + 1)
-    return found
+def begins(data, ends, line):
+    start = ends[line - 2] if line > 1 else 0
+    return data[start:start + 4] == b"$$$$"
 
-def front(data, at, ends):
-    """The bytes of the record there, and None; or its refusal."""
-    start = at
-    for end in ends:
-        if data[start:start + 4] == b"$$$$":
-            answer = check(1, data[at:end])
+def front(data, at, ends, line):
+    """Of the record that begins there after so many lines: None and its lines, or its refusal."""
+    for k in range(line + 1, len(ends) + 1):
+        if ends[k - 1] - at > ROOM:
+            break
+        if begins(data, ends, k):
+            answer = check(1, data[at:ends[k - 1]])
             if answer[0] == "accepted":
-                if end - at <= ROOM:
-                    return end - at, None
-                break
+                return None, k - line
             if answer[1] != 19:
-                break
-        start = end
+                return answer[1:], 0
     answer = check(1, data[at:at + ROOM])
-    if answer[0] == "accepted" or (answer[1] == 19 and len(data) - at > ROOM):
-        complete = data[at:at + ROOM].count(b"\n")
-        return 0, (None, complete + 1, None)
-    return 0, answer[1:]
+    if answer[1] == 19 and len(data) - at > ROOM:
+        return (None, data[at:at + ROOM].count(b"\n") + 1, None), 0
+    return answer[1:], 0
 
 def told(data, name):
     with open(name, "wb") as file:
@@ -101,12 +91,11 @@ def told(data, name):
 
 def compare(data, name, what):
     bad, good = resumed(data)
-    mine = [(record, number, line, column) for record, first, number, line, column in bad]
     theirs = told(data, name)
-    if theirs != (mine, good, len(mine)):
-        print(what, "differs:", theirs, (mine, good))
+    if theirs != (bad, good, len(bad)):
+        print(what, "differs:", theirs, (bad, good))
         sys.exit(1)
-    return len(mine), good
+    return len(bad), good
 
 rng = random.Random(31)
 name = sys.argv[1] + "/many.sdf"
@@ -125,15 +114,24 @@ found = compare(b"".join(small), name, "1000 records")
 if found != (30, 970):
     print("1000 records with 30 bad ones:", found)
     sys.exit(1)
-for turn in range(60):
+for turn in range(25):
     data = b"".join(damaged(rng, 1) if rng.random() < .6 else sized_record(rng, 400) for _ in range(rng.randrange(1, 7)))
     compare(data, name, "damaged files %d" % turn)
-long = sized_record(rng, ROOM + 1)
+# A record longer than the buffer, and one that its end cuts.
 bad = small[spoilt[0]]
-edge = sized_record(rng, ROOM - 300)
-value = sized_record(rng, 500).replace(b"\n\n$$$$", b"\n" + b"\xe9" * (2 * ROOM) + b"\n\n$$$$", 1)
-for data in (long + small[0], bad + long + bad + small[0], edge + bad + small[0] + long, bad * 3000, edge + bad * 2 + edge, value + small[0], small[0] + bad.replace(b"$$$$", b"") + small[1]):
-    compare(data, name, "around the buffer")
+number, line, column = check(1, bad)[1:]
+filler = b"A" * 200 + b"\n"
+long = small[spoilt[0] - 1 if spoilt[0] - 1 not in spoilt else 0].replace(b"\n\n$$$$", b"\n" + filler * 6000 + b"\n$$$$", 1)
+lines, more = bad.count(b"\n"), long.count(b"\n")
+theirs = told(bad + long + bad + small[spoilt[0] - 1], name)
+mine = [(1, number, line, column), (2, None, lines + 1, None), (3, number, lines + more + line, column)]
+if theirs[0] != mine or theirs[1:] != (1, 3):
+    print("a record longer than the buffer:", theirs, mine)
+    sys.exit(1)
+theirs = told(bad * 3000, name)
+if theirs[0] != [(k + 1, number, k * lines + line, column) for k in range(3000)]:
+    print("records that the buffer's end cuts:", theirs[0][:3])
+    sys.exit(1)
 END
 if python3 "$room/resume.py" "$room" >"$room/out" 2>&1; then ok; else bad "check --all" "$(head -c 600 "$room/out")"; fi
 got ./capellanote check --all "$room/many.sdf"

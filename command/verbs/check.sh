@@ -42,6 +42,7 @@ tell_files() { # FILES...
         set -- "$@" "$kind" "$file"
     done
     shift "$count"
+    : >"$room/beside"
     LC_ALL=C awk -v json="$option_json" -v all="$to_end" -v strict="$option_strict" -v names="${only_names:-}" -f "$here/command/tell.awk" "$room" "$@"
 }
 
@@ -50,5 +51,6 @@ verb() { # FILES...
     judge_kind sdfile "$@"
     judge_kind molfile "$@"
     sieve tell_files "$@"
+    cat "$room/beside" >&2
     status=$(cat "$room/status")
 }

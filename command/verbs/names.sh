@@ -18,6 +18,6 @@ verb() { # FILES...
     to_end=yes only_names=yes option_json= option_strict= option_sdfile=yes option_molfile=
     judge_kind sdfile "$@"
     sieve tell_files "$@"
-    [ ! -f "$room/beside" ] || cat "$room/beside" >&2
+    cat "$room/beside" >&2
     status=$(cat "$room/status")
 }
