@@ -1,6 +1,7 @@
 /* Capellanote for C: a proved reader and writer of CTfile V2000 molfiles and SDfiles.
 
-   Build: `rt staticlib capellanote` writes target/staticlib/libcapellanote.a for x86-64 Linux. It needs memset and memcpy and nothing else.
+   Build: `library/build` writes target/staticlib/libcapellanote.a and target/sharedlib/libcapellanote.so for x86-64 Linux
+   (`rt staticlib capellanote` the first alone). They need memset and memcpy and nothing else.
 
    Memory
      The library keeps nothing between calls and asks for no memory of its own but about 105 kB of stack.
@@ -46,6 +47,8 @@
      33  a formula names an element more than 9,999 times
      34  a symbol in the atom table is no element (119 to 122)
      35  the rows lent are fewer than CAPELLANOTE_ROWS words
+     38  the room lent is shorter than the mended text
+     39  the list lent is too short
 
    Tables
      An atom is 16 numbers: x, y, z in ten-thousandths, symbol (1 to 118 by atomic number, 119 A, 120 Q, 121 *, 122 LP),
@@ -82,6 +85,36 @@ enum { CAPELLANOTE_ATOM = 16, CAPELLANOTE_BOND = 6,
 /* Words in an atom's row of bits, and what as many rows take as a record may have atoms: bit b - 1 of the row of atom a, bit 0 the lowest of
    its first word, is 1 where a bond joins a and b. */
 enum { CAPELLANOTE_ROW = 16, CAPELLANOTE_ROWS = CAPELLANOTE_LIMIT * CAPELLANOTE_ROW };
+
+/* ---- Names for numbers: refusals, places of a row, places of an answer */
+
+enum { CAPELLANOTE_BAD_KIND = 1, CAPELLANOTE_SHORT_TABLE = 2, CAPELLANOTE_LONG_LINE = 3, CAPELLANOTE_BAD_BYTE = 4,
+       CAPELLANOTE_RESERVED_TAG = 5, CAPELLANOTE_NOT_V2000 = 6, CAPELLANOTE_MALFORMED = 7, CAPELLANOTE_OUT_OF_RANGE = 8,
+       CAPELLANOTE_UNKNOWN_SYMBOL = 9, CAPELLANOTE_EQUAL_ENDS = 10, CAPELLANOTE_BONDED_TWICE = 11, CAPELLANOTE_MORE_THAN_PAIRS = 12,
+       CAPELLANOTE_UNKNOWN_PROPERTY = 13, CAPELLANOTE_LISTED_TWICE = 14, CAPELLANOTE_NOT_A_SPACE = 15, CAPELLANOTE_NO_HEADER = 16,
+       CAPELLANOTE_NO_VALUE_OR_BLANK = 17, CAPELLANOTE_LINE_TOO_MANY = 18, CAPELLANOTE_CUT_SHORT = 19, CAPELLANOTE_SHORT_ROOM = 20,
+       CAPELLANOTE_UNWRITABLE = 21, CAPELLANOTE_NO_SUCH_ITEM = 22, CAPELLANOTE_UNKNOWN_EVENT = 26, CAPELLANOTE_CUT_EVENT = 27,
+       CAPELLANOTE_ABOVE_PAPER = 28, CAPELLANOTE_ABOVE_MILLION = 29, CAPELLANOTE_LOT_TOO_MANY = 30, CAPELLANOTE_NO_FORMULA = 31,
+       CAPELLANOTE_NESTED_TOO_DEEP = 32, CAPELLANOTE_TOO_MANY_ATOMS = 33, CAPELLANOTE_NO_ELEMENT = 34,
+       CAPELLANOTE_SHORT_ROWS = 35 };
+
+/* atoms[k * CAPELLANOTE_ATOM + CAPELLANOTE_CHARGE] is the charge of atom k + 1. */
+enum { CAPELLANOTE_X = 0, CAPELLANOTE_Y = 1, CAPELLANOTE_Z = 2, CAPELLANOTE_SYMBOL = 3, CAPELLANOTE_MASS_DIFFERENCE = 4,
+       CAPELLANOTE_CHARGE = 5, CAPELLANOTE_RADICAL = 6, CAPELLANOTE_ISOTOPE = 7, CAPELLANOTE_PARITY = 8, CAPELLANOTE_HYDROGENS = 9,
+       CAPELLANOTE_CARE = 10, CAPELLANOTE_VALENCE = 11, CAPELLANOTE_H0 = 12, CAPELLANOTE_MAP = 13, CAPELLANOTE_INVERSION = 14,
+       CAPELLANOTE_EXACT = 15 };
+enum { CAPELLANOTE_FIRST = 0, CAPELLANOTE_SECOND = 1, CAPELLANOTE_TYPE = 2, CAPELLANOTE_STEREO = 3, CAPELLANOTE_TOPOLOGY = 4,
+       CAPELLANOTE_CENTRE = 5 };
+
+/* Of every answer; where it is refused. */
+enum { CAPELLANOTE_REFUSED = 0, CAPELLANOTE_LINE = 1, CAPELLANOTE_COLUMN = 2 };
+/* Of a record read; the last is that of capellanote_read alone, and those of capellanote_next follow. */
+enum { CAPELLANOTE_READ_ATOMS = 1, CAPELLANOTE_READ_BONDS = 2, CAPELLANOTE_READ_CHIRAL = 3, CAPELLANOTE_READ_BYTES = 4,
+       CAPELLANOTE_READ_LINES = 5, CAPELLANOTE_READ_HEADER_END = 6, CAPELLANOTE_READ_ITEMS = 7, CAPELLANOTE_READ_ITEMS_END = 8,
+       CAPELLANOTE_READ_ROWS = 9 };
+enum { CAPELLANOTE_NEXT_AT = 9, CAPELLANOTE_NEXT_LINES = 10, CAPELLANOTE_NEXT_RECORDS = 11, CAPELLANOTE_NEXT_RECORD = 12 };
+/* Of an item found; of a text written. */
+enum { CAPELLANOTE_ITEM_FROM = 1, CAPELLANOTE_ITEM_TO = 2, CAPELLANOTE_WRITTEN_LENGTH = 1 };
 
 /* A whole file.
    Accepted: answer = { 0, number of records, 0 }. Nothing else is written. */
@@ -203,6 +236,24 @@ void capellanote_formula(const capellanote_byte *text, capellanote_size text_len
                          capellanote_int *bonds, capellanote_size bonds_length,
                          capellanote_count found[CAPELLANOTE_FOUND],
                          capellanote_size answer[3]);
+
+/* ---- A file mended */
+
+/* What was done at a line. */
+enum { CAPELLANOTE_BLANK_PUT = 1, CAPELLANOTE_BLANK_DROPPED = 2, CAPELLANOTE_LINE_ENDED = 3 };
+
+/* An SDfile with what can be mended mended, and no more: an empty line is put before a data header or a $$$$ line that stands where a value line or
+   the blank line after the values must stand; a blank line is dropped where a data header or $$$$ must stand; blank lines after the last record are
+   dropped; the line end that is missing at the very end is added. All other lines come out byte for byte.
+   Then the mended text is judged as an SDfile, and 38 and then 39 are given, both without a line.
+   Accepted: answer = { 0, length of the mended text, number of repairs }: the text stands at the front of the room; the list holds two numbers for
+   each repair, in line order, its line in the text as it came and what was done. The rest of room and list is as it was.
+   Refused: nothing is written but the answer; its line counts in the mended text.
+   The list has room for list_length / 2 repairs. A mended text has at most 2 * text_length + 1 bytes. */
+void capellanote_mend(const capellanote_byte *text, capellanote_size text_length,
+                      capellanote_byte *room, capellanote_size room_length,
+                      capellanote_size *list, capellanote_size list_length,
+                      capellanote_size answer[3]);
 
 /* ---- The replay of a scanner log */
 

@@ -5,6 +5,7 @@ from counter import feed
 from ctfile import check, fetch, next_record, pairs_compared, read_record
 from formula import FOUND, compare_formula
 from limit import LIMIT
+from mending import mend
 from pieces import split_record
 from scanner import replay
 from writer import copy_record, write_catalogue, write_record
@@ -79,6 +80,10 @@ def next_case(cursor, atom_room, bond_room, data):
 
 def formula_case(atom_room, bond_room, data):
     return head("formula", atom_room, bond_room, len(data)) + block(data)
+
+
+def mend_case(room, list_room, data):
+    return head("mend", room, list_room, len(data)) + block(data)
 
 
 def pieces_case(kind, atom_room, bond_room, data):
@@ -195,6 +200,14 @@ def answer_pieces(reader, kind, atom_room, bond_room, size):
     return verdict(answer) + " labels %d heads %d sizes %d" % tuple(map(digest, lists)) + tables_text(atoms, bonds)
 
 
+def answer_mend(reader, room, list_room, size):
+    answer, text, repairs = mend(reader.block(size), room, list_room)
+    lent, told = lent_room(room), table(list_room, 2)
+    lent[:len(text)] = text
+    told[:2 * len(repairs)] = [number for repair in repairs for number in repair]
+    return verdict(answer) + " list %d room %d" % (digest(told), digest(lent))
+
+
 def answer_replay(reader, size):
     store = replay(reader.block(size))
     told = []
@@ -214,7 +227,7 @@ OPERATIONS = {
     "read": answer_read_rows if BOND_ROWS else answer_read, "fetch": answer_fetch, "write": answer_write,
     "catalogue": answer_catalogue, "copy": answer_copy, "feed": answer_feed,
     "next": answer_next, "replay": answer_replay, "formula": answer_formula,
-    "pieces": answer_pieces}
+    "pieces": answer_pieces, "mend": answer_mend}
 
 
 def answers(data):

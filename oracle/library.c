@@ -281,6 +281,27 @@ static void catalogue_case(const size *n)
     print_tables(a, b);
 }
 
+/* ---- Mending */
+
+enum { LIST = 1 << 16 };
+static size list[LIST];
+
+/* ROOM LIST_ROOM SIZE */
+static void mend_case(const size *n)
+{
+    size answer[3], digest = 1;
+    for (size k = 0; k < 2 * n[1]; k++)
+        list[k] = 1000003 + k;
+    fresh_room(n[0]);
+    capellanote_mend(block(n[2]), n[2], room, n[0], list, 2 * n[1], answer);
+    if (!refused(answer))
+        printf("mended %lu %lu", answer[1], answer[2]);
+    for (size k = 0; k < 2 * n[1]; k++)
+        digest = step(digest, list[k]);
+    printf(" list %lu", digest);
+    print_room(n[0]);
+}
+
 /* ---- A formula against the structure */
 
 static unsigned int found[CAPELLANOTE_FOUND];
@@ -365,6 +386,7 @@ static const struct { const char *word; void (*answer)(const size *); size count
     { "catalogue ", catalogue_case, 4, { ROWS, ROWS, ROOM - 1, MOST } },
     { "formula ", formula_case, 3, { ROWS, ROWS, MOST } },
     { "replay ", replay_case, 1, { MOST } },
+    { "mend ", mend_case, 3, { ROOM - 1, LIST / 2, MOST } },
 };
 
 static void answer_case(void)

@@ -1,6 +1,6 @@
 """Mending an SDfile: the four repairs and no others, and then the file is judged.
 
-Nothing in the library has this yet. Its case would be the file, the room for the mended text and the room of the lent list:
+Its case is the file, the room for the mended text and the room of the lent list, which counts repairs:
 
     mend ROOM LIST_ROOM SIZE                    SIZE bytes: the SDfile
     mended LENGTH REPAIRS list D room D

@@ -8,6 +8,7 @@ from expect import expect
 from generate import file_rows, good_drafts, to_bytes
 from mending import DROPPED, ENDED, PUT, mend, mended
 from samples import LINES, MOLFILE, SAMPLE, edit
+from spoiled import spoiled
 
 MOST = 10 ** 6
 TAIL = b">  <A>\n1\n\n$$$$\n"         # a record's lines after `M  END`, from line 10
@@ -113,24 +114,6 @@ def by_refusals(data):
     if unfinished and (last, DROPPED) not in repairs:
         repairs.append((last, ENDED))
     return b"".join(lines), sorted(repairs, key=lambda repair: (repair[0], repair[1] == ENDED))
-
-
-def spoiled(rng, data):
-    """Blanks added, blanks lost, the end cut or lengthened."""
-    lines = data.split(b"\n")
-    for _ in range(rng.choice([1, 1, 2, 4])):
-        at = rng.randrange(len(lines))
-        blanks = [k for k, line in enumerate(lines) if line.strip(b" \r") == b""]
-        choice = rng.randrange(4)
-        if choice == 0:
-            lines.insert(at, rng.choice([b"", b" ", b"\r", b" " * 90, b" " * 250]))
-        elif choice == 1 and blanks:
-            del lines[rng.choice(blanks)]
-        elif choice == 2:
-            lines += rng.choice([[b""], [b" "], [b"", b""], [b"\r", b"  "]])
-        lines = lines or [b""]
-    data = b"\n".join(lines)
-    return data[:-1] if rng.random() < 0.3 else data
 
 
 def mended_by_refusals():

@@ -14,7 +14,7 @@ import sys
 from collections import Counter
 
 from cases import (BOND_ROWS, MOST_ROOM, OPERATIONS, Reader, answers, catalogue_case, check_case, copy_case, feed_case, fetch_case,
-                   formula_case, next_case, pieces_case, read_case, replay_case, write_case)
+                   formula_case, mend_case, next_case, pieces_case, read_case, replay_case, write_case)
 from counter import BUFFER, MOST
 from ctfile import SDFILE, one_record, record_at
 from damage import AIMED_NUMBERS, aimed, blind, damaged, spoiled_bond, surplus, truncated
@@ -25,13 +25,15 @@ from graphs import any_graph, fixed_graphs
 from limit import LIMIT
 from lines import Refusal, Sheet
 from logs import any_log, fixed_logs
+from mending import mended
 from samples import MOLFILE, SAMPLE, bare, coded, edit, ring
 from scanner import replay
 from small import small_refusals, small_surplus
 from spelled import spelled_lines
+from spoiled import any_spoiled, fixed_spoiled
 from writer import catalogue_text, text_of
 
-MOST_STORED = 3_000_000     # bytes of all stored files together
+MOST_STORED = 4_000_000     # bytes of all stored files together
 MOST_ROWS = LIMIT + 5       # that a table is lent room for
 SHORT_ROOMS = [(LIMIT - 1, LIMIT), (LIMIT, LIMIT - 1), (LIMIT, 0), (0, LIMIT), (0, 0)]      # 2
 LEAST_OF_EACH = 10          # stored cases for every refusal number that an operation can give
@@ -39,13 +41,14 @@ BASE = ("check", "read", "fetch", "write", "catalogue")
 STORED = {                  # seed, cases, operations
     "base": (1, 2700, BASE), "copy": (1, 500, ("copy",)), "feed": (1, 420, ("feed",)),
     "next": (1, 400, ("next",)), "replay": (11, 700, ("replay",)),
-    "formula": (1, 430, ("formula",)), "pieces": (1, 360, ("pieces",))}
+    "formula": (1, 430, ("formula",)), "pieces": (1, 360, ("pieces",)),
+    "mend": (1, 700, ("mend",))}
 LINES = {*range(3, 18), 19}  # refusals that a record of an SDfile can meet
 NUMBERS = {
     "check": {1, 18} | LINES, "read": {1, 2, 18, *[35] * BOND_ROWS} | LINES, "fetch": {22} | LINES,
     "write": {2, 3, 4, 5, 16, 17, 18, 19, 20, 21}, "catalogue": {2, 20} | LINES, "copy": {1, 2, 18, 20} | LINES,
     "feed": LINES, "next": {2} | LINES, "replay": set(range(26, 31)),
-    "formula": {2, 22, 31, 32, 33, 34} | LINES, "pieces": {1, 2, 18} | LINES}
+    "formula": {2, 22, 31, 32, 33, 34} | LINES, "pieces": {1, 2, 18} | LINES, "mend": {38, 39} | LINES}
 SWEEP_LINES = {
     b"counts": b"  2  1  0  0  0  0  0  0  0  0999 V2000",
     b"atom": b"    1.2500   -0.8250    0.0000 O   0  5  0  0  0  0  0  0  0  0  0  0",
@@ -352,6 +355,32 @@ def pieces_cases():
         yield pieces_case(kind, 0, 0, b"")
 
 
+def make_mend(rng, data=None):
+    """A file to be mended, at times with room or list just too short, or with more than enough."""
+    data = any_spoiled(rng) if data is None else data
+    text, repairs = mended(data)
+    room, list_room = len(text), len(repairs)
+    choice = rng.random()
+    if choice < 0.2:
+        room = max(0, room + rng.choice([-1, -1, -20, -room]))
+    elif choice < 0.4:
+        list_room = max(0, list_room + rng.choice([-1, -1, -list_room]))
+    return mend_case(room + rng.choice([0, 0, 7]) * (choice > 0.2), list_room + rng.choice([0, 0, 3]) * (choice > 0.4), data)
+
+
+def mend_cases(rng):
+    """Every repair by itself and with others, the short records of each refusal, and one repair more than the list holds."""
+    for data in fixed_spoiled():
+        text, repairs = mended(data)
+        yield mend_case(len(text) + 3, len(repairs) + 1, data)
+    for _, _, _, data in small_refusals():
+        yield make_mend(rng, data)
+    for data in (edit(drop=12)[:-1], SAMPLE + b"\n\n"):
+        for room in (0, 264, 265, 266):
+            for list_room in (0, 1, 2, 3):
+                yield mend_case(room, list_room, data)
+
+
 def small_cases():
     """Short files for each refusal, where no chance brings every number often enough."""
     for _, _, _, data in small_refusals():
@@ -467,13 +496,13 @@ def operation_of(case):
 
 MAKERS = [make_check] * 35 + [make_read] * 25 + [make_fetch] * 10 + [make_write] * 22 + [
     make_catalogue] * 8 + [make_copy] * 15 + [make_feed] * 15 + [make_next] * 12 + [make_replay] * 15 + [
-    make_formula] * 12 + [make_pieces] * 12
+    make_formula] * 12 + [make_pieces] * 12 + [make_mend] * 15
 
 
 def case_list(seed, count, operations):
     rng = random.Random(seed)
     cases = list(fixed_cases(rng)) + list(sweeps(rng, count // 6)) + list(spelled_cases(rng, count // 6))
-    cases += [*sample_cases(), *coded_cases(), *repeat_cases(), *formula_cases(), *pieces_cases(), *small_cases()]
+    cases += [*sample_cases(), *coded_cases(), *repeat_cases(), *formula_cases(), *pieces_cases(), *mend_cases(rng), *small_cases()]
     cases = [case for case in cases if operation_of(case) in operations]
     makers = [make for make in MAKERS if make.__name__[5:] in operations]
     rng = random.Random(seed)           # anew, so that what stands before does not change what is drawn

@@ -1,0 +1,4 @@
+pub mod Promise
+pub mod Walked
+pub mod Mending
+pub mod Promised

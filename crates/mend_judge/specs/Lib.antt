@@ -1,0 +1,4 @@
+pub mod Standing
+pub mod Follow
+pub mod Bonds
+pub mod Judging

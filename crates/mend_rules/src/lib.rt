@@ -1,0 +1,1 @@
+// A file mended: definitions and theorems, all in specs/. Nothing runs here.
