@@ -33,6 +33,7 @@ sentence() { # NUMBER COLUMN
     32) echo "groups of this formula are nested more than 8 deep" ;;
     33) echo "this formula has more than 9,999 atoms of an element" ;;
     34) echo "an atom is A, Q, * or LP, so the record cannot be compared with a formula" ;;
+    35) echo "the rows lent have room for fewer than a record may have" ;;
     38) echo "the room lent is shorter than the mended text" ;;
     39) echo "the list lent is too short" ;;
     *) echo "no sentence for this number" ;;

@@ -46,6 +46,7 @@
      32  a formula nests deeper than 8
      33  a formula names an element more than 9,999 times
      34  a symbol in the atom table is no element (119 to 122)
+     35  the rows lent are fewer than CAPELLANOTE_ROWS words
      38  the room lent is shorter than the mended text
      39  the list lent is too short
 
@@ -66,6 +67,7 @@ typedef unsigned char capellanote_byte;
 typedef int capellanote_int;            /* 32 bits, signed */
 typedef unsigned int capellanote_count; /* 32 bits */
 typedef unsigned long capellanote_size; /* 64 bits */
+typedef unsigned long capellanote_word; /* 64 bits */
 typedef char capellanote_widths[sizeof(capellanote_int) == 4 && sizeof(capellanote_size) == 8 ? 1 : -1];
 
 enum { CAPELLANOTE_MOLFILE = 0, CAPELLANOTE_SDFILE = 1 };
@@ -80,6 +82,10 @@ enum { CAPELLANOTE_MORE = 0, CAPELLANOTE_ACCEPTED = 1, CAPELLANOTE_TOO_LONG = 2 
 enum { CAPELLANOTE_ATOM = 16, CAPELLANOTE_BOND = 6,
        CAPELLANOTE_ATOMS = CAPELLANOTE_LIMIT * CAPELLANOTE_ATOM, CAPELLANOTE_BONDS = CAPELLANOTE_LIMIT * CAPELLANOTE_BOND };
 
+/* Words in an atom's row of bits, and what as many rows take as a record may have atoms: bit b - 1 of the row of atom a, bit 0 the lowest of
+   its first word, is 1 where a bond joins a and b. */
+enum { CAPELLANOTE_ROW = 16, CAPELLANOTE_ROWS = CAPELLANOTE_LIMIT * CAPELLANOTE_ROW };
+
 /* ---- Names for numbers: refusals, places of a row, places of an answer */
 
 enum { CAPELLANOTE_BAD_KIND = 1, CAPELLANOTE_SHORT_TABLE = 2, CAPELLANOTE_LONG_LINE = 3, CAPELLANOTE_BAD_BYTE = 4,
@@ -89,7 +95,8 @@ enum { CAPELLANOTE_BAD_KIND = 1, CAPELLANOTE_SHORT_TABLE = 2, CAPELLANOTE_LONG_L
        CAPELLANOTE_NO_VALUE_OR_BLANK = 17, CAPELLANOTE_LINE_TOO_MANY = 18, CAPELLANOTE_CUT_SHORT = 19, CAPELLANOTE_SHORT_ROOM = 20,
        CAPELLANOTE_UNWRITABLE = 21, CAPELLANOTE_NO_SUCH_ITEM = 22, CAPELLANOTE_UNKNOWN_EVENT = 26, CAPELLANOTE_CUT_EVENT = 27,
        CAPELLANOTE_ABOVE_PAPER = 28, CAPELLANOTE_ABOVE_MILLION = 29, CAPELLANOTE_LOT_TOO_MANY = 30, CAPELLANOTE_NO_FORMULA = 31,
-       CAPELLANOTE_NESTED_TOO_DEEP = 32, CAPELLANOTE_TOO_MANY_ATOMS = 33, CAPELLANOTE_NO_ELEMENT = 34 };
+       CAPELLANOTE_NESTED_TOO_DEEP = 32, CAPELLANOTE_TOO_MANY_ATOMS = 33, CAPELLANOTE_NO_ELEMENT = 34,
+       CAPELLANOTE_SHORT_ROWS = 35 };
 
 /* atoms[k * CAPELLANOTE_ATOM + CAPELLANOTE_CHARGE] is the charge of atom k + 1. */
 enum { CAPELLANOTE_X = 0, CAPELLANOTE_Y = 1, CAPELLANOTE_Z = 2, CAPELLANOTE_SYMBOL = 3, CAPELLANOTE_MASS_DIFFERENCE = 4,
@@ -104,7 +111,7 @@ enum { CAPELLANOTE_REFUSED = 0, CAPELLANOTE_LINE = 1, CAPELLANOTE_COLUMN = 2 };
 /* Of a record read; the last is that of capellanote_read alone, and those of capellanote_next follow. */
 enum { CAPELLANOTE_READ_ATOMS = 1, CAPELLANOTE_READ_BONDS = 2, CAPELLANOTE_READ_CHIRAL = 3, CAPELLANOTE_READ_BYTES = 4,
        CAPELLANOTE_READ_LINES = 5, CAPELLANOTE_READ_HEADER_END = 6, CAPELLANOTE_READ_ITEMS = 7, CAPELLANOTE_READ_ITEMS_END = 8,
-       CAPELLANOTE_READ_PAIRS = 9 };
+       CAPELLANOTE_READ_ROWS = 9 };
 enum { CAPELLANOTE_NEXT_AT = 9, CAPELLANOTE_NEXT_LINES = 10, CAPELLANOTE_NEXT_RECORDS = 11, CAPELLANOTE_NEXT_RECORD = 12 };
 /* Of an item found; of a text written. */
 enum { CAPELLANOTE_ITEM_FROM = 1, CAPELLANOTE_ITEM_TO = 2, CAPELLANOTE_WRITTEN_LENGTH = 1 };
@@ -118,23 +125,24 @@ void capellanote_check(capellanote_byte kind,
 /* One record. The text of an SDfile's record begins where the record begins, and what follows its $$$$ line is not looked at;
    a molfile's record is the whole text.
    Accepted: answer = { 0, atoms, bonds, chiral, bytes of the record, lines of the record,
-   end of the header lines, start of the items, end of the items, pairs compared }: header lines begin at 0, ends are just past the last byte.
-   The tables hold the rows, and zeros up to CAPELLANOTE_LIMIT rows. Refused: answer[3] to answer[8] are 0; after 1 and 2 the tables are
-   as they were, after any other number their first CAPELLANOTE_LIMIT rows are zeros. Table memory past those is never written.
-   Pairs compared, answer[9], accepted or refused: how many pairs of bonds the rule against repeated pairs calls for, each bond beside those
-   before it, in order from the first. For m bonds m(m-1)/2; where bond k repeats bond j, and that is the first of its pair, (k-1)(k-2)/2 + j;
-   after any other refusal k(k-1)/2 with k the bond lines accepted before it; 0 after 1 and 2. */
+   end of the header lines, start of the items, end of the items, rows asked }: header lines begin at 0, ends are just past the last byte.
+   The tables hold the rows, and zeros up to CAPELLANOTE_LIMIT rows; the rows of bits say the record's pairs, each bond in the rows of both
+   its atoms, and those of unused atoms are zero. Refused: answer[3] to answer[8] are 0; after 1, 2 and 35 tables and rows are as they were,
+   after any other number their first CAPELLANOTE_LIMIT rows are zeros. Memory past those is never written.
+   Rows asked, answer[9], accepted or refused: one for each bond line that came to the check for repeated pairs, the repeated one included;
+   0 after 1, 2 and 35. */
 void capellanote_read(capellanote_byte kind,
                       const capellanote_byte *text, capellanote_size text_length,
                       capellanote_int *atoms, capellanote_size atoms_length,
                       capellanote_int *bonds, capellanote_size bonds_length,
+                      capellanote_word *rows, capellanote_size rows_length,
                       capellanote_size answer[10]);
 
 /* One record, as capellanote_read takes it, and its pieces. Two atoms are in one piece if a chain of bonds of any types joins them.
    Accepted: answer = { 0, atoms, pieces }: labels[i] is the lowest atom of the piece of atom i + 1; heads[j] is the lowest atom of piece
    j + 1, in rising order, and sizes[j] the number of its atoms; zeros follow in each list up to CAPELLANOTE_LIMIT numbers.
-   The tables are as capellanote_read leaves them. Refused as capellanote_read refuses: after 1 and 2 nothing else is written, after any
-   other number the lists are zeros. */
+   The tables are as capellanote_read leaves them. No rows are lent, so 35 is never given; else refused as capellanote_read refuses: after 1
+   and 2 nothing else is written, after any other number the lists are zeros. */
 void capellanote_pieces(capellanote_byte kind,
                         const capellanote_byte *text, capellanote_size text_length,
                         capellanote_int *atoms, capellanote_size atoms_length,

@@ -39,6 +39,7 @@ static inline const char *capellanote_sentence(capellanote_size number)
     case CAPELLANOTE_NESTED_TOO_DEEP: return "groups of the formula are nested more than 8 deep";
     case CAPELLANOTE_TOO_MANY_ATOMS: return "the formula has more than 9,999 atoms of an element";
     case CAPELLANOTE_NO_ELEMENT: return "an atom is A, Q, * or LP, so the record cannot be compared with a formula";
+    case CAPELLANOTE_SHORT_ROWS: return "the rows lent have room for fewer than a record may have";
     }
     return "no sentence for this number";
 }

@@ -16,7 +16,7 @@ OFFSET = 2147483649         # makes every i32 positive, and never 0
 MOST_BYTES = 2_000_000      # of a block
 MOST_ROOM = 131071          # bytes of lent room
 SPLIT_ATOMS, SPLIT_BONDS = LIMIT * 16, LIMIT * 6
-BOND_ROWS = False           # is the record reader lent rows of bonds?
+BOND_ROWS = True            # is the record reader lent rows of bonds?
 
 
 def digest(numbers):

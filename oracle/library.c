@@ -15,6 +15,7 @@ enum { MOST = 4 << 20, ROWS = CAPELLANOTE_LIMIT + 5, ROOM = 131072 };
 static char file[MOST + 1];
 static char *at = file, *start = file, *end = file;
 static int atoms[ROWS * CAPELLANOTE_ATOM], bonds[ROWS * CAPELLANOTE_BOND];
+static size bond_rows[ROWS * CAPELLANOTE_ROW];
 static byte room[ROOM];
 
 static void bad(void)
@@ -137,16 +138,30 @@ static void check_case(const size *n)
         printf("accepted %lu", answer[1]);
 }
 
-/* KIND ATOM_ROOM BOND_ROOM SIZE */
+/* Each word as its low and then its high 32 bits. */
+static void print_rows(size length)
+{
+    size front = 1, beyond = 1;
+    for (size k = 0; k < length; k++) {
+        size *digest = k < CAPELLANOTE_ROWS ? &front : &beyond;
+        *digest = step(step(*digest, bond_rows[k] & 4294967295), bond_rows[k] >> 32);
+    }
+    printf(" rows %lu %lu", front, beyond);
+}
+
+/* KIND ATOM_ROOM BOND_ROOM ROW_ROOM SIZE */
 static void read_case(const size *n)
 {
-    size answer[10], a = 16 * n[1], b = 6 * n[2];
+    size answer[10], a = 16 * n[1], b = 6 * n[2], w = CAPELLANOTE_ROW * n[3];
     fresh_tables(a, b);
-    capellanote_read(n[0], block(n[3]), n[3], atoms, a, bonds, b, answer);
+    for (size k = 0; k < w; k++)
+        bond_rows[k] = 1000003 + k;
+    capellanote_read(n[0], block(n[4]), n[4], atoms, a, bonds, b, bond_rows, w, answer);
     if (!refused(answer))
         printf("accepted %lu %lu %lu %lu 0 %lu %lu %lu", answer[1], answer[2], answer[3], answer[4], answer[6], answer[7], answer[8]);
-    printf(" compared %lu", answer[9]);
+    printf(" asked %lu", answer[9]);
     print_tables(a, b);
+    print_rows(w);
 }
 
 static unsigned int labels[CAPELLANOTE_LIMIT], heads[CAPELLANOTE_LIMIT], sizes[CAPELLANOTE_LIMIT];
@@ -361,7 +376,7 @@ static void replay_case(const size *n)
 #define I32 2147483647
 static const struct { const char *word; void (*answer)(const size *); size count, most[10]; } operations[] = {
     { "check ", check_case, 2, { 255, MOST } },
-    { "read ", read_case, 4, { 255, ROWS, ROWS, MOST } },
+    { "read ", read_case, 5, { 255, ROWS, ROWS, ROWS, MOST } },
     { "pieces ", pieces_case, 4, { 255, ROWS, ROWS, MOST } },
     { "next ", next_case, 6, { ANY, ANY, ANY, ROWS, ROWS, MOST } },
     { "fetch ", fetch_case, 2, { MOST, MOST } },

@@ -1,5 +1,5 @@
 -- The answer of the reading of a record: what the array holds, and what it tells in the words of the rules.
-use Prim.Native.Nat.{ℕ, zero, suc, _≤_}
+use Prim.Native.Nat.{ℕ, zero, suc, _≤_, _<_}
 use native.Mathlib.Omega.{arith}
 use mathlib.Core.Path.{_≡_, refl, sym, ap, _∙_, subst}
 use mathlib.Core.Logic.{_↔_}
@@ -16,12 +16,14 @@ use Rattle.judge_refusals.specs.NoRecord.{NoRecord}
 use Rattle.reader_record.specs.declared.RecordRead.{RecordRead}
 use Rattle.reader_record.specs.Promise.{Begins, Roomy, Reads, Refusal, kindNumber, numbersOf, accepted, ReadPromise}
 use Rattle.reader_record.specs.Promise as R
-use Rattle.reader_record.specs.Comparing.{CountPromise}
+use Rattle.reader_rows.specs.Says.{rowPlaces}
+use Rattle.reader_record.specs.declared.Counted.{Counted}
+use Rattle.reader_record.specs.Rowed.{After, after, rowedOf, RowedPromise}
 use Rattle.reader_record.specs.Told.{replyOf, begins-told}
 use Rattle.capellanote.specs.Answer.{number, byFirst, first-refused, zero-exactly}
 use Rattle.capellanote.specs.Check.{at-numbered}
 
--- 0, n, m, chiral, length, lines, end of the header lines, start and end of the items; last, also after a refusal, the pairs compared
+-- 0, n, m, chiral, length, lines, end of the header lines, start and end of the items; last, also after a refusal, the rows asked
 unfoldable pub readNumbers : RecordRead → ℕ → List ℕ
 readNumbers (RecordRead.Read n m chiral length lines h a b) q = 0 ∷ (n ∷ (m ∷ (chiral ∷ (length ∷ (lines ∷ (h ∷ (a ∷ (b ∷ (q ∷ [])))))))))
 readNumbers (RecordRead.Refused e i column) q = e ∷ (i ∷ (column ∷ (0 ∷ (0 ∷ (0 ∷ (0 ∷ (0 ∷ (0 ∷ (q ∷ [])))))))))
@@ -33,9 +35,13 @@ recordTold a = RecordRead.Read (number a 1) (number a 2) (number a 3) (number a 
 unfoldable pub readTold : List ℕ → RecordRead
 readTold a = byFirst (number a 0) (recordTold a) (λ e. RecordRead.Refused e (number a 1) (number a 2))
 
--- by the rules a record begins the text, and the tables have room
-abbrev pub GoodRecord : ℕ → Bytes → List ℤ → List ℤ → Type 0
-GoodRecord kind s ta tb = (k : FileKind) × (kind ≡ kindNumber k) × Roomy ta tb × ((x : Raw) × Begins k s x)
+-- with the memory after it
+abbrev pub rowedTold : List ℕ → List ℤ → List ℤ → List ℕ → After
+rowedTold a ta tb ws = record { read = readTold a; asked = number a 9; atoms = ta; bonds = tb; rows = ws }
+
+-- by the rules a record begins the text, and tables and rows have room
+abbrev pub GoodRecord : ℕ → Bytes → List ℤ → List ℤ → List ℕ → Type 0
+GoodRecord kind s ta tb ws = (k : FileKind) × (kind ≡ kindNumber k) × Roomy ta tb × (rowPlaces ≤ length ws) × ((x : Raw) × Begins k s x)
 
 -- ---- The array, of the answer
 
@@ -61,6 +67,13 @@ by-room {X} ta tb y n = go (ltb (length ta) atomPlaces) refl (ltb (length tb) bo
     go false p true q = let h = ltb-true (length tb) bondPlaces q in n (λ r. omega (arith, h, r .bonds))
     go false p false q = y (record { atoms = ltb-false (length ta) atomPlaces p; bonds = ltb-false (length tb) bondPlaces q })
 
+by-rows : {X : Type 0} (ws : List ℕ) → (rowPlaces ≤ length ws → X) → (length ws < rowPlaces → X) → X
+by-rows {X} ws y n = go (ltb (length ws) rowPlaces) refl
+  where
+    go : (t : Bool) → ltb (length ws) rowPlaces ≡ t → X
+    go true p = n (ltb-true (length ws) rowPlaces p)
+    go false p = y (ltb-false (length ws) rowPlaces p)
+
 by-kind : {X : Type 0} (kind : ℕ) → ((k : FileKind) → kind ≡ kindNumber k → kind ≤ 1 → X) → (2 ≤ kind → X) → X
 by-kind zero y n = y molfile refl (omega arith)
 by-kind (suc zero) y n = y sdfile refl (omega arith)
@@ -85,54 +98,68 @@ module _ (kind : ℕ) (s : Bytes) (ta tb : List ℤ) where
       by-kind kind (λ k h few. by-room ta tb (λ y. refusal-numbered k s e i column (p .reads k h y .refuses e i column refl .0)) (λ n. let z = same-number (p .no-room few n .0) in omega (arith, z)))
       (λ h. let z = same-number (p .other-kind h .0) in omega (arith, z))
 
-  tells : (r : RecordRead) (q : ℕ) (ta′ tb′ : List ℤ) → ReadPromise kind s ta tb r ta′ tb′ → readTold (readNumbers r q) ≡ r
-  unfolding readNumbers readTold
-  tells (RecordRead.Read n m chiral len lines h a b) q ta′ tb′ p = refl
-  tells (RecordRead.Refused e i column) q ta′ tb′ p =
-      first-refused e (RecordRead.Read i column 0 0 0 0 0 0) (λ (n : ℕ). RecordRead.Refused n i column) (read-numbered e i column ta′ tb′ p)
+tells : (r : RecordRead) (q : ℕ) → ((e i column : ℕ) → r ≡ RecordRead.Refused e i column → 1 ≤ e) → readTold (readNumbers r q) ≡ r
+unfolding readNumbers readTold
+tells (RecordRead.Read n m chiral len lines h a b) q p = refl
+tells (RecordRead.Refused e i column) q p = first-refused e (RecordRead.Read i column 0 0 0 0 0 0) (λ (n : ℕ). RecordRead.Refused n i column) (p e i column refl)
 
-  last : (r : RecordRead) (q : ℕ) → number (readNumbers r q) 9 ≡ q
-  unfolding readNumbers
-  last (RecordRead.Read n m chiral len lines h a b) q = refl
-  last (RecordRead.Refused e i column) q = refl
+last : (r : RecordRead) (q : ℕ) → number (readNumbers r q) 9 ≡ q
+unfolding readNumbers
+last (RecordRead.Read n m chiral len lines h a b) q = refl
+last (RecordRead.Refused e i column) q = refl
 
-  module _ (r : RecordRead) (q : ℕ) (ta′ tb′ : List ℤ) (out : List ℕ) (e : out ≡ readNumbers r q) (p : ReadPromise kind s ta tb r ta′ tb′) where
-    is-told : r ≡ readTold out
-    is-told = sym (ap readTold e ∙ tells r q ta′ tb′ p)
+module _ (kind : ℕ) (s : Bytes) (ta tb : List ℤ) (ws : List ℕ) where
+  rowed-numbered : (y : After) → RowedPromise kind s ta tb ws y → (e i column : ℕ) → y .read ≡ RecordRead.Refused e i column → 1 ≤ e
+  rowed-numbered y p e i column h =
+      by-kind kind
+      (λ k q few. by-room ta tb
+      (λ room. by-rows ws (λ l. refusal-numbered k s e i column (p .reads k q room l .0 .refuses e i column (ap numbersOf h) .0)) (λ l. numbered 35 (omega arith) (p .no-rows few room l .0 .0)))
+      (λ n. numbered 2 (omega arith) (p .no-room few n .0 .0)))
+      (λ q. numbered 1 (omega arith) (p .other-kind q .0 .0))
+    where
+      numbered : (n : ℕ) → 1 ≤ n → numbersOf (y .read) ≡ R.refused n 0 0 → 1 ≤ e
+      numbered n few q = let z = same-number (sym (ap numbersOf h) ∙ q) in omega (arith, z)
 
-    pub read-told : ReadPromise kind s ta tb (readTold out) ta′ tb′
-    read-told = subst (λ (x : RecordRead). ReadPromise kind s ta tb x ta′ tb′) is-told p
+  module _ (r : Counted) (ta′ tb′ : List ℤ) (ws′ : List ℕ) (out : List ℕ) (e : out ≡ readNumbers (r .read) (r .asked)) where
+    -- the array, of the definition
+    pub rowed-held : after r ta′ tb′ ws′ ≡ rowedOf kind s ta tb ws → out ≡ readNumbers (rowedOf kind s ta tb ws .read) (rowedOf kind s ta tb ws .asked)
+    rowed-held h = e ∙ ap (λ (y : After). readNumbers (y .read) (y .asked)) h
 
-    pub count-told : CountPromise kind s ta tb r q → CountPromise kind s ta tb (readTold out) (number out 9)
-    count-told c =
-        subst (λ (x : RecordRead). CountPromise kind s ta tb x (number out 9)) is-told
-        (subst (CountPromise kind s ta tb r) (sym (ap (λ (a : List ℕ). number a 9) e ∙ last r q)) c)
+    told-after : RowedPromise kind s ta tb ws (after r ta′ tb′ ws′) → after r ta′ tb′ ws′ ≡ rowedTold out ta′ tb′ ws′
+    told-after p =
+        let f : r .read ≡ readTold out = sym (ap readTold e ∙ tells (r .read) (r .asked) (rowed-numbered (after r ta′ tb′ ws′) p)) in
+        let g : r .asked ≡ number out 9 = sym (ap (λ (a : List ℕ). number a 9) e ∙ last (r .read) (r .asked)) in
+        ap (λ (x : RecordRead). record { read = x; asked = r .asked; atoms = ta′; bonds = tb′; rows = ws′ }) f
+        ∙ ap (λ (q : ℕ). record { read = readTold out; asked = q; atoms = ta′; bonds = tb′; rows = ws′ }) g
 
-pub read-held : (x y : RecordRead) (q q′ : ℕ) (out : List ℕ) → out ≡ readNumbers x q → x ≡ y → q ≡ q′ → out ≡ readNumbers y q′
-read-held x y q q′ out e h k = e ∙ ap (λ (z : RecordRead). readNumbers z q) h ∙ ap (readNumbers y) k
+    pub rowed-told : after r ta′ tb′ ws′ ≡ rowedOf kind s ta tb ws → RowedPromise kind s ta tb ws (after r ta′ tb′ ws′) → rowedTold out ta′ tb′ ws′ ≡ rowedOf kind s ta tb ws
+    rowed-told h p = sym (told-after p) ∙ h
 
-pub ruleset read-laws = (read-held, read-told, count-told)
+    pub promise-told : RowedPromise kind s ta tb ws (after r ta′ tb′ ws′) → RowedPromise kind s ta tb ws (rowedTold out ta′ tb′ ws′)
+    promise-told p = subst (RowedPromise kind s ta tb ws) (told-after p) p
 
 -- ---- The first number is 0 exactly for a good record
 
 apart : {X : Type 0} {e i c : ℕ} {w : R.Reply} → R.refused e i c ≡ accepted w → X
 apart h = absurd (let z : _≡_ {A = ℕ} 0 1 = cc in omega arith)
 
-module _ (kind : ℕ) (s : Bytes) (ta tb : List ℤ) (a : List ℕ) (ta′ tb′ : List ℤ) (p : ReadPromise kind s ta tb (readTold a) ta′ tb′) where
-  told : readTold a ≡ recordTold a → GoodRecord kind s ta tb
+module _ (kind : ℕ) (s : Bytes) (ta tb : List ℤ) (ws : List ℕ) (a : List ℕ) (ta′ tb′ : List ℤ) (ws′ : List ℕ) (p : RowedPromise kind s ta tb ws (rowedTold a ta′ tb′ ws′)) where
+  told : readTold a ≡ recordTold a → GoodRecord kind s ta tb ws
   told h = by-kind kind
       (λ k e few. by-room ta tb
-      (λ y. let g = p .reads k e y .accepts _ .0 (ap numbersOf h) in (k, e, y, (g .0, g .1)))
-      (λ n. apart (sym (p .no-room few n .0) ∙ ap numbersOf h)))
-      (λ e. apart (sym (p .other-kind e .0) ∙ ap numbersOf h))
+      (λ y. by-rows ws
+      (λ l. let g = p .reads k e y l .0 .accepts _ .0 (ap numbersOf h) in (k, e, y, l, (g .0, g .1)))
+      (λ l. apart (sym (p .no-rows few y l .0 .0) ∙ ap numbersOf h)))
+      (λ n. apart (sym (p .no-room few n .0 .0) ∙ ap numbersOf h)))
+      (λ e. apart (sym (p .other-kind e .0 .0) ∙ ap numbersOf h))
 
-  kept : GoodRecord kind s ta tb → (n : ℕ) → readTold a ≡ RecordRead.Refused n (number a 1) (number a 2) → ⊥
+  kept : GoodRecord kind s ta tb ws → (n : ℕ) → readTold a ≡ RecordRead.Refused n (number a 1) (number a 2) → ⊥
   kept g n h =
       let k = g .0 in
-      let x = g .3 .0 in
+      let x = g .4 .0 in
       let w = replyOf k s x in
-      apart (sym (ap numbersOf h) ∙ p .reads k (g .1) (g .2) .accepts w .1 (x, g .3 .1, begins-told k s x (g .3 .1)))
+      apart (sym (ap numbersOf h) ∙ p .reads k (g .1) (g .2) (g .3) .0 .accepts w .1 (x, g .4 .1, begins-told k s x (g .4 .1)))
 
-  pub read-good : (number a 0 ≡ 0) ↔ GoodRecord kind s ta tb
+  pub read-good : (number a 0 ≡ 0) ↔ GoodRecord kind s ta tb ws
   unfolding readTold
   read-good = zero-exactly (number a 0) (recordTold a) (λ (e : ℕ). RecordRead.Refused e (number a 1) (number a 2)) told kept

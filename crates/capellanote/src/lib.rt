@@ -10,9 +10,7 @@ ghost use lib.ListN.{length};
 ghost use Rattle.reader_check.specs.Promised.{numbersOf};
 ghost use Rattle.reader_walk.specs.Checking.{checkOf};
 ghost use Rattle.reader_walk.specs.Promise.{CheckedAs};
-ghost use Rattle.reader_record.specs.Read.{readOf, atomsAfter, bondsAfter};
-ghost use Rattle.reader_record.specs.Promise.{ReadPromise};
-ghost use Rattle.reader_record.specs.Comparing.{comparedAfter, CountPromise};
+ghost use Rattle.reader_record.specs.Rowed.{rowedOf, RowedPromise};
 ghost use Rattle.reader_item.specs.Find.{foundOf};
 ghost use Rattle.reader_item.specs.Find.{numbersOf as itemOf};
 ghost use Rattle.reader_item.specs.Promise.{Fetched};
@@ -25,9 +23,8 @@ ghost use Rattle.writer_copy.specs.Copy.{copyOf};
 ghost use Rattle.writer_copy.specs.Promise.{Promise as CopyPromise};
 ghost use Rattle.writer_catalogue.specs.Catalogue.{catalogueOf};
 ghost use Rattle.writer_catalogue.specs.Promise.{Promise as CataloguePromise};
-ghost use Rattle.capellanote.specs.Answer.{number};
 ghost use Rattle.capellanote.specs.Check.{checkNumbers, checkTold};
-ghost use Rattle.capellanote.specs.Read.{readNumbers, readTold};
+ghost use Rattle.capellanote.specs.Read.{readNumbers, rowedTold};
 ghost use Rattle.capellanote.specs.Find.{foundNumbers, foundTold};
 ghost use Rattle.capellanote.specs.Next.{nextNumbers, nextTold};
 ghost use Rattle.capellanote.specs.Feed.{truth, fedNumbers, FeedPromise};
@@ -56,9 +53,9 @@ fn of_check(a: Answer) -> [u64; 3]
 }
 
 fn of_reading(r: Counted) -> [u64; 10]
-    ensures { λ a. ⌜ a ≡ readNumbers (r .read) (r .compared) ⌝ }
+    ensures { λ a. ⌜ a ≡ readNumbers (r .read) (r .asked) ⌝ }
 {
-    let compared = r.compared as u64;
+    let asked = r.asked as u64;
     let read = r.read;
     match read {
         RecordRead::Read {
@@ -80,7 +77,7 @@ fn of_reading(r: Counted) -> [u64; 10]
             header_end as u64,
             items_start as u64,
             items_end as u64,
-            compared,
+            asked,
         ],
         RecordRead::Refused { no, line, column } => [
             no as u64,
@@ -92,7 +89,7 @@ fn of_reading(r: Counted) -> [u64; 10]
             0,
             0,
             0,
-            compared,
+            asked,
         ],
     }
 }
@@ -237,22 +234,21 @@ pub extern "C" fn capellanote_check(kind: u8, s: &[u8], answer: &mut [u64; 3])
     *answer = of_check(reader_check::check(kind, s));
 }
 
-// One record from the front of a text, into the tables.
+// One record from the front of a text, into the tables, its pairs into the rows.
 #[no_mangle]
 pub extern "C" fn capellanote_read(
     kind: u8,
     s: &[u8],
     atoms: &mut [i32],
     bonds: &mut [i32],
+    rows: &mut [u64],
     answer: &mut [u64; 10],
 )
-    ensures { λ _. ⌜ now (answer .exit) ≡ readNumbers (readOf kind (length (now (atoms .entry))) (length (now (bonds .entry))) (now (s .entry))) (comparedAfter kind (length (now (atoms .entry))) (length (now (bonds .entry))) (now (s .entry))) ⌝ }
-    ensures { λ _. ⌜ now (atoms .exit) ≡ atomsAfter kind (length (now (bonds .entry))) (now (s .entry)) (now (atoms .entry)) ⌝ }
-    ensures { λ _. ⌜ now (bonds .exit) ≡ bondsAfter kind (length (now (atoms .entry))) (now (s .entry)) (now (bonds .entry)) ⌝ }
-    ensures { λ _. ⌜ ReadPromise kind (now (s .entry)) (now (atoms .entry)) (now (bonds .entry)) (readTold (now (answer .exit))) (now (atoms .exit)) (now (bonds .exit)) ⌝ }
-    ensures { λ _. ⌜ CountPromise kind (now (s .entry)) (now (atoms .entry)) (now (bonds .entry)) (readTold (now (answer .exit))) (number (now (answer .exit)) 9) ⌝ }
+    ensures { λ _. ⌜ now (answer .exit) ≡ readNumbers (rowedOf kind (now (s .entry)) (now (atoms .entry)) (now (bonds .entry)) (now (rows .entry)) .read) (rowedOf kind (now (s .entry)) (now (atoms .entry)) (now (bonds .entry)) (now (rows .entry)) .asked) ⌝ }
+    ensures { λ _. ⌜ rowedTold (now (answer .exit)) (now (atoms .exit)) (now (bonds .exit)) (now (rows .exit)) ≡ rowedOf kind (now (s .entry)) (now (atoms .entry)) (now (bonds .entry)) (now (rows .entry)) ⌝ }
+    ensures { λ _. ⌜ RowedPromise kind (now (s .entry)) (now (atoms .entry)) (now (bonds .entry)) (now (rows .entry)) (rowedTold (now (answer .exit)) (now (atoms .exit)) (now (bonds .exit)) (now (rows .exit))) ⌝ }
 {
-    *answer = of_reading(reader_record::read_record(kind, s, atoms, bonds));
+    *answer = of_reading(reader_record::read_record(kind, s, atoms, bonds, rows));
 }
 
 // The record of a file that a cursor stands before, into the tables.

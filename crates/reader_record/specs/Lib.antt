@@ -5,7 +5,7 @@ pub mod Promise
 pub mod Told
 pub mod Rows
 pub mod Promised
-pub mod Comparing
-pub mod Counting
+pub mod Rowed
+pub mod RowedHolds
 pub mod Follows
 pub mod Samples

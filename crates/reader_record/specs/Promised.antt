@@ -213,7 +213,7 @@ same-refused molfile s e i c e′ i′ c′ p q = let r = same-refusal molfile s
 same-refused sdfile s e i c e′ i′ c′ p q = same-none p q
 
 module _ (s : Bytes) (ta tb : List ℤ) where
-  reads-one : (k : FileKind) (r r′ : Said) (a b a′ b′ : List ℤ) → Reads k s ta tb r a b → Reads k s ta tb r′ a′ b′ → (r ≡ r′) × (a ≡ a′) × (b ≡ b′)
+  pub reads-one : (k : FileKind) (r r′ : Said) (a b a′ b′ : List ℤ) → Reads k s ta tb r a b → Reads k s ta tb r′ a′ b′ → (r ≡ r′) × (a ≡ a′) × (b ≡ b′)
   reads-one k (accepted w) r′ a b a′ b′ p q =
       let x = p .accepts w .0 refl in
       let y = p .rows (x .0) (x .1) in

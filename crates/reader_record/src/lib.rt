@@ -3,14 +3,17 @@ ghost use mathlib.Core.Path.{_≡_};
 ghost use Prim.Native.Nat.{_*_, _≤_};
 ghost use lib.ListN.{length};
 ghost use Rattle.rules.specs.Record.{limit, atomPlaces, bondPlaces};
-ghost use Rattle.reader_walk.specs.Asked.{comparedOf};
+ghost use Rattle.reader_rows.specs.Rowed.{Lent};
+ghost use Rattle.reader_rows.specs.Says.{rowPlaces};
+ghost use Rattle.reader_walk.specs.Asked.{rowsAsked};
 ghost use Rattle.reader_walk.specs.Stands.{kindOf};
-ghost use Rattle.reader_walk.specs.Walked.{walkOf};
+ghost use Rattle.reader_walk.specs.Walked.{walkOf, RowsMarked};
 ghost use Rattle.reader_walk.specs.Outcome.{outcomeOf};
 ghost use Rattle.reader_record.specs.Promise.{ReadPromise};
-ghost use Rattle.reader_record.specs.Comparing.{comparedAs, comparedAfter, CountPromise};
 ghost use Rattle.reader_record.specs.Read.{zeroed, answered, atomsBy, bondsBy, readAs, atomsAs, bondsAs, readOf, atomsAfter, bondsAfter, atomsRead, bondsRead, RowsLeft, Clearing};
 ghost use Rattle.reader_record.specs.Rows.{RowsPromise};
+ghost use Rattle.reader_record.specs.Rowed.{after, settled, rowedAs, rowedOf, RowedPromise};
+use reader_rows::ROWS;
 use reader_walk::Walked;
 use rules::ATOMS;
 use rules::BONDS;
@@ -35,16 +38,16 @@ pub enum RecordRead {
     },
 }
 
-// The same, and how many pairs of bonds the rule against repeated pairs calls for up to there.
+// The same, and how many rows were asked: one for each bond line that came to the check for repeated pairs.
 pub struct Counted {
     pub read: RecordRead,
-    pub compared: usize,
+    pub asked: usize,
 }
 
 // A refusal before any line is looked at.
 fn unread(no: u8) -> Counted
     ensures { λ r. ⌜ r .read ≡ RecordRead.Refused no 0 0 ⌝ }
-    ensures { λ r. ⌜ r .compared ≡ 0 ⌝ }
+    ensures { λ r. ⌜ r .asked ≡ 0 ⌝ }
 {
     Counted {
         read: RecordRead::Refused {
@@ -52,7 +55,7 @@ fn unread(no: u8) -> Counted
             line: 0,
             column: 0,
         },
-        compared: 0,
+        asked: 0,
     }
 }
 
@@ -101,16 +104,41 @@ fn clear_after(got: RecordRead, atoms: &mut [i32], bonds: &mut [i32])
     }
 }
 
+// Rows that say nothing after a refusal.
+fn clear_refused(got: RecordRead, rows: &mut [u64])
+    requires { ⌜ rowPlaces ≤ length (now rows) ⌝ }
+    ensures { λ r. ⌜ now (rows .exit) ≡ settled got (now (rows .entry)) ⌝ }
+{
+    match got {
+        RecordRead::Read {
+            n: _,
+            m: _,
+            chiral: _,
+            length: _,
+            lines: _,
+            header_end: _,
+            items_start: _,
+            items_end: _,
+        } => {}
+        RecordRead::Refused {
+            no: _,
+            line: _,
+            column: _,
+        } => reader_rows::clear(rows),
+    }
+}
+
 // The plain reading: one record from the front of a text, its rows at the front of tables that have room. What stands behind the rows is not cleared.
-fn read_front(sd: bool, s: &[u8], atoms: &mut [i32], bonds: &mut [i32]) -> Counted
-    requires { ⌜ (atomPlaces ≤ length (now atoms)) × (bondPlaces ≤ length (now bonds)) ⌝ }
+fn read_front(sd: bool, s: &[u8], atoms: &mut [i32], bonds: &mut [i32], rows: &mut [u64]) -> Counted
+    requires { ⌜ (atomPlaces ≤ length (now atoms)) × (bondPlaces ≤ length (now bonds)) × Lent (now rows) ⌝ }
     ensures { λ r. ⌜ r .read ≡ answered (walkOf (kindOf sd) (now (s .entry))) ⌝ }
-    ensures { λ r. ⌜ r .compared ≡ comparedOf (kindOf sd) (now (s .entry)) ⌝ }
+    ensures { λ r. ⌜ r .asked ≡ rowsAsked (kindOf sd) (now (s .entry)) ⌝ }
     ensures { λ r. ⌜ RowsLeft (now (atoms .entry)) (now (atoms .exit)) (now (bonds .entry)) (now (bonds .exit)) (outcomeOf (kindOf sd) (now (s .entry))) ⌝ }
+    ensures { λ r. ⌜ RowsMarked (now (rows .entry)) (now (rows .exit)) (outcomeOf (kindOf sd) (now (s .entry))) ⌝ }
 {
     let mut listed = [0u32; LISTED];
-    let counted = reader_walk::walk_counted(sd, s, atoms, bonds, &mut listed);
-    let compared = counted.compared;
+    let counted = reader_walk::walk_rows(sd, s, atoms, bonds, &mut listed, rows);
+    let asked = counted.asked;
     let walked = counted.walked;
     match walked {
         Walked::Whole {
@@ -133,12 +161,12 @@ fn read_front(sd: bool, s: &[u8], atoms: &mut [i32], bonds: &mut [i32]) -> Count
                     items_start,
                     items_end,
                 },
-                compared,
+                asked,
             }
         }
         Walked::Refused { no, line, column } => Counted {
             read: RecordRead::Refused { no, line, column },
-            compared,
+            asked,
         },
     }
 }
@@ -162,48 +190,63 @@ pub fn read_rows(sd: bool, s: &[u8], atoms: &mut [i32], bonds: &mut [i32]) -> Re
             column: 0,
         };
     }
-    let got = read_front(sd, s, atoms, bonds);
+    let mut none = [0u64; 0];
+    let got = read_front(sd, s, atoms, bonds, &mut none);
     got.read
 }
 
 // The plain reading, and then zeros behind the rows.
-fn read_cleared(sd: bool, s: &[u8], atoms: &mut [i32], bonds: &mut [i32]) -> Counted
-    requires { ⌜ (atomPlaces ≤ length (now atoms)) × (bondPlaces ≤ length (now bonds)) ⌝ }
+fn read_cleared(
+    sd: bool,
+    s: &[u8],
+    atoms: &mut [i32],
+    bonds: &mut [i32],
+    rows: &mut [u64],
+) -> Counted
+    requires { ⌜ (atomPlaces ≤ length (now atoms)) × (bondPlaces ≤ length (now bonds)) × Lent (now rows) ⌝ }
     ensures { λ r. ⌜ r .read ≡ answered (walkOf (kindOf sd) (now (s .entry))) ⌝ }
-    ensures { λ r. ⌜ r .compared ≡ comparedOf (kindOf sd) (now (s .entry)) ⌝ }
+    ensures { λ r. ⌜ r .asked ≡ rowsAsked (kindOf sd) (now (s .entry)) ⌝ }
     ensures { λ r. ⌜ now (atoms .exit) ≡ atomsBy (now (atoms .entry)) (outcomeOf (kindOf sd) (now (s .entry))) ⌝ }
     ensures { λ r. ⌜ now (bonds .exit) ≡ bondsBy (now (bonds .entry)) (outcomeOf (kindOf sd) (now (s .entry))) ⌝ }
+    ensures { λ r. ⌜ RowsMarked (now (rows .entry)) (now (rows .exit)) (outcomeOf (kindOf sd) (now (s .entry))) ⌝ }
 {
-    let got = read_front(sd, s, atoms, bonds);
+    let got = read_front(sd, s, atoms, bonds, rows);
     let read = got.read;
     clear_after(read, atoms, bonds);
     got
 }
 
 // Tables without room are left as they are.
-fn read_as(sd: bool, s: &[u8], atoms: &mut [i32], bonds: &mut [i32]) -> Counted
-    ensures { λ r. ⌜ r .read ≡ readAs (kindOf sd) (length (now (atoms .entry))) (length (now (bonds .entry))) (now (s .entry)) ⌝ }
-    ensures { λ r. ⌜ r .compared ≡ comparedAs (kindOf sd) (length (now (atoms .entry))) (length (now (bonds .entry))) (now (s .entry)) ⌝ }
+fn read_as(sd: bool, s: &[u8], atoms: &mut [i32], bonds: &mut [i32]) -> RecordRead
+    ensures { λ r. ⌜ r ≡ readAs (kindOf sd) (length (now (atoms .entry))) (length (now (bonds .entry))) (now (s .entry)) ⌝ }
     ensures { λ r. ⌜ now (atoms .exit) ≡ atomsAs (kindOf sd) (length (now (bonds .entry))) (now (s .entry)) (now (atoms .entry)) ⌝ }
     ensures { λ r. ⌜ now (bonds .exit) ≡ bondsAs (kindOf sd) (length (now (atoms .entry))) (now (s .entry)) (now (bonds .entry)) ⌝ }
 {
     if atoms.len() < ATOMS {
-        return unread(2);
+        return RecordRead::Refused {
+            no: 2,
+            line: 0,
+            column: 0,
+        };
     }
     if bonds.len() < BONDS {
-        return unread(2);
+        return RecordRead::Refused {
+            no: 2,
+            line: 0,
+            column: 0,
+        };
     }
-    read_cleared(sd, s, atoms, bonds)
+    let mut none = [0u64; 0];
+    let got = read_cleared(sd, s, atoms, bonds, &mut none);
+    got.read
 }
 
-// One record from the front of a text: kind 0 is a molfile, kind 1 an SDfile.
-pub fn read_record(kind: u8, s: &[u8], atoms: &mut [i32], bonds: &mut [i32]) -> Counted
-    ensures { λ r. ⌜ r .read ≡ readOf kind (length (now (atoms .entry))) (length (now (bonds .entry))) (now (s .entry)) ⌝ }
-    ensures { λ r. ⌜ r .compared ≡ comparedAfter kind (length (now (atoms .entry))) (length (now (bonds .entry))) (now (s .entry)) ⌝ }
+// One record from the front of a text, searched in the list for repeated pairs: kind 0 is a molfile, kind 1 an SDfile.
+pub fn read_plain(kind: u8, s: &[u8], atoms: &mut [i32], bonds: &mut [i32]) -> RecordRead
+    ensures { λ r. ⌜ r ≡ readOf kind (length (now (atoms .entry))) (length (now (bonds .entry))) (now (s .entry)) ⌝ }
     ensures { λ r. ⌜ now (atoms .exit) ≡ atomsAfter kind (length (now (bonds .entry))) (now (s .entry)) (now (atoms .entry)) ⌝ }
     ensures { λ r. ⌜ now (bonds .exit) ≡ bondsAfter kind (length (now (atoms .entry))) (now (s .entry)) (now (bonds .entry)) ⌝ }
-    ensures { λ r. ⌜ ReadPromise kind (now (s .entry)) (now (atoms .entry)) (now (bonds .entry)) (r .read) (now (atoms .exit)) (now (bonds .exit)) ⌝ }
-    ensures { λ r. ⌜ CountPromise kind (now (s .entry)) (now (atoms .entry)) (now (bonds .entry)) (r .read) (r .compared) ⌝ }
+    ensures { λ r. ⌜ ReadPromise kind (now (s .entry)) (now (atoms .entry)) (now (bonds .entry)) r (now (atoms .exit)) (now (bonds .exit)) ⌝ }
 {
     if kind == 0 {
         return read_as(false, s, atoms, bonds);
@@ -211,16 +254,49 @@ pub fn read_record(kind: u8, s: &[u8], atoms: &mut [i32], bonds: &mut [i32]) -> 
     if kind == 1 {
         return read_as(true, s, atoms, bonds);
     }
-    unread(1)
+    RecordRead::Refused {
+        no: 1,
+        line: 0,
+        column: 0,
+    }
 }
 
-// The same without the number of pairs.
-pub fn read_plain(kind: u8, s: &[u8], atoms: &mut [i32], bonds: &mut [i32]) -> RecordRead
-    ensures { λ r. ⌜ r ≡ readOf kind (length (now (atoms .entry))) (length (now (bonds .entry))) (now (s .entry)) ⌝ }
-    ensures { λ r. ⌜ now (atoms .exit) ≡ atomsAfter kind (length (now (bonds .entry))) (now (s .entry)) (now (atoms .entry)) ⌝ }
-    ensures { λ r. ⌜ now (bonds .exit) ≡ bondsAfter kind (length (now (atoms .entry))) (now (s .entry)) (now (bonds .entry)) ⌝ }
-    ensures { λ r. ⌜ ReadPromise kind (now (s .entry)) (now (atoms .entry)) (now (bonds .entry)) r (now (atoms .exit)) (now (bonds .exit)) ⌝ }
+// The same with rows. Tables and rows without room are left as they are.
+fn read_rowed(sd: bool, s: &[u8], atoms: &mut [i32], bonds: &mut [i32], rows: &mut [u64]) -> Counted
+    ensures { λ r. ⌜ after r (now (atoms .exit)) (now (bonds .exit)) (now (rows .exit)) ≡ rowedAs (kindOf sd) (now (s .entry)) (now (atoms .entry)) (now (bonds .entry)) (now (rows .entry)) ⌝ }
 {
-    let counted = read_record(kind, s, atoms, bonds);
-    counted.read
+    if atoms.len() < ATOMS {
+        return unread(2);
+    }
+    if bonds.len() < BONDS {
+        return unread(2);
+    }
+    if rows.len() < ROWS {
+        return unread(35);
+    }
+    reader_rows::clear(rows);
+    let got = read_cleared(sd, s, atoms, bonds, rows);
+    let read = got.read;
+    clear_refused(read, rows);
+    got
+}
+
+// One record from the front of a text, its pairs asked of the rows: kind 0 is a molfile, kind 1 an SDfile.
+pub fn read_record(
+    kind: u8,
+    s: &[u8],
+    atoms: &mut [i32],
+    bonds: &mut [i32],
+    rows: &mut [u64],
+) -> Counted
+    ensures { λ r. ⌜ after r (now (atoms .exit)) (now (bonds .exit)) (now (rows .exit)) ≡ rowedOf kind (now (s .entry)) (now (atoms .entry)) (now (bonds .entry)) (now (rows .entry)) ⌝ }
+    ensures { λ r. ⌜ RowedPromise kind (now (s .entry)) (now (atoms .entry)) (now (bonds .entry)) (now (rows .entry)) (after r (now (atoms .exit)) (now (bonds .exit)) (now (rows .exit))) ⌝ }
+{
+    if kind == 0 {
+        return read_rowed(false, s, atoms, bonds, rows);
+    }
+    if kind == 1 {
+        return read_rowed(true, s, atoms, bonds, rows);
+    }
+    unread(1)
 }

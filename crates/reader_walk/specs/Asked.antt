@@ -1,28 +1,27 @@
--- The bonds of a record that have come to the comparison of pairs, by the judge's turns, and how many comparisons they call for.
+-- The bonds of a record that have come to the check for repeated pairs, by the judge's turns: a row is asked for each.
 use Prim.Native.Nat.{ℕ, zero, suc, _+_, _-_, _*_}
 use native.Mathlib.Omega.{arith}
 use mathlib.Core.Path.{_≡_, refl, sym, ap, _∙_, subst}
 use mathlib.Core.List.{List, [], _∷_, _++_}
 use mathlib.Core.Bool.{Bool, true, false, not}
 use lib.Dec.{leb}
-use lib.ListN.{length, take, drop}
+use lib.ListN.{length, take, drop, length-append}
 use lib.Seq.{take-append-seam, drop-at}
 use Rattle.text.specs.Text.{Bytes, Line}
 use Rattle.text.specs.Find.{badColumn}
 use Rattle.text.specs.declared.Found.{Found}
 use Rattle.text.specs.Cut.{cut}
-use Rattle.rules.specs.Forms.{Counts, Atom, Bond, BondLine}
-use Rattle.rules.specs.Record.{Headers, Molecule, Raw, NoPairTwice, limit}
+use Rattle.rules.specs.Forms.{Bond, BondLine}
+use Rattle.rules.specs.Record.{Molecule, Raw, limit}
 use Rattle.judge_line.specs.Got.{Got, got, bad, then, need}
 use Rattle.judge_line.specs.GotLaws.{bad-got}
 use Rattle.judge_line.specs.Field.{within, noneFound}
 use Rattle.judge_line.specs.Judge.{bondOf}
 use Rattle.judge_line.specs.Agree.{within-got, within-is, bond-agrees}
-use Rattle.judge_pairs.specs.Append.{pair-once}
-use Rattle.judge_pairs.specs.Compared.{Asked, its-own, not-its-own, FirstSame, comparedIn, compared-apart, compared-repeat}
-use Rattle.judge_file.specs.Place.{FileKind, molfile, sdfile, toAtoms, toBonds, afterEnd, turnOf}
+use Rattle.judge_pairs.specs.Compared.{Asked, its-own, not-its-own}
+use Rattle.judge_file.specs.Place.{FileKind, molfile, sdfile, turnOf}
 use Rattle.judge_file.specs.Place.{Place, first, second, third, counts, atoms, bonds, properties, over, items, values, Turn, next, done}
-use Rattle.judge_file.specs.Takes.{Takes, turn-takes}
+use Rattle.judge_file.specs.Takes.{turn-takes}
 use Rattle.judge_file.specs.Verdict.{at, run}
 use Rattle.judge_file.specs.Runs.{at-place}
 use Rattle.judge_refusals.specs.Because.{Leads, leads-run}
@@ -59,9 +58,9 @@ askedFrom kind p (l ∷ ls) = elim (turnOf kind limit p l) [
 unfoldable pub askedOf : FileKind → Bytes → List Bond
 askedOf kind s = askedFrom kind first (cut s .lines)
 
--- the record at the front of the text
-unfoldable pub comparedOf : FileKind → Bytes → ℕ
-comparedOf kind s = comparedIn [] (askedOf kind s)
+-- the record at the front of the text: as many rows as bonds that came to the check
+unfoldable pub rowsAsked : FileKind → Bytes → ℕ
+rowsAsked kind s = length (askedOf kind s)
 
 -- ---- Line by line
 
@@ -82,9 +81,9 @@ pub asked-start : (kind : FileKind) (s : Bytes) → askedOf kind s ≡ askedFrom
 unfolding askedOf
 asked-start kind s = refl
 
-pub compared-is : (kind : FileKind) (s : Bytes) (bs : List Bond) → askedOf kind s ≡ bs → comparedOf kind s ≡ comparedIn [] bs
-unfolding comparedOf
-compared-is kind s bs e = ap (comparedIn []) e
+pub asked-is : (kind : FileKind) (s : Bytes) (bs : List Bond) → askedOf kind s ≡ bs → rowsAsked kind s ≡ length bs
+unfolding rowsAsked
+asked-is kind s bs e = ap length e
 
 -- a line refused by its form brings no bond: both go by the judge of the bond line
 pub none-own : {A : Type 0} (longest : ℕ) (l : Line) (bs : List Bond) (g : Got Bond) (f : Bond → A) (e column : ℕ) →
@@ -115,47 +114,6 @@ its-own-bond {A} longest l bs g f b a one h = go (leb (length l) longest) (badCo
     go true Found.Nothing (bad x y) h = bad-got h
     go false n g h = bad-got h
 
--- ---- No pair twice among the bonds read
-
-to-bonds : (hs : Headers) (c : Counts) (xs : List Atom) (k : ℕ) (bs : List Bond) → bondsIn (toBonds hs c xs k bs) ≡ bs
-unfolding toBonds
-to-bonds hs c xs zero bs = refl
-to-bonds hs c xs (suc k) bs = refl
-
-to-atoms : (hs : Headers) (c : Counts) (k : ℕ) (xs : List Atom) → bondsIn (toAtoms hs c k xs) ≡ []
-unfolding toAtoms
-to-atoms hs c zero xs = to-bonds hs c xs (c .bonds) []
-to-atoms hs c (suc k) xs = refl
-
-abbrev OnceTurn : Turn → Type 0
-OnceTurn (next q) = NoPairTwice (bondsIn q)
-OnceTurn (done x) = Unit {0}
-
-pub once-takes : (kind : FileKind) {p : Place} {l : Line} {t : Turn} → Takes kind limit p l t → NoPairTwice (bondsIn p) → OnceTurn t
-once-takes kind (Takes.first-header h) o = o
-once-takes kind (Takes.second-header h) o = o
-once-takes kind (Takes.third-header h) o = o
-once-takes kind (Takes.counts-line {hs = hs} {c = c} h) o = subst NoPairTwice (sym (to-atoms hs c (c .atoms) [])) o
-once-takes kind (Takes.atom-line {hs = hs} {c = c} {k = k} {xs = xs} {a = a} h) o = subst NoPairTwice (sym (to-atoms hs c k (xs ++ (a ∷ [])))) o
-once-takes kind (Takes.bond-line {hs = hs} {c = c} {xs = xs} {k = k} {bs = bs} {b = b} h new) o =
-    subst NoPairTwice (sym (to-bonds hs c xs k (bs ++ (b ∷ [])))) (pair-once bs b .1 (o, new))
-once-takes kind (Takes.property-line h new) o = o
-once-takes kind (Takes.end-line {hs = hs} {c = c} {xs = xs} {bs = bs} {ps = ps} h) o = go kind
-  where
-    go : (k : FileKind) → NoPairTwice (bondsIn (afterEnd k (record { headers = hs; counts = c; atoms = xs; bonds = bs; properties = ps })))
-    go molfile = o
-    go sdfile = o
-once-takes kind (Takes.data-header h) o = o
-once-takes kind (Takes.record-end h) o = tt
-once-takes kind (Takes.value-line h) o = o
-once-takes kind (Takes.blank-line h) o = o
-
-pub leads-once : (kind : FileKind) {p q : Place} {xs ys : List Raw} {ls : List Line} → Leads kind limit p xs ls q ys → NoPairTwice (bondsIn p) → NoPairTwice (bondsIn q)
-unfolding NoPairTwice
-leads-once kind Leads.none o = o
-leads-once kind (Leads.on t h) o = leads-once kind h (once-takes kind t o)
-leads-once kind (Leads.over t h) o = leads-once kind h tt
-
 -- ---- The same in the words of the rules
 
 -- where a bond line must stand, its form decides; at every other place the bonds read are all
@@ -176,7 +134,7 @@ abbrev pub AskedOn : Place → List Line → List Bond → Type 0
 AskedOn p [] cs = cs ≡ bondsIn p
 AskedOn p (l ∷ ls) cs = AskedAt p l cs
 
--- line i of these is refused, or is the line after the last; no record is finished before it; these bonds have come to the comparison
+-- line i of these is refused, or is the line after the last; no record is finished before it; these bonds have come to the check
 pub record Came (kind : FileKind) (ls : List Line) (i : ℕ) (cs : List Bond) : Type 0 where
   pub before : List Line
   pub after : List Line
@@ -245,7 +203,7 @@ came-one kind ls i cs ds g h =
     same : (p q : Place) (t u : List Line) → p ≡ q → t ≡ u → AskedOn p t cs → AskedOn q u ds → cs ≡ ds
     same p q t u ep eu a b = on q u (subst (λ (x : Place). AskedOn x u cs) ep (subst (λ (y : List Line). AskedOn p y cs) eu a)) b
 
--- ---- The closed forms where a record is refused
+-- ---- How many where a record is refused
 
 -- the next line is a bond line that is good but for its pair, and b is its bond
 abbrev pub Own : Place → List Line → Bond → Type 0
@@ -293,19 +251,14 @@ on-own (items m is) (l ∷ t) cs b h o = absurd o
 on-own (values m is name vs) (l ∷ t) cs b h o = absurd o
 
 module _ (kind : FileKind) (ls : List Line) (i : ℕ) (cs : List Bond) (g : Came kind ls i cs) where
-  once : NoPairTwice (bondsIn (g .place))
-  unfolding NoPairTwice
-  once = leads-once kind (g .stands) tt
+  -- refused for another reason than its pair, or cut short: the bonds read
+  pub came-other : ((b : Bond) → ¬ Own (g .place) (g .after) b) → length cs ≡ length (bondsIn (g .place))
+  came-other n = ap length (on-other (g .place) (g .after) cs (g .asked) n)
 
-  -- refused for another reason than its pair, or cut short, after k bonds: k(k-1)/2
-  pub came-other : ((b : Bond) → ¬ Own (g .place) (g .after) b) → (k : ℕ) → k ≡ length (bondsIn (g .place)) → 2 * comparedIn [] cs ≡ k * (k - 1)
-  came-other n k e = rw e (ap (λ (xs : List Bond). 2 * comparedIn [] xs) (on-other (g .place) (g .after) cs (g .asked) n) ∙ compared-apart (bondsIn (g .place)) once)
-
-  -- bond k repeats the pair of bond j first: (k-1)(k-2)/2 + j
-  pub came-repeat : (b : Bond) → Own (g .place) (g .after) b → (k j : ℕ) → k ≡ suc (length (bondsIn (g .place))) → FirstSame b (bondsIn (g .place)) j →
-      2 * comparedIn [] cs ≡ (k - 1) * (k - 2) + 2 * j
-  came-repeat b o k j e f =
-      ap (λ (xs : List Bond). 2 * comparedIn [] xs) (on-own (g .place) (g .after) cs b (g .asked) o) ∙ compared-repeat (bondsIn (g .place)) once b [] k j e f
+  -- a bond line that is good but for its pair: one more
+  pub came-own : (b : Bond) → Own (g .place) (g .after) b → length cs ≡ suc (length (bondsIn (g .place)))
+  came-own b o =
+      ap length (on-own (g .place) (g .after) cs b (g .asked) o) ∙ length-append (bondsIn (g .place)) (b ∷ []) ∙ omega arith
 
 -- ---- The judge's outcome and its bonds
 
@@ -315,7 +268,7 @@ apart h = absurd (let z : _≡_ {A = ℕ} 0 1 = cc in omega arith)
 refused-line : {e i c e′ i′ c′ : ℕ} → refused e i c ≡ refused e′ i′ c′ → i ≡ i′
 refused-line h = cc
 
-whole-record : {x y : Raw} {j k : ℕ} → whole x j ≡ whole y k → x ≡ y
+pub whole-record : {x y : Raw} {j k : ℕ} → whole x j ≡ whole y k → x ≡ y
 whole-record h = cc
 
 end-line : (kind : FileKind) (p : Place) (rest : Bytes) (i e j c : ℕ) → endAt kind p rest i ≡ refused e j c → j ≡ i
@@ -332,7 +285,7 @@ end-line molfile (over m) [] i e j c h = apart h
 end-line molfile (items m is) [] i e j c h = sym (refused-line h)
 end-line molfile (values m is name vs) [] i e j c h = sym (refused-line h)
 
-end-bonds : (kind : FileKind) (p : Place) (rest : Bytes) (i : ℕ) (x : Raw) (k : ℕ) → endAt kind p rest i ≡ whole x k → bondsIn p ≡ x .molecule .bonds
+pub end-bonds : (kind : FileKind) (p : Place) (rest : Bytes) (i : ℕ) (x : Raw) (k : ℕ) → endAt kind p rest i ≡ whole x k → bondsIn p ≡ x .molecule .bonds
 end-bonds sdfile p rest i x k h = apart (sym h)
 end-bonds molfile p (b ∷ rest) i x k h = apart (sym h)
 end-bonds molfile first [] i x k h = apart (sym h)
@@ -400,7 +353,7 @@ came-from kind p j (l ∷ ls) rest e i c h = go (λ q g. came-from kind q (suc j
           asked = subst (AskedAt p l) (sym (asked-bad kind p l ls n d t)) (asked-at p l);
         }
 
--- a refused one: those that came to the comparison
+-- a refused one: those that came to the check
 pub asked-came : (kind : FileKind) (ls : List Line) (rest : Bytes) (e i c : ℕ) → recordFrom kind first 1 ls rest ≡ refused e i c → Came kind ls i (askedFrom kind first ls)
 asked-came kind ls rest e i c h =
     let f = came-from kind first 1 ls rest e i c h in

@@ -26,13 +26,12 @@ use Rattle.reader_state.specs.Parts.{finished}
 use Rattle.reader_places.specs.Places.{finishedAt}
 use Rattle.reader_line.specs.declared.Notes.{Notes}
 use Rattle.reader_walk.specs.declared.Walked.{Walked}
-use Rattle.judge_pairs.specs.Compared.{triangle}
 use Rattle.reader_walk.specs.Outcome.{Outcome, outcomeOf, endAt, recordFrom}
-use Rattle.reader_walk.specs.Asked.{askedFrom, comparedOf}
+use Rattle.reader_walk.specs.Asked.{askedFrom, rowsAsked, end-bonds}
 use Rattle.reader_line.specs.Took.{countsBack}
 use Rattle.reader_walk.specs.Stands.{kindOf, placeOf, Rows, Counted, Marks, atomsIn, bondsIn, moleculeLines}
-use Rattle.reader_walk.specs.Walked.{walkedBy, walkOf, HeldBy, Left}
-use Rattle.reader_walk.specs.Walking.{Walking, read-compared}
+use Rattle.reader_walk.specs.Walked.{walkedBy, walkOf, HeldBy, Left, RowsMarked}
+use Rattle.reader_walk.specs.Walking.{Walking, read-asked, rows-by}
 
 -- before line i, at position `at`, with so many bytes left: after a molfile's `M  END`
 unfoldable pub lastOf : ℕ → Counts → Notes → ℕ → ℕ → Walked
@@ -89,8 +88,8 @@ module _ (s : Bytes) (r : Reader) (m : Notes) (at i : ℕ) (t keys : List ℕ) (
   mol-ends (items mol is) c rows mark = (refl, tt)
   mol-ends (values mol is name vs) c rows mark = (refl, tt)
 
-module _ (sd : Bool) (s : Bytes) (ta₀ tb₀ : List ℤ) (r : Reader) (m : Notes) (at i : ℕ) (t keys : List ℕ) (ta tb : List ℤ)
-    (g : Walking sd s ta₀ tb₀ r m at i t keys ta tb) (l : lineAt s at ≡ LineAt.Unfinished) where
+module _ (sd : Bool) (s : Bytes) (ta₀ tb₀ : List ℤ) (ws₀ : List ℕ) (r : Reader) (m : Notes) (at i : ℕ) (t keys ws : List ℕ) (ta tb : List ℤ)
+    (g : Walking sd s ta₀ tb₀ ws₀ r m at i t keys ws ta tb) (l : lineAt s at ≡ LineAt.Unfinished) where
   abbrev Ends : FileKind → ℕ → Finish → Bytes → Type 0
   Ends kind left f rest =
       (endWalked left r m at i f ≡ walkedBy kind s (endAt kind (g .p) rest i)) × HeldBy ta tb t (endAt kind (g .p) rest i)
@@ -116,11 +115,16 @@ module _ (sd : Bool) (s : Bytes) (ta₀ tb₀ : List ℤ) (r : Reader) (m : Note
   unfolding walkOf
   walking-end y e = e ∙ ends .0 ∙ ap (walkedBy (kindOf sd) s) (sym end-is)
 
-  pub end-compared : (v : ℕ) → v ≡ triangle (m .bonds) → v ≡ comparedOf (kindOf sd) s
+  pub end-asked : (v : ℕ) → v ≡ m .bonds → v ≡ rowsAsked (kindOf sd) s
   unfolding askedFrom
-  end-compared = read-compared sd s ta₀ tb₀ r m at i t keys ta tb g (g .asks ∙ ap (λ (c : Cut). askedFrom (kindOf sd) (g .p) (c .lines)) (line-rest s at l))
+  end-asked = read-asked sd s ta₀ tb₀ ws₀ r m at i t keys ws ta tb g (g .asks ∙ ap (λ (c : Cut). askedFrom (kindOf sd) (g .p) (c .lines)) (line-rest s at l))
+
+  pub end-rows : RowsMarked ws₀ ws (outcomeOf (kindOf sd) s)
+  end-rows =
+      rows-by sd s ta₀ tb₀ ws₀ r m at i t keys ws ta tb g (endAt (kindOf sd) (g .p) (drop at s) i) end-is
+      (λ x k w. end-bonds (kindOf sd) (g .p) (drop at s) i x k w)
 
   pub end-left : Left ta₀ ta tb₀ tb t (outcomeOf (kindOf sd) s)
   end-left = record { atoms = g .atoms-beside; bonds = g .bonds-beside; size = g .listed-size; held = subst (HeldBy ta tb t) (sym end-is) (ends .1) }
 
-pub ruleset at-end-laws = (walking-end, end-compared, end-left)
+pub ruleset at-end-laws = (walking-end, end-asked, end-left, end-rows)

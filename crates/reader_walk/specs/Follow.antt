@@ -99,6 +99,7 @@ pub record Pending (kind : FileKind) (s : Bytes) (i : ℕ) (p : J.Place) (l : Li
   pub bond-keys : take (length bs) keys ≡ keysOf bs
   pub small : AllSmall bs
   pub ends : SmallEnds b
+  pub lows : (1 ≤ b .first) × (1 ≤ b .second)
   pub few : length bs < limit
   pub fits : SmallBond b
   pub taken : pairTaken b bs ≡ true → y ≡ bad 11 1
@@ -317,6 +318,7 @@ module _ (kind : FileKind) (s : Bytes) (m : Notes) (t keys : List ℕ) (ta tb : 
         bond-keys = rows .bond-keys;
         small = rows .small;
         ends = ends;
+        lows = (good .first .low, good .second .low);
         few = few;
         fits = bond-small (d .atoms) l b (omega arith) good;
         taken = λ h. rw h;

@@ -1,7 +1,6 @@
 pub mod Outcome
 pub mod Stands
 pub mod Asked
-pub mod Counting
 pub mod Follow
 pub mod Walked
 pub mod Walking

@@ -12,6 +12,9 @@ use Rattle.judge_file.specs.Place.{FileKind, molfile, sdfile}
 use Rattle.judge_file.specs.WalkText.{afterLines}
 use Rattle.reader_walk.specs.declared.Walked.{Walked}
 use Rattle.reader_walk.specs.Outcome.{Outcome, whole, refused, outcomeOf}
+use Rattle.reader_rows.specs.Says.{rowPlaces}
+use Rattle.reader_rows.specs.Marked.{marked}
+use Rattle.reader_pairs.specs.Keys.{keysOf}
 use Rattle.reader_line.specs.Took.{countsBack}
 use Rattle.reader_walk.specs.Stands.{Listing, moleculeLines}
 
@@ -54,3 +57,15 @@ pub record Left (ta₀ ta tb₀ tb : List ℤ) (t : List ℕ) (o : Outcome) : Ty
   pub bonds : Beside bondPlaces tb₀ tb
   pub size : length t ≡ 3 * places
   pub held : HeldBy ta tb t o
+
+-- ---- The lent rows
+
+-- they say the pairs of a whole record; after a refusal they may say anything
+abbrev pub MarksBy : List ℕ → List ℕ → Outcome → Type 0
+MarksBy ws₀ ws (whole x k) = ws ≡ marked ws₀ (keysOf (x .molecule .bonds))
+MarksBy ws₀ ws (refused e i column) = Unit {0}
+
+pub record RowsMarked (ws₀ ws : List ℕ) (o : Outcome) : Type 0 where
+  pub size : length ws ≡ length ws₀
+  pub past : drop rowPlaces ws ≡ drop rowPlaces ws₀
+  pub marks : MarksBy ws₀ ws o

@@ -14,10 +14,9 @@ use Rattle.text.specs.Find.{lineAt}
 use Rattle.text.specs.Cut.{Cut, cut, line-within, line-cut}
 use Rattle.text.specs.declared.LineAt.{LineAt}
 use Rattle.rules.specs.Forms as R
-use Rattle.rules.specs.Record.{Raw, NoPairTwice, limit, atomPlaces, bondPlaces}
+use Rattle.rules.specs.Record.{Raw, limit, atomPlaces, bondPlaces}
 use Rattle.rules.specs.Meaning.{bondNumbers}
 use Rattle.judge_pairs.specs.Taken.{pairTaken}
-use Rattle.judge_pairs.specs.Compared.{triangle, apart}
 use Rattle.judge_line.specs.Got.{Got, got, bad}
 use Rattle.judge_line.specs.Field.{elem, within}
 use Rattle.judge_line.specs.Judge.{bondOf}
@@ -43,12 +42,15 @@ use Rattle.reader_line.specs.declared.Notes.{Notes}
 use Rattle.reader_line.specs.declared.Taken.{Taken}
 use Rattle.reader_walk.specs.declared.Walked.{Walked}
 use Rattle.reader_pairs.specs.Keys.{keyOf, keysOf, SmallEnds, AllSmall, taken-keys}
-use Rattle.reader_walk.specs.Outcome.{whole, refused, outcomeOf, recordFrom, from-next, from-done, from-bad, outcome-from, mol-open}
+use Rattle.reader_rows.specs.Says.{rowPlaces, Says}
+use Rattle.reader_rows.specs.Marked.{withKey, PairKey, marked, key-pair}
+use Rattle.reader_rows.specs.Rowed.{Lent, Rowed, Fitting, rowed-start, rowed-more, rowed-size, rowed-past, rowed-fits, rowed-says}
+use Rattle.reader_walk.specs.Outcome.{Outcome, whole, refused, outcomeOf, recordFrom, from-next, from-done, from-bad, outcome-from, mol-open}
 use Rattle.reader_line.specs.Took.{noNotes, bondBack, countsBack, headedAt, endedAt, atomMore, bondMore, takenBy, atomsBy, Ready, Took}
-use Rattle.reader_walk.specs.Asked.{withOwn, askedAt, askedFrom, askedOf, comparedOf, asked-next, asked-done, asked-bad, asked-start, compared-is, none-own, once-takes}
+use Rattle.reader_walk.specs.Asked.{withOwn, askedAt, askedFrom, askedOf, rowsAsked, asked-next, asked-done, asked-bad, asked-start, asked-is, none-own, whole-record}
 use Rattle.reader_walk.specs.Stands.{isSd, kindOf, placeOf, bondsIn, Counted, Stands}
 use Rattle.reader_walk.specs.Follow.{Onto, Stored, Pending, Closed, Goes, follow}
-use Rattle.reader_walk.specs.Walked.{itemsEnd, walkedBy, walkOf, Beside, HeldBy, Left}
+use Rattle.reader_walk.specs.Walked.{itemsEnd, walkedBy, walkOf, Beside, HeldBy, Left, MarksBy, RowsMarked}
 
 -- ---- Positions: one line more
 
@@ -68,7 +70,7 @@ after-more s a (suc k) at e n h l = go (λ b g. after-more s b k at e n g l) (li
 -- ---- Between two lines
 
 -- line i starts at position `at`
-pub record Walking (sd : Bool) (s : Bytes) (ta₀ tb₀ : List ℤ) (r : Reader) (m : Notes) (at i : ℕ) (t keys : List ℕ) (ta tb : List ℤ) : Type 0 where
+pub record Walking (sd : Bool) (s : Bytes) (ta₀ tb₀ : List ℤ) (ws₀ : List ℕ) (r : Reader) (m : Notes) (at i : ℕ) (t keys ws : List ℕ) (ta tb : List ℤ) : Type 0 where
   pub p : J.Place
   pub stands : Stands (kindOf sd) s r m t keys ta tb i p
   pub sound : Sound (kindOf sd) limit p
@@ -83,7 +85,7 @@ pub record Walking (sd : Bool) (s : Bytes) (ta₀ tb₀ : List ℤ) (r : Reader)
   pub atoms-beside : Beside atomPlaces ta₀ ta
   pub bonds-beside : Beside bondPlaces tb₀ tb
   pub few-read : m .bonds ≤ limit
-  pub once : NoPairTwice (bondsIn p)
+  pub rowed : Rowed ws₀ ws (take (m .bonds) keys)
   pub asks : askedOf (kindOf sd) s ≡ askedFrom (kindOf sd) p (cut (drop at s) .lines)
   pub same : outcomeOf (kindOf sd) s ≡ recordFrom (kindOf sd) p i (cut (drop at s) .lines) (cut (drop at s) .rest)
 
@@ -91,10 +93,10 @@ sd-kind : (sd : Bool) → sd ≡ isSd (kindOf sd)
 sd-kind true = refl
 sd-kind false = refl
 
-pub walking-start : (sd : Bool) (s : Bytes) (r : Reader) (m : Notes) (t keys : List ℕ) (ta tb : List ℤ) → r ≡ begun sd → m ≡ noNotes → atomPlaces ≤ length ta → bondPlaces ≤ length tb → length keys ≡ limit →
-    length t ≡ 3 * places → length s * 1 < 2 ^ 63 → Walking sd s ta tb r m 0 1 t keys ta tb
-unfolding rawRows bondRows AllSmall NoPairTwice
-walking-start sd s r m t keys ta tb e em ra rb rk rt few =
+pub walking-start : (sd : Bool) (s : Bytes) (r : Reader) (m : Notes) (t keys ws : List ℕ) (ta tb : List ℤ) → r ≡ begun sd → m ≡ noNotes → atomPlaces ≤ length ta → bondPlaces ≤ length tb → length keys ≡ limit →
+    length t ≡ 3 * places → Lent ws → length s * 1 < 2 ^ 63 → Walking sd s ta tb ws r m 0 1 t keys ws ta tb
+unfolding rawRows bondRows AllSmall
+walking-start sd s r m t keys ws ta tb e em ra rb rk rt lent few =
     rw (e, em)
     (record {
       p = first;
@@ -120,15 +122,15 @@ walking-start sd s r m t keys ta tb e em ra rb rk rt few =
       atoms-beside = record { room = ra; size = refl; past = refl };
       bonds-beside = record { room = rb; size = refl; past = refl };
       few-read = omega arith;
-      once = tt;
+      rowed = rowed-start ws keys lent;
       asks = asked-start (kindOf sd) s;
       same = outcome-from (kindOf sd) s;
     })
 
 -- the state is one that the reader can be in
-pub walking-sane : (sd : Bool) (s : Bytes) (ta₀ tb₀ : List ℤ) (r : Reader) (m : Notes) (at i : ℕ) (t keys : List ℕ) (ta tb : List ℤ) →
-    Walking sd s ta₀ tb₀ r m at i t keys ta tb → Sane r
-walking-sane sd s ta₀ tb₀ r m at i t keys ta tb g =
+pub walking-sane : (sd : Bool) (s : Bytes) (ta₀ tb₀ : List ℤ) (ws₀ : List ℕ) (r : Reader) (m : Notes) (at i : ℕ) (t keys ws : List ℕ) (ta tb : List ℤ) →
+    Walking sd s ta₀ tb₀ ws₀ r m at i t keys ws ta tb → Sane r
+walking-sane sd s ta₀ tb₀ ws₀ r m at i t keys ws ta tb g =
     record {
       owing = subst W.Owing (sym (g .stands .place)) (owing (g .p) (g .stands .counted) (g .stands .few-atoms) (g .stands .few-bonds));
       atoms = g .stands .few-atoms;
@@ -147,16 +149,36 @@ walking-sane sd s ta₀ tb₀ r m at i t keys ta tb g =
     owing (items mol is) c na nb = tt
     owing (values mol is name vs) c na nb = tt
 
--- where the bonds read are all that came to the comparison, all their pairs are compared
-pub read-compared : (sd : Bool) (s : Bytes) (ta₀ tb₀ : List ℤ) (r : Reader) (m : Notes) (at i : ℕ) (t keys : List ℕ) (ta tb : List ℤ)
-    (g : Walking sd s ta₀ tb₀ r m at i t keys ta tb) → askedOf (kindOf sd) s ≡ bondsIn (g .p) → (v : ℕ) → v ≡ triangle (m .bonds) → v ≡ comparedOf (kindOf sd) s
-read-compared sd s ta₀ tb₀ r m at i t keys ta tb g e v h =
-    h ∙ ap triangle (g .stands .rows .bonds) ∙ sym (compared-is (kindOf sd) s (bondsIn (g .p)) e ∙ apart (bondsIn (g .p)) (g .once))
+module _ (sd : Bool) (s : Bytes) (ta₀ tb₀ : List ℤ) (ws₀ : List ℕ) (r : Reader) (m : Notes) (at i : ℕ) (t keys ws : List ℕ) (ta tb : List ℤ)
+    (g : Walking sd s ta₀ tb₀ ws₀ r m at i t keys ws ta tb) where
+  -- where the bonds read are all that came to the check, a row was asked for each
+  pub read-asked : askedOf (kindOf sd) s ≡ bondsIn (g .p) → (v : ℕ) → v ≡ m .bonds → v ≡ rowsAsked (kindOf sd) s
+  read-asked e v h = h ∙ g .stands .rows .bonds ∙ sym (asked-is (kindOf sd) s (bondsIn (g .p)) e)
+
+  read-keys : take (m .bonds) keys ≡ keysOf (bondsIn (g .p))
+  read-keys = ap (λ (k : ℕ). take k keys) (g .stands .rows .bonds) ∙ g .stands .rows .bond-keys
+
+  -- after every line rows and list say the same pairs
+  pub walking-says : rowPlaces ≤ length ws₀ → Says ws (bondsIn (g .p))
+  walking-says room = rowed-says ws₀ ws (take (m .bonds) keys) (g .rowed) room (bondsIn (g .p)) (g .stands .rows .small) read-keys
+
+  pub rows-by : (o : Outcome) → outcomeOf (kindOf sd) s ≡ o → ((x : Raw) (k : ℕ) → o ≡ whole x k → bondsIn (g .p) ≡ x .molecule .bonds) →
+      RowsMarked ws₀ ws (outcomeOf (kindOf sd) s)
+  rows-by o e f =
+      record {
+        size = rowed-size ws₀ ws (take (m .bonds) keys) (g .rowed);
+        past = rowed-past ws₀ ws (take (m .bonds) keys) (g .rowed);
+        marks = subst (MarksBy ws₀ ws) (sym e) (go o f);
+      }
+    where
+      go : (o : Outcome) → ((x : Raw) (k : ℕ) → o ≡ whole x k → bondsIn (g .p) ≡ x .molecule .bonds) → MarksBy ws₀ ws o
+      go (refused c j column) f = tt
+      go (whole x k) f = g .rowed .is ∙ ap (marked ws₀) (read-keys ∙ ap keysOf (f x k refl))
 
 -- ---- A bond line that is good but for its pair
 
 -- r and t are the state and the table of listed numbers after it, the others are as before it; the next line starts at n
-pub record Bonding (sd : Bool) (s : Bytes) (r : Reader) (m : Notes) (n i : ℕ) (t keys : List ℕ) (ta tb : List ℤ) (b : Bond) : Type 0 where
+pub record Bonding (sd : Bool) (s : Bytes) (r : Reader) (m : Notes) (n i : ℕ) (t keys ws : List ℕ) (ta tb : List ℤ) (b : Bond) : Type 0 where
   pub bs : List R.Bond
   pub few : m .bonds < limit
   pub fits : SmallBond (bondIs b)
@@ -169,11 +191,12 @@ pub record Bonding (sd : Bool) (s : Bytes) (r : Reader) (m : Notes) (n i : ℕ) 
   pub bond-keys : take (length bs) keys ≡ keysOf bs
   pub small : AllSmall bs
   pub ends : SmallEnds (bondIs b)
-  pub once : NoPairTwice bs
+  pub pair : PairKey (keyOf (bondIs b))
+  pub rows-fit : Fitting ws (keyOf (bondIs b))
   pub asks : pairTaken (bondIs b) bs ≡ true → askedOf (kindOf sd) s ≡ bs ++ (bondIs b ∷ [])
   pub taken : pairTaken (bondIs b) bs ≡ true → outcomeOf (kindOf sd) s ≡ refused 11 i 1
-  pub free : pairTaken (bondIs b) bs ≡ false → (ta₀ tb₀ : List ℤ) → Beside atomPlaces ta₀ ta → Beside bondPlaces tb₀ (sets tb (6 * (m .bonds)) (bondNumbers (bondIs b))) →
-      Walking sd s ta₀ tb₀ r (bondMore m) n (i + 1) t (set keys (m .bonds) (keyOf (bondIs b))) ta (sets tb (6 * (m .bonds)) (bondNumbers (bondIs b)))
+  pub free : pairTaken (bondIs b) bs ≡ false → (ta₀ tb₀ : List ℤ) (ws₀ : List ℕ) → Rowed ws₀ ws (take (m .bonds) keys) → Beside atomPlaces ta₀ ta → Beside bondPlaces tb₀ (sets tb (6 * (m .bonds)) (bondNumbers (bondIs b))) →
+      Walking sd s ta₀ tb₀ ws₀ r (bondMore m) n (i + 1) t (set keys (m .bonds) (keyOf (bondIs b))) (withKey ws (keyOf (bondIs b))) ta (sets tb (6 * (m .bonds)) (bondNumbers (bondIs b)))
 
 -- ---- A line
 
@@ -199,8 +222,8 @@ done-bonds (Takes.blank-line h) = tt
 abbrev pub part : Bytes → ℕ → ℕ → Line
 part s at e = take (e - at) (drop at s)
 
-module _ (sd : Bool) (s : Bytes) (ta₀ tb₀ : List ℤ) (r : Reader) (m : Notes) (at i : ℕ) (t keys : List ℕ) (ta tb : List ℤ)
-    (g : Walking sd s ta₀ tb₀ r m at i t keys ta tb) (e n : ℕ) (o : LineAt) (found : o ≡ lineAt s at) (is : o ≡ LineAt.Line e n) where
+module _ (sd : Bool) (s : Bytes) (ta₀ tb₀ : List ℤ) (ws₀ : List ℕ) (r : Reader) (m : Notes) (at i : ℕ) (t keys ws : List ℕ) (ta tb : List ℤ)
+    (g : Walking sd s ta₀ tb₀ ws₀ r m at i t keys ws ta tb) (e n : ℕ) (o : LineAt) (found : o ≡ lineAt s at) (is : o ≡ LineAt.Line e n) where
   l : lineAt s at ≡ LineAt.Line e n
   l = sym found ∙ is
 
@@ -220,10 +243,10 @@ module _ (sd : Bool) (s : Bytes) (ta₀ tb₀ : List ℤ) (r : Reader) (m : Note
       (omega (arith, g .atoms-beside .room, g .atoms-beside .size)) (omega (arith, g .bonds-beside .room, g .bonds-beside .size)) (g .key-room) (g .listed-size) after
 
   -- the line is taken, and another follows
-  onto : (ta₁ tb₁ : List ℤ) (r′ : Reader) (m′ : Notes) (t′ keys′ : List ℕ) (ta′ tb′ : List ℤ) (q : J.Place) →
+  onto : (ta₁ tb₁ : List ℤ) (ws₁ : List ℕ) (r′ : Reader) (m′ : Notes) (t′ keys′ ws′ : List ℕ) (ta′ tb′ : List ℤ) (q : J.Place) →
       turnOf (kindOf sd) limit (g .p) (part s at e) ≡ got (next q) → Stands (kindOf sd) s r′ m′ t′ keys′ ta′ tb′ (suc i) q → length keys′ ≡ limit → length t′ ≡ 3 * places → m′ .bonds ≤ limit →
-      Beside atomPlaces ta₁ ta′ → Beside bondPlaces tb₁ tb′ → Walking sd s ta₁ tb₁ r′ m′ n (i + 1) t′ keys′ ta′ tb′
-  onto ta₁ tb₁ r′ m′ t′ keys′ ta′ tb′ q turn st rk rt few ba bb =
+      Rowed ws₁ ws′ (take (m′ .bonds) keys′) → Beside atomPlaces ta₁ ta′ → Beside bondPlaces tb₁ tb′ → Walking sd s ta₁ tb₁ ws₁ r′ m′ n (i + 1) t′ keys′ ws′ ta′ tb′
+  onto ta₁ tb₁ ws₁ r′ m′ t′ keys′ ws′ ta′ tb′ q turn st rk rt few rowed ba bb =
       let w = line-within s at e n l in
       let one : suc i ≡ i + 1 = omega arith in
       record {
@@ -241,7 +264,7 @@ module _ (sd : Bool) (s : Bytes) (ta₀ tb₀ : List ℤ) (r : Reader) (m : Note
         atoms-beside = ba;
         bonds-beside = bb;
         few-read = few;
-        once = once-takes (kindOf sd) (turn-takes (kindOf sd) limit (g .p) (part s at e) (next q) turn) (g .once);
+        rowed = rowed;
         asks = asked-split ∙ asked-next (kindOf sd) (g .p) q (part s at e) (cut (drop n s) .lines) turn;
         same =
             split
@@ -250,11 +273,12 @@ module _ (sd : Bool) (s : Bytes) (ta₀ tb₀ : List ℤ) (r : Reader) (m : Note
       }
 
   -- the state and the tables after a line that is not a bond's
-  moved : (r′ r₂ : Reader) (m′ m₂ : Notes) (t′ : List ℕ) (ta′ ta₂ : List ℤ) → r′ ≡ r₂ → m′ ≡ m₂ → length t′ ≡ 3 * places → t′ ≡ tableAt r (r .place) t (part s at e) → ta′ ≡ ta₂ → m₂ .bonds ≤ limit → Beside atomPlaces ta₀ ta₂ →
+  moved : (r′ r₂ : Reader) (m′ m₂ : Notes) (t′ : List ℕ) (ta′ ta₂ : List ℤ) → r′ ≡ r₂ → m′ ≡ m₂ → length t′ ≡ 3 * places → t′ ≡ tableAt r (r .place) t (part s at e) → ta′ ≡ ta₂ → m₂ .bonds ≡ m .bonds → Beside atomPlaces ta₀ ta₂ →
       Onto (kindOf sd) s i keys tb r₂ m₂ (tableAt r (r .place) t (part s at e)) ta₂ (turnOf (kindOf sd) limit (g .p) (part s at e)) →
-      Walking sd s ta₀ tb₀ r′ m′ n (i + 1) t′ keys ta′ tb
+      Walking sd s ta₀ tb₀ ws₀ r′ m′ n (i + 1) t′ keys ws ta′ tb
   moved r′ r₂ m′ m₂ t′ ta′ ta₂ er em rt et ea few ba o =
-      rw (er, em, et, ea) (onto ta₀ tb₀ r₂ m₂ (tableAt r (r .place) t (part s at e)) keys ta₂ tb (o .0) (o .1) (o .2) (g .key-room) (subst (λ (u : List ℕ). length u ≡ 3 * places) et rt) few ba (g .bonds-beside))
+      rw (er, em, et, ea) (onto ta₀ tb₀ ws₀ r₂ m₂ (tableAt r (r .place) t (part s at e)) keys ws ta₂ tb (o .0) (o .1) (o .2) (g .key-room) (subst (λ (u : List ℕ). length u ≡ 3 * places) et rt) (omega (arith, g .few-read))
+      (subst (λ (k : ℕ). Rowed ws₀ ws (take k keys)) (sym few) (g .rowed)) ba (g .bonds-beside))
 
   row-beside : (a : R.Atom) → m .atoms < limit → Beside atomPlaces ta₀ (sets ta (16 * (m .atoms)) (rawRow a))
   row-beside a few =
@@ -264,28 +288,28 @@ module _ (sd : Bool) (s : Bytes) (ta₀ tb₀ : List ℤ) (r : Reader) (m : Note
         past = drop-sets (rawRow a) ta (16 * (m .atoms)) atomPlaces (omega arith) ∙ g .atoms-beside .past;
       }
 
-  pub walking-next : (x : Taken) (r′ : Reader) (m′ : Notes) (t′ : List ℕ) (ta′ : List ℤ) → Took r m n t ta (part s at e) x t′ ta′ → x ≡ Taken.Next r′ m′ → Walking sd s ta₀ tb₀ r′ m′ n (i + 1) t′ keys ta′ tb
+  pub walking-next : (x : Taken) (r′ : Reader) (m′ : Notes) (t′ : List ℕ) (ta′ : List ℤ) → Took r m n t ta (part s at e) x t′ ta′ → x ≡ Taken.Next r′ m′ → Walking sd s ta₀ tb₀ ws₀ r′ m′ n (i + 1) t′ keys ws ta′ tb
   walking-next x r′ m′ t′ ta′ k q = go (wentOf r t (part s at e)) refl (sym q ∙ k .answer) (k .rows) goes
     where
       go : (w : Got Went) → wentOf r t (part s at e) ≡ w → Taken.Next r′ m′ ≡ takenBy m n w → ta′ ≡ atomsBy m w ta →
           Goes (kindOf sd) s i n (g .p) (part s at e) r m (tableAt r (r .place) t (part s at e)) keys ta tb w (turnOf (kindOf sd) limit (g .p) (part s at e)) →
-          Walking sd s ta₀ tb₀ r′ m′ n (i + 1) t′ keys ta′ tb
-      go (got (W.on r₂)) ew h ea o = moved r′ r₂ m′ m t′ ta′ ta (cc) (cc) (k .size) (k .kept .kept (W.on r₂) ew) ea (g .few-read) (g .atoms-beside) o
-      go (got (W.headed r₂)) ew h ea o = moved r′ r₂ m′ (headedAt m n) t′ ta′ ta (cc) (cc) (k .size) (k .kept .kept (W.headed r₂) ew) ea (g .few-read) (g .atoms-beside) o
+          Walking sd s ta₀ tb₀ ws₀ r′ m′ n (i + 1) t′ keys ws ta′ tb
+      go (got (W.on r₂)) ew h ea o = moved r′ r₂ m′ m t′ ta′ ta (cc) (cc) (k .size) (k .kept .kept (W.on r₂) ew) ea refl (g .atoms-beside) o
+      go (got (W.headed r₂)) ew h ea o = moved r′ r₂ m′ (headedAt m n) t′ ta′ ta (cc) (cc) (k .size) (k .kept .kept (W.headed r₂) ew) ea refl (g .atoms-beside) o
       go (got (W.atom r₂ a)) ew h ea o =
-          moved r′ r₂ m′ (atomMore m) t′ ta′ (sets ta (16 * (m .atoms)) (rawRow a)) (cc) (cc) (k .size) (k .kept .kept (W.atom r₂ a) ew) ea (g .few-read) (row-beside a (o .few)) (o .onto)
+          moved r′ r₂ m′ (atomMore m) t′ ta′ (sets ta (16 * (m .atoms)) (rawRow a)) (cc) (cc) (k .size) (k .kept .kept (W.atom r₂ a) ew) ea refl (row-beside a (o .few)) (o .onto)
       go (got (W.bond r₂ b)) ew h ea o = absurd (let z : _≡_ {A = ℕ} 0 1 = cc in omega arith)
-      go (got (W.ended r₂)) ew h ea o = moved r′ r₂ m′ (endedAt m n) t′ ta′ ta (cc) (cc) (k .size) (k .kept .kept (W.ended r₂) ew) ea (g .few-read) (g .atoms-beside) o
-      go (got (W.title r₂ name)) ew h ea o = moved r′ r₂ m′ m t′ ta′ ta (cc) (cc) (k .size) (k .kept .kept (W.title r₂ name) ew) ea (g .few-read) (g .atoms-beside) o
-      go (got (W.value r₂)) ew h ea o = moved r′ r₂ m′ m t′ ta′ ta (cc) (cc) (k .size) (k .kept .kept (W.value r₂) ew) ea (g .few-read) (g .atoms-beside) o
-      go (got (W.blank r₂)) ew h ea o = moved r′ r₂ m′ m t′ ta′ ta (cc) (cc) (k .size) (k .kept .kept (W.blank r₂) ew) ea (g .few-read) (g .atoms-beside) o
+      go (got (W.ended r₂)) ew h ea o = moved r′ r₂ m′ (endedAt m n) t′ ta′ ta (cc) (cc) (k .size) (k .kept .kept (W.ended r₂) ew) ea refl (g .atoms-beside) o
+      go (got (W.title r₂ name)) ew h ea o = moved r′ r₂ m′ m t′ ta′ ta (cc) (cc) (k .size) (k .kept .kept (W.title r₂ name) ew) ea refl (g .atoms-beside) o
+      go (got (W.value r₂)) ew h ea o = moved r′ r₂ m′ m t′ ta′ ta (cc) (cc) (k .size) (k .kept .kept (W.value r₂) ew) ea refl (g .atoms-beside) o
+      go (got (W.blank r₂)) ew h ea o = moved r′ r₂ m′ m t′ ta′ ta (cc) (cc) (k .size) (k .kept .kept (W.blank r₂) ew) ea refl (g .atoms-beside) o
       go (got W.done) ew h ea o = absurd (let z : _≡_ {A = ℕ} 0 1 = cc in omega arith)
       go (bad c column) ew h ea o = absurd (let z : _≡_ {A = ℕ} 0 1 = cc in omega arith)
 
   pub walking-ready : Ready r m t ta (part s at e)
   walking-ready =
       record {
-        sane = walking-sane sd s ta₀ tb₀ r m at i t keys ta tb g;
+        sane = walking-sane sd s ta₀ tb₀ ws₀ r m at i t keys ws ta tb g;
         room = omega (arith, g .atoms-beside .room, g .atoms-beside .size);
         size = g .listed-size;
         fits = λ r′ a q. fits r′ a (subst (λ (w : Got Went). Goes (kindOf sd) s i n (g .p) (part s at e) r m (tableAt r (r .place) t (part s at e)) keys ta tb w (turnOf (kindOf sd) limit (g .p) (part s at e))) q goes);
@@ -324,7 +348,7 @@ module _ (sd : Bool) (s : Bytes) (ta₀ tb₀ : List ℤ) (r : Reader) (m : Note
     stopped : outcomeOf (kindOf sd) s ≡ refused c i column
     stopped = split ∙ from-bad (kindOf sd) (g .p) i (part s at e) (cut (drop n s) .lines) (cut (drop n s) .rest) c column (off .turn)
 
-    -- its form is wrong, so it brings no bond to the comparison
+    -- its form is wrong, so it brings no bond to the check
     unasked : askedAt (g .p) (part s at e) ≡ bondsIn (g .p)
     unfolding wentOf lineIn
     unasked = go (g .p) (g .stands .place) (g .stands .counted)
@@ -344,9 +368,12 @@ module _ (sd : Bool) (s : Bytes) (ta₀ tb₀ : List ℤ) (r : Reader) (m : Note
         go (items mol is) ep d = refl
         go (values mol is name vs) ep d = refl
 
-    pub refused-compared : (v : ℕ) → v ≡ triangle (m .bonds) → v ≡ comparedOf (kindOf sd) s
-    refused-compared =
-        read-compared sd s ta₀ tb₀ r m at i t keys ta tb g (asked-split ∙ asked-bad (kindOf sd) (g .p) (part s at e) (cut (drop n s) .lines) c column (off .turn) ∙ unasked)
+    pub refused-asked : (v : ℕ) → v ≡ m .bonds → v ≡ rowsAsked (kindOf sd) s
+    refused-asked =
+        read-asked sd s ta₀ tb₀ ws₀ r m at i t keys ws ta tb g (asked-split ∙ asked-bad (kindOf sd) (g .p) (part s at e) (cut (drop n s) .lines) c column (off .turn) ∙ unasked)
+
+    pub refused-rows : RowsMarked ws₀ ws (outcomeOf (kindOf sd) s)
+    refused-rows = rows-by sd s ta₀ tb₀ ws₀ r m at i t keys ws ta tb g (refused c i column) stopped (λ x j w. absurd (let z : _≡_ {A = ℕ} 0 1 = cc in omega arith))
 
     pub walking-refused : (w : Walked) → w ≡ Walked.Refused c i column → w ≡ walkOf (kindOf sd) s
     unfolding walkOf
@@ -419,12 +446,17 @@ module _ (sd : Bool) (s : Bytes) (ta₀ tb₀ : List ℤ) (r : Reader) (m : Note
         whole-same : {c c′ : Counts} {u u′ h h′ v v′ w w′ : ℕ} → c ≡ c′ → u ≡ u′ → h ≡ h′ → v ≡ v′ → w ≡ w′ → Walked.Whole c u i h v w ≡ Walked.Whole c′ u′ i h′ v′ w′
         whole-same a b c d f = cc
 
-    pub done-compared : (v : ℕ) → v ≡ triangle (m .bonds) → v ≡ comparedOf (kindOf sd) s
-    done-compared =
+    over-bonds : bondsIn (g .p) ≡ finished-over .y .molecule .bonds
+    over-bonds = done-bonds (turn-takes (kindOf sd) limit (g .p) (part s at e) (J.done (finished-over .y)) (finished-over .turn))
+
+    pub done-asked : (v : ℕ) → v ≡ m .bonds → v ≡ rowsAsked (kindOf sd) s
+    done-asked =
         let o = finished-over in
-        read-compared sd s ta₀ tb₀ r m at i t keys ta tb g
-        (asked-split ∙ asked-done (kindOf sd) (g .p) (o .y) (part s at e) (cut (drop n s) .lines) (o .turn)
-        ∙ sym (done-bonds (turn-takes (kindOf sd) limit (g .p) (part s at e) (J.done (o .y)) (o .turn))))
+        read-asked sd s ta₀ tb₀ ws₀ r m at i t keys ws ta tb g
+        (asked-split ∙ asked-done (kindOf sd) (g .p) (o .y) (part s at e) (cut (drop n s) .lines) (o .turn) ∙ sym over-bonds)
+
+    pub done-rows : RowsMarked ws₀ ws (outcomeOf (kindOf sd) s)
+    done-rows = rows-by sd s ta₀ tb₀ ws₀ r m at i t keys ws ta tb g (whole (finished-over .y) i) over-is (λ x j w. over-bonds ∙ ap (λ (z : Raw). z .molecule .bonds) (whole-record w))
 
     pub done-left : Left ta₀ ta′ tb₀ tb t′ (outcomeOf (kindOf sd) s)
     done-left =
@@ -468,10 +500,11 @@ module _ (sd : Bool) (s : Bytes) (ta₀ tb₀ : List ℤ) (r : Reader) (m : Note
         go (got W.done) ew h ea o = absurd (let z : _≡_ {A = ℕ} 0 1 = cc in omega arith)
         go (bad c₂ column₂) ew h ea o = absurd (let z : _≡_ {A = ℕ} 0 1 = cc in omega arith)
 
-    pub bonding : Bonding sd s r′ m n i t′ keys ta′ tb b
+    pub bonding : Bonding sd s r′ m n i t′ keys ws ta′ tb b
     bonding =
         let o = pended .pending in
         let w = line-within s at e n l in
+        let pair = key-pair (bondIs b .first) (bondIs b .second) (o .lows .0) (o .ends .first) (o .lows .1) (o .ends .second) in
         rw (pended .same)
         (record {
           bs = o .bs;
@@ -481,7 +514,8 @@ module _ (sd : Bool) (s : Bytes) (ta₀ tb₀ : List ℤ) (r : Reader) (m : Note
           bond-keys = o .bond-keys;
           small = o .small;
           ends = o .ends;
-          once = subst NoPairTwice (sym (o .read)) (g .once);
+          pair = pair;
+          rows-fit = rowed-fits ws₀ ws (take (m .bonds) keys) (g .rowed) (keyOf (bondIs b)) pair;
           asks = λ h. asked-split ∙ asked-bad (kindOf sd) (g .p) (part s at e) (cut (drop n s) .lines) 11 1 (o .taken h) ∙ o .own;
           key-room = g .key-room;
           listed-size = k .size;
@@ -492,10 +526,11 @@ module _ (sd : Bool) (s : Bytes) (ta₀ tb₀ : List ℤ) (r : Reader) (m : Note
           lines = omega (arith, w .0, w .1, g .lines);
           inside = w .2;
           taken = λ h. split ∙ from-bad (kindOf sd) (g .p) i (part s at e) (cut (drop n s) .lines) (cut (drop n s) .rest) 11 1 (o .taken h);
-          free = λ h ta₁ tb₁ ba bb.
+          free = λ h ta₁ tb₁ ws₁ rowed ba bb.
               let f = o .free h in
-              onto ta₁ tb₁ r′ (bondMore m) t′ (set keys (m .bonds) (keyOf (bondIs b))) ta (sets tb (6 * (m .bonds)) (bondNumbers (bondIs b))) (f .0) (f .1) (f .2)
-              (length-set keys (m .bonds) (keyOf (bondIs b)) ∙ g .key-room) (k .size) (omega (arith, o .count, o .few)) ba bb;
+              onto ta₁ tb₁ ws₁ r′ (bondMore m) t′ (set keys (m .bonds) (keyOf (bondIs b))) (withKey ws (keyOf (bondIs b))) ta (sets tb (6 * (m .bonds)) (bondNumbers (bondIs b))) (f .0) (f .1) (f .2)
+              (length-set keys (m .bonds) (keyOf (bondIs b)) ∙ g .key-room) (k .size) (omega (arith, o .count, o .few))
+              (rowed-more ws₁ ws (withKey ws (keyOf (bondIs b))) keys (m .bonds) (keyOf (bondIs b)) rowed pair (omega (arith, o .count, o .few, g .key-room)) refl) ba bb;
         })
 
     pub bond-beside : Beside atomPlaces ta₀ ta′
@@ -528,7 +563,7 @@ atoms-length m (got (W.blank r)) ta = refl
 atoms-length m (got W.done) ta = refl
 atoms-length m (bad e column) ta = refl
 
-module _ (sd : Bool) (s : Bytes) (ta₀ tb₀ : List ℤ) (r : Reader) (m : Notes) (at i : ℕ) (t keys : List ℕ) (ta tb : List ℤ) (g : Walking sd s ta₀ tb₀ r m at i t keys ta tb) where
+module _ (sd : Bool) (s : Bytes) (ta₀ tb₀ : List ℤ) (ws₀ : List ℕ) (r : Reader) (m : Notes) (at i : ℕ) (t keys ws : List ℕ) (ta tb : List ℤ) (g : Walking sd s ta₀ tb₀ ws₀ r m at i t keys ws ta tb) where
   pub atoms-size : length ta ≡ length ta₀
   atoms-size = g .atoms-beside .size
 
@@ -547,6 +582,9 @@ module _ (sd : Bool) (s : Bytes) (ta₀ tb₀ : List ℤ) (r : Reader) (m : Note
   pub bonds-few : m .bonds ≤ limit
   bonds-few = g .few-read
 
+  pub rows-size : length ws ≡ length ws₀
+  rows-size = rowed-size ws₀ ws (take (m .bonds) keys) (g .rowed)
+
   pub fits-next : Fits w64 (i + 1)
   fits-next = record { fits = omega (arith, g .lines, g .inside, g .bytes) }
 
@@ -559,10 +597,12 @@ pub ruleset line-laws = (
   walking-next,
   walking-less,
   walking-refused,
-  refused-compared,
+  refused-asked,
+  refused-rows,
   refused-left,
   walking-done,
-  done-compared,
+  done-asked,
+  done-rows,
   done-left,
   bond-beside,
   atoms-size,
@@ -571,5 +611,6 @@ pub ruleset line-laws = (
   keys-size,
   took-size,
   bonds-few,
+  rows-size,
   fits-next,
 )

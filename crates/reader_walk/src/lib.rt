@@ -1,15 +1,15 @@
 // One record from the front of a text.
 ghost use mathlib.Core.Path.{_≡_};
-ghost use Prim.Native.Nat.{_+_, _-_, _*_, _≤_};
+ghost use Prim.Native.Nat.{_*_, _≤_, _<_};
 ghost use lib.ListN.{length};
 ghost use Rattle.rules.specs.Record.{limit, atomPlaces, bondPlaces};
-ghost use Rattle.judge_pairs.specs.Compared.{triangle};
 ghost use Rattle.line_property.specs.Listed.{places};
 ghost use Rattle.reader_state.specs.Parts.{finished};
 ghost use Rattle.reader_walk.specs.Outcome.{outcomeOf};
-ghost use Rattle.reader_walk.specs.Asked.{comparedOf};
+ghost use Rattle.reader_rows.specs.Rowed.{Lent};
+ghost use Rattle.reader_walk.specs.Asked.{rowsAsked};
 ghost use Rattle.reader_walk.specs.Stands.{kindOf};
-ghost use Rattle.reader_walk.specs.Walked.{walkOf, Left};
+ghost use Rattle.reader_walk.specs.Walked.{walkOf, Left, RowsMarked};
 ghost use Rattle.reader_walk.specs.AtEnd.{lastOf, endWalked};
 use line_counts_bonds::Counts;
 use reader_line::Notes;
@@ -44,60 +44,44 @@ pub enum Walked {
     },
 }
 
-// The same, and how many pairs of bonds the rule against repeated pairs calls for. None is counted: each exit of the walk computes it.
+// The same, and how many bond lines came to the check for repeated pairs: a row is asked for each.
 pub struct Counted {
     pub walked: Walked,
-    pub compared: usize,
-}
-
-// All pairs of so many bonds.
-fn pairs_of(count: usize) -> usize
-    requires { ⌜ count ≤ limit ⌝ }
-    ensures { λ r. ⌜ r ≡ triangle count ⌝ }
-{
-    if count < 2 {
-        return 0;
-    }
-    count * (count - 1) / 2
+    pub asked: usize,
 }
 
 // A line refused for another reason than its pair.
 fn stopped(notes: Notes, no: u8, line: usize, column: usize) -> Counted
-    requires { ⌜ notes .bonds ≤ limit ⌝ }
     ensures { λ r. ⌜ r .walked ≡ Walked.Refused no line column ⌝ }
-    ensures { λ r. ⌜ r .compared ≡ triangle (notes .bonds) ⌝ }
+    ensures { λ r. ⌜ r .asked ≡ notes .bonds ⌝ }
 {
-    let compared = pairs_of(notes.bonds);
     Counted {
         walked: Walked::Refused { no, line, column },
-        compared,
+        asked: notes.bonds,
     }
 }
 
-// A bond that repeats a pair: all pairs of the bonds before it, and those of its own up to the earlier bond.
+// A bond that repeats a pair came to the check too.
 fn repeated(repeat: Repeat) -> Counted
-    requires { ⌜ (1 ≤ repeat .earlier) × (repeat .earlier ≤ limit) × (1 ≤ repeat .later) × (repeat .later ≤ limit) ⌝ }
+    requires { ⌜ (1 ≤ repeat .earlier) × (repeat .earlier < repeat .later) ⌝ }
     ensures { λ r. ⌜ r .walked ≡ Walked.Refused 11 (repeat .line) 1 ⌝ }
-    ensures { λ r. ⌜ r .compared ≡ triangle (repeat .later - 1) + repeat .earlier ⌝ }
+    ensures { λ r. ⌜ r .asked ≡ repeat .later ⌝ }
 {
-    let compared = pairs_of(repeat.later - 1) + repeat.earlier;
     Counted {
         walked: Walked::Refused {
             no: 11,
             line: repeat.line,
             column: 1,
         },
-        compared,
+        asked: repeat.later,
     }
 }
 
 // A record whose `$$$$` line starts at `at`.
 fn closed(reader: Reader, notes: Notes, at: usize, line: usize, next: usize) -> Counted
-    requires { ⌜ notes .bonds ≤ limit ⌝ }
     ensures { λ r. ⌜ r .walked ≡ Walked.Whole (reader .counts) next line (notes .«header_end») (notes .«items_start») at ⌝ }
-    ensures { λ r. ⌜ r .compared ≡ triangle (notes .bonds) ⌝ }
+    ensures { λ r. ⌜ r .asked ≡ notes .bonds ⌝ }
 {
-    let compared = pairs_of(notes.bonds);
     let counts = reader.counts;
     Counted {
         walked: Walked::Whole {
@@ -108,7 +92,7 @@ fn closed(reader: Reader, notes: Notes, at: usize, line: usize, next: usize) -> 
             items_start: notes.items_start,
             items_end: at,
         },
-        compared,
+        asked: notes.bonds,
     }
 }
 
@@ -150,18 +134,19 @@ fn end_walk(left: usize, reader: Reader, notes: Notes, at: usize, line: usize) -
     }
 }
 
-// The same, with what was compared before it.
+// The same, with the bond lines before it.
 fn ended(left: usize, reader: Reader, notes: Notes, at: usize, line: usize) -> Counted
-    requires { ⌜ (1 ≤ line) × (notes .bonds ≤ limit) ⌝ }
+    requires { ⌜ 1 ≤ line ⌝ }
     ensures { λ r. ⌜ r .walked ≡ endWalked left reader notes at line (finished reader) ⌝ }
-    ensures { λ r. ⌜ r .compared ≡ triangle (notes .bonds) ⌝ }
+    ensures { λ r. ⌜ r .asked ≡ notes .bonds ⌝ }
 {
-    let compared = pairs_of(notes.bonds);
+    let asked = notes.bonds;
     let walked = end_walk(left, reader, notes, at, line);
-    Counted { walked, compared }
+    Counted { walked, asked }
 }
 
-// The lines of one record. The walk over them is left by its label where a bond joins a pair that an earlier bond joins.
+// The lines of one record. The walk over them is left by its label where a bond joins a pair that an earlier bond joins:
+// the list is searched for it, but for pairs that lent rows do not say.
 fn walk_lines(
     sd: bool,
     s: &[u8],
@@ -169,12 +154,14 @@ fn walk_lines(
     bonds: &mut [i32],
     listed: &mut [u32; LISTED],
     keys: &mut [u32; KEYS],
+    rows: &mut [u64],
 ) -> Counted
-    requires { ⌜ (atomPlaces ≤ length (now atoms)) × (bondPlaces ≤ length (now bonds)) × (length (now listed) ≡ 3 * places) × (length (now keys) ≡ limit) ⌝ }
+    requires { ⌜ (atomPlaces ≤ length (now atoms)) × (bondPlaces ≤ length (now bonds)) × (length (now listed) ≡ 3 * places) × (length (now keys) ≡ limit) × Lent (now rows) ⌝ }
     ensures { λ r. ⌜ r .walked ≡ walkOf (kindOf sd) (now (s .entry)) ⌝ }
-    ensures { λ r. ⌜ r .compared ≡ comparedOf (kindOf sd) (now (s .entry)) ⌝ }
+    ensures { λ r. ⌜ r .asked ≡ rowsAsked (kindOf sd) (now (s .entry)) ⌝ }
     ensures { λ r. ⌜ Left (now (atoms .entry)) (now (atoms .exit)) (now (bonds .entry)) (now (bonds .exit)) (now (listed .exit)) (outcomeOf (kindOf sd) (now (s .entry))) ⌝ }
     ensures { λ r. ⌜ length (now (keys .exit)) ≡ limit ⌝ }
+    ensures { λ r. ⌜ RowsMarked (now (rows .entry)) (now (rows .exit)) (outcomeOf (kindOf sd) (now (s .entry))) ⌝ }
 {
     let mut reader = Reader::new(sd);
     let mut notes = Notes::new();
@@ -194,7 +181,7 @@ fn walk_lines(
             Taken::Bond(r, b) => {
                 let key = reader_pairs::pair_key(b.first, b.second);
                 let count = notes.bonds;
-                let mut j = reader_pairs::near_key(keys, count, key);
+                let mut j = reader_rows::first_key(rows, keys, count, key);
                 while j < count {
                     if keys[j] == key {
                         break 'walk Repeat {
@@ -206,6 +193,7 @@ fn walk_lines(
                     j += 1;
                 }
                 notes = reader_line::keep_bond(notes, b, key, bonds, keys);
+                reader_rows::mark(rows, key);
                 reader = r;
                 at = next;
                 line += 1;
@@ -222,23 +210,26 @@ fn walk_lines(
 }
 
 // One record from the front of a text: for an SDfile up to its `$$$$` line, whatever follows; for a molfile the whole text.
-pub fn walk_counted(
+// Rows that are lent say nothing yet; rows of no words have the list searched.
+pub fn walk_rows(
     sd: bool,
     s: &[u8],
     atoms: &mut [i32],
     bonds: &mut [i32],
     listed: &mut [u32; LISTED],
+    rows: &mut [u64],
 ) -> Counted
-    requires { ⌜ (atomPlaces ≤ length (now atoms)) × (bondPlaces ≤ length (now bonds)) × (length (now listed) ≡ 3 * places) ⌝ }
+    requires { ⌜ (atomPlaces ≤ length (now atoms)) × (bondPlaces ≤ length (now bonds)) × (length (now listed) ≡ 3 * places) × Lent (now rows) ⌝ }
     ensures { λ r. ⌜ r .walked ≡ walkOf (kindOf sd) (now (s .entry)) ⌝ }
-    ensures { λ r. ⌜ r .compared ≡ comparedOf (kindOf sd) (now (s .entry)) ⌝ }
+    ensures { λ r. ⌜ r .asked ≡ rowsAsked (kindOf sd) (now (s .entry)) ⌝ }
     ensures { λ r. ⌜ Left (now (atoms .entry)) (now (atoms .exit)) (now (bonds .entry)) (now (bonds .exit)) (now (listed .exit)) (outcomeOf (kindOf sd) (now (s .entry))) ⌝ }
+    ensures { λ r. ⌜ RowsMarked (now (rows .entry)) (now (rows .exit)) (outcomeOf (kindOf sd) (now (s .entry))) ⌝ }
 {
     let mut keys = [0u32; KEYS];
-    walk_lines(sd, s, atoms, bonds, listed, &mut keys)
+    walk_lines(sd, s, atoms, bonds, listed, &mut keys, rows)
 }
 
-// The same without the number of pairs, and with lent room for the keys of pairs: laid once for all records of a file.
+// The same without rows, and with lent room for the keys of pairs: laid once for all records of a file.
 pub fn walk_keyed(
     sd: bool,
     s: &[u8],
@@ -252,7 +243,8 @@ pub fn walk_keyed(
     ensures { λ r. ⌜ Left (now (atoms .entry)) (now (atoms .exit)) (now (bonds .entry)) (now (bonds .exit)) (now (listed .exit)) (outcomeOf (kindOf sd) (now (s .entry))) ⌝ }
     ensures { λ r. ⌜ length (now (keys .exit)) ≡ limit ⌝ }
 {
-    let counted = walk_lines(sd, s, atoms, bonds, listed, keys);
+    let mut none = [0u64; 0];
+    let counted = walk_lines(sd, s, atoms, bonds, listed, keys, &mut none);
     counted.walked
 }
 
@@ -268,6 +260,6 @@ pub fn walk_record(
     ensures { λ r. ⌜ r ≡ walkOf (kindOf sd) (now (s .entry)) ⌝ }
     ensures { λ r. ⌜ Left (now (atoms .entry)) (now (atoms .exit)) (now (bonds .entry)) (now (bonds .exit)) (now (listed .exit)) (outcomeOf (kindOf sd) (now (s .entry))) ⌝ }
 {
-    let counted = walk_counted(sd, s, atoms, bonds, listed);
-    counted.walked
+    let mut keys = [0u32; KEYS];
+    walk_keyed(sd, s, atoms, bonds, listed, &mut keys)
 }

@@ -1,5 +1,5 @@
 -- `capellanote::capellanote_read` meets its contract.
-use Rattle.capellanote.specs.Read.{read-held, read-told, count-told}
+use Rattle.capellanote.specs.Read.{rowed-held, rowed-told, promise-told}
 use borrow.Author.Needs.{needs}
 use Rattle.capellanote.proofs.capellanote_read.Statement.{statement}
 use Rattle.capellanote.proofs.capellanote_read.Tie as tie
@@ -16,14 +16,17 @@ same-length c = search needs
 same-length-2 : tie.Need-same-length-2
 same-length-2 c = search needs
 
+same-length-3 : tie.Need-same-length-3
+same-length-3 c = search needs
+
 returns : tie.Need-returns
 returns c =
     let o = c .of-reading .ensures in
-    let q = c .before .before .before .read-record .ensures in (
-      read-held _ _ _ _ _ o (q .0) (q .1 .0),
-      (q .1 .1 .0, (q .1 .1 .1 .0, (read-told _ _ _ _ _ _ _ _ _ o (q .1 .1 .1 .1 .0), count-told _ _ _ _ _ _ _ _ _ o (q .1 .1 .1 .1 .0) (q .1 .1 .1 .1 .1)))),
+    let q = c .before .before .before .before .before .read-record .ensures in (
+      rowed-held _ _ _ _ _ _ _ _ _ _ o (q .0),
+      (rowed-told _ _ _ _ _ _ _ _ _ _ o (q .0) (q .1), promise-told _ _ _ _ _ _ _ _ _ _ o (q .1)),
     )
 
 pub capellanote-read-spec : {M : Type 1} → statement M
 capellanote-read-spec =
-    tie.close (tie.spec read-record-requires of-reading-requires same-length same-length-2 returns)
+    tie.close (tie.spec read-record-requires of-reading-requires same-length same-length-2 same-length-3 returns)

@@ -4,8 +4,8 @@ use borrow.Author.Needs.{needs}
 use Rattle.reader_record.proofs.read_front.Statement.{statement}
 use Rattle.reader_record.proofs.read_front.Tie as tie
 
-walk-counted-requires : tie.Need-walk-counted-requires
-walk-counted-requires c κs = search needs
+walk-rows-requires : tie.Need-walk-rows-requires
+walk-rows-requires c κs = search needs
 
 enum-known-walked : tie.Need-enum-known-walked
 enum-known-walked c = search needs
@@ -22,29 +22,37 @@ same-length c = search needs
 same-length-2 : tie.Need-same-length-2
 same-length-2 c = search needs
 
-returns : tie.Need-returns
-returns c = (search (needs, walked-laws), (search (needs, walked-laws), search (needs, walked-laws)))
-
 same-length-3 : tie.Need-same-length-3
 same-length-3 c = search needs
+
+returns : tie.Need-returns
+returns c = (search (needs, walked-laws), (search (needs, walked-laws), (search (needs, walked-laws), search (needs, walked-laws))))
 
 same-length-4 : tie.Need-same-length-4
 same-length-4 c = search needs
 
+same-length-5 : tie.Need-same-length-5
+same-length-5 c = search needs
+
+same-length-6 : tie.Need-same-length-6
+same-length-6 c = search needs
+
 returns-2 : tie.Need-returns-2
-returns-2 c = (search (needs, walked-laws), (search (needs, walked-laws), search (needs, walked-laws)))
+returns-2 c = (search (needs, walked-laws), (search (needs, walked-laws), (search (needs, walked-laws), search (needs, walked-laws))))
 
 pub read-front-spec : {M : Type 1} → statement M
 read-front-spec =
     tie.close
     (tie.spec
-    walk-counted-requires
+    walk-rows-requires
     enum-known-walked
     mean-requires
     enum-known-walked-2
     same-length
     same-length-2
-    returns
     same-length-3
+    returns
     same-length-4
+    same-length-5
+    same-length-6
     returns-2)

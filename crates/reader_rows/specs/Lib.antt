@@ -1,0 +1,4 @@
+pub mod Says
+pub mod OneRows
+pub mod Marked
+pub mod Rowed
