@@ -22,7 +22,7 @@ use Rattle.stock_key.specs.Promise.{readOf}
 use Rattle.stock_join.specs.declared.Fate.{Fate}
 use Rattle.stock_join.specs.declared.Join.{Join}
 use Rattle.stock_join.specs.Step.{placeIn, fateOf, most, upTo, marked, After, after, underAt, nextOf}
-use Rattle.stock_join.specs.Stands.{fateIn, MarksFrom, Stood, entryAt, Short}
+use Rattle.stock_join.specs.Stands.{fateIn, MarksFrom, Stood, entryAt, Short, Moves}
 use Rattle.stock_join.specs.Promise.{TwelveIn, Held, FatePromise, Promise}
 use Rattle.stock_join.specs.More.{length-one, length-same, total, total-more}
 use Rattle.stock_join.specs.Counting.{up-one, mark-length, Strange, never-strange, no-key-strange, place-below, marks-same, marks-more}
@@ -60,7 +60,7 @@ module _ (j : Join) (marks : Words) (ls : Store) (es : List Entry) (g : Stood j 
   apart : (k : Keyed) → Strange k ls → MarksFrom marks 0 ls (es ++ (entryAt j k ∷ []))
   apart k h = marks-same es (entryAt j k) marks marks 0 ls (λ i low high. (refl, refl, refl)) h (g .lots)
 
-  known-more : (k : Bytes) → known k ls ≡ true → Stood (underAt j (placeOf k ls) marks .join) ls (es ++ (entryAt j (Keyed.key k) ∷ [])) (underAt j (placeOf k ls) marks .marks)
+  known-more : (k : Bytes) → known k ls ≡ true → Moves j ls es (Keyed.key k) (underAt j (placeOf k ls) marks)
   unfolding underAt
   known-more k h =
       let e = entryAt j (Keyed.key k) in
@@ -77,16 +77,20 @@ module _ (j : Join) (marks : Words) (ls : Store) (es : List Entry) (g : Stood j 
       let u = up-one (j .received) (omega (arith, r, a, short)) in
       let v = up-one (j .number) (s .number) in
       rw (lt-ltb (placeOf k ls) mostLots (omega arith)) (record {
-        few = g .few;
-        each = g .each;
-        room = mark-length marks (placeOf k ls) (j .file) (upTo (j .number)) (omega arith) ∙ g .room;
-        lots = rw (v, ← zero-add (placeOf k ls)) m;
-        received = u ∙ omega (arith, t, r);
-        never = g .never ∙ sym n;
-        keyless = g .keyless ∙ sym f;
+        file = refl;
+        number = v;
+        stood = record {
+          few = g .few;
+          each = g .each;
+          room = mark-length marks (placeOf k ls) (j .file) (upTo (j .number)) (omega arith) ∙ g .room;
+          lots = rw (v, ← zero-add (placeOf k ls)) m;
+          received = u ∙ omega (arith, t, r);
+          never = g .never ∙ sym n;
+          keyless = g .keyless ∙ sym f;
+        };
       })
 
-  never-more : (k : Bytes) → known k ls ≡ false → Stood (nextOf j Fate.Never marks .join) ls (es ++ (entryAt j (Keyed.key k) ∷ [])) marks
+  never-more : (k : Bytes) → known k ls ≡ false → Moves j ls es (Keyed.key k) (nextOf j Fate.Never marks)
   unfolding nextOf
   never-more k h =
       let e = entryAt j (Keyed.key k) in
@@ -99,16 +103,20 @@ module _ (j : Join) (marks : Words) (ls : Store) (es : List Entry) (g : Stood j 
       let short = s .records in
       let u = up-one (j .never) (omega (arith, r, a, short)) in
       record {
-        few = g .few;
-        each = g .each;
-        room = g .room;
-        lots = apart (Keyed.key k) (never-strange k ls h);
-        received = g .received ∙ omega (arith, t);
-        never = u ∙ omega (arith, n, r);
-        keyless = g .keyless ∙ sym f;
+        file = refl;
+        number = up-one (j .number) (s .number);
+        stood = record {
+          few = g .few;
+          each = g .each;
+          room = g .room;
+          lots = apart (Keyed.key k) (never-strange k ls h);
+          received = g .received ∙ omega (arith, t);
+          never = u ∙ omega (arith, n, r);
+          keyless = g .keyless ∙ sym f;
+        };
       }
 
-  keyless-more : (w : Which) (f : Fault) → Stood (nextOf j Fate.Keyless marks .join) ls (es ++ (entryAt j (Keyed.no-key w f) ∷ [])) marks
+  keyless-more : (w : Which) (f : Fault) → Moves j ls es (Keyed.no-key w f) (nextOf j Fate.Keyless marks)
   unfolding nextOf
   keyless-more w f =
       let e = entryAt j (Keyed.no-key w f) in
@@ -120,22 +128,26 @@ module _ (j : Join) (marks : Words) (ls : Store) (es : List Entry) (g : Stood j 
       let short = s .records in
       let u = up-one (j .keyless) (omega (arith, r, a, short)) in
       record {
-        few = g .few;
-        each = g .each;
-        room = g .room;
-        lots = apart (Keyed.no-key w f) (no-key-strange w f ls);
-        received = g .received ∙ omega (arith, t);
-        never = g .never ∙ sym n;
-        keyless = u ∙ omega (arith, k, r);
+        file = refl;
+        number = up-one (j .number) (s .number);
+        stood = record {
+          few = g .few;
+          each = g .each;
+          room = g .room;
+          lots = apart (Keyed.no-key w f) (no-key-strange w f ls);
+          received = g .received ∙ omega (arith, t);
+          never = g .never ∙ sym n;
+          keyless = u ∙ omega (arith, k, r);
+        };
       }
 
-  one-more : (k : Keyed) → Stood (nextOf j (fateIn ls k) marks .join) ls (es ++ (entryAt j k ∷ [])) (nextOf j (fateIn ls k) marks .marks)
+  one-more : (k : Keyed) → Moves j ls es k (nextOf j (fateIn ls k) marks)
   unfolding nextOf
   one-more (Keyed.no-key w f) = keyless-more w f
   one-more (Keyed.key k) = go (known k ls) refl
     where
       go : (b : Bool) → known k ls ≡ b →
-          Stood (nextOf j (cond b (Fate.Under (placeOf k ls)) Fate.Never) marks .join) ls (es ++ (entryAt j (Keyed.key k) ∷ [])) (nextOf j (cond b (Fate.Under (placeOf k ls)) Fate.Never) marks .marks)
+          Moves j ls es (Keyed.key k) (nextOf j (cond b (Fate.Under (placeOf k ls)) Fate.Never) marks)
       go true h = known-more k h
       go false h = never-more k h
 
@@ -144,5 +156,5 @@ promised j fate marks a e = record {
   answer = e;
   more = λ ls es g s k q.
       let same : nextOf j (fateIn ls k) marks ≡ a = ap (λ (x : Fate). nextOf j x marks) (sym q) ∙ sym e in
-      subst (λ (b : After). Stood (b .join) ls (es ++ (entryAt j k ∷ [])) (b .marks)) same (one-more j marks ls es g s k);
+      subst (Moves j ls es k) same (one-more j marks ls es g s k);
 }

@@ -7,3 +7,6 @@ pub mod More
 pub mod Counting
 pub mod Agree
 pub mod Steps
+-- Over all files: the join of a log and a catalogue
+pub mod Twelve
+pub mod Runs

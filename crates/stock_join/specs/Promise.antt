@@ -1,7 +1,7 @@
 -- What fate and step promise, in the words of the store and the join.
 use Prim.Native.Nat.{ℕ, _≤_}
 use mathlib.Core.Path.{_≡_}
-use mathlib.Core.List.{List, [], _∷_, _++_}
+use mathlib.Core.List.{List}
 use lib.ListN.{length}
 use Rattle.store_log.specs.Log.{Bytes}
 use Rattle.store_log.specs.Store.{Store}
@@ -16,7 +16,7 @@ use Rattle.stock_key.specs.Promise.{readOf}
 use Rattle.stock_join.specs.declared.Fate.{Fate}
 use Rattle.stock_join.specs.declared.Join.{Join}
 use Rattle.stock_join.specs.Step.{fateOf, After, nextOf}
-use Rattle.stock_join.specs.Stands.{fateIn, Stood, entryAt, Short}
+use Rattle.stock_join.specs.Stands.{fateIn, Stood, Short, Moves}
 
 -- keys have twelve bytes
 abbrev pub TwelveIn : Keyed → Type 0
@@ -39,5 +39,4 @@ pub record FatePromise (read : KeyRead) (keys : Words) (lots : ℕ) (r : Fate) :
 -- state and memory are fixed for any state, fate and memory; where they say what the join says of some records, they then say it of one more
 pub record Promise (j : Join) (fate : Fate) (marks : Words) (a : After) : Type 0 where
   pub answer : a ≡ nextOf j fate marks
-  pub more : (ls : Store) (es : List Entry) → Stood j ls es marks → Short j es → (k : Keyed) → fate ≡ fateIn ls k →
-      Stood (a .join) ls (es ++ (entryAt j k ∷ [])) (a .marks)
+  pub more : (ls : Store) (es : List Entry) → Stood j ls es marks → Short j es → (k : Keyed) → fate ≡ fateIn ls k → Moves j ls es k a

@@ -1,7 +1,7 @@
 -- Memory and state that say what the join says of the records taken so far.
 use Prim.Native.Nat.{ℕ, _+_, _^_, _<_, _≤_}
 use mathlib.Core.Path.{_≡_}
-use mathlib.Core.List.{List, [], _∷_}
+use mathlib.Core.List.{List, [], _∷_, _++_}
 use mathlib.Core.Bool.{cond}
 use lib.ListN.{length, getD}
 use Rattle.store_log.specs.Store.{Store, known, placeOf}
@@ -12,7 +12,7 @@ use Rattle.stock_rules.specs.Join.{Place, Entry, recordsOf, neverIn, keylessIn,
 use Rattle.stock_rules.specs.EachOnce.{anyRecord, under}
 use Rattle.stock_join.specs.declared.Fate.{Fate}
 use Rattle.stock_join.specs.declared.Join.{Join}
-use Rattle.stock_join.specs.Step.{most}
+use Rattle.stock_join.specs.Step.{most, After}
 
 -- the fate of a record by its key, in the words of the store
 abbrev pub fateIn : Store → Keyed → Fate
@@ -48,3 +48,9 @@ entryAt j k = record { place = record { file = j .file; number = j .number + 1 }
 pub record Short (j : Join) (es : List Entry) : Type 0 where
   pub records : length es < most
   pub number : j .number < most
+
+-- one record more: the state is past it, and says what the join says of all
+pub record Moves (j : Join) (ls : Store) (es : List Entry) (k : Keyed) (a : After) : Type 0 where
+  pub file : a .join .file ≡ j .file
+  pub number : a .join .number ≡ j .number + 1
+  pub stood : Stood (a .join) ls (es ++ (entryAt j k ∷ [])) (a .marks)

@@ -136,7 +136,7 @@ unfolding picked
 all-picked [] = refl
 all-picked (e ∷ es) = ap (λ (ds : List Entry). e ∷ ds) (all-picked es)
 
-records-under : (vs : List Event) (ts : List Told) (ls : Store) (es : List Entry) → recordsIn (lotLines vs ts ls es) ≡ under anyRecord ls es
+pub records-under : (vs : List Event) (ts : List Told) (ls : Store) (es : List Entry) → recordsIn (lotLines vs ts ls es) ≡ under anyRecord ls es
 unfolding lotLines recordsIn under
 records-under vs ts [] es = refl
 records-under vs ts (l ∷ ls) es = ap₂ _+_ (sym (ap length (all-picked (recordsOf (l .key) es)))) (records-under vs ts ls es)
