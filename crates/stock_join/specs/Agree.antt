@@ -15,6 +15,7 @@ use Rattle.store_event.specs.Twelve.{Twelve}
 use Rattle.store_lots.specs.Memory.{Words, placeFrom}
 use Rattle.store_lots.specs.Places.{place-is, known-is}
 use Rattle.stock_rules.specs.Key.{Fault, Which, Keyed}
+use Rattle.stock_rules.specs.Lots.{place-below}
 use Rattle.stock_rules.specs.Join.{Entry, isNever, isKeyless, hasKey, neverIn, keylessIn}
 use Rattle.stock_rules.specs.EachOnce.{anyRecord, under}
 use Rattle.stock_key.specs.declared.KeyRead.{KeyRead}
@@ -25,7 +26,7 @@ use Rattle.stock_join.specs.Step.{placeIn, fateOf, most, upTo, marked, A
 use Rattle.stock_join.specs.Stands.{fateIn, MarksFrom, Stood, entryAt, Short, Moves}
 use Rattle.stock_join.specs.Promise.{TwelveIn, Held, FatePromise, Promise}
 use Rattle.stock_join.specs.More.{length-one, length-same, total, total-more}
-use Rattle.stock_join.specs.Counting.{up-one, mark-length, Strange, never-strange, no-key-strange, place-below, marks-same, marks-more}
+use Rattle.stock_join.specs.Counting.{up-one, mark-length, Strange, never-strange, no-key-strange, marks-same, marks-more}
 
 -- ---- The fate
 

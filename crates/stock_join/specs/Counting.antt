@@ -16,6 +16,7 @@ use Rattle.store_log.specs.Lots.{same-bytes}
 use Rattle.store_log.specs.Entries.{OneEach}
 use Rattle.store_lots.specs.Memory.{Words}
 use Rattle.stock_rules.specs.Key.{Fault, Which, Keyed}
+use Rattle.stock_rules.specs.Lots.{place-below}
 use Rattle.stock_rules.specs.Join.{Place, Entry, hasKey, picked, recordsOf, firstPlace}
 use Rattle.stock_join.specs.Step.{most, upTo, marked}
 use Rattle.stock_join.specs.Stands.{MarkAt, MarksFrom}
@@ -133,15 +134,6 @@ no-key-strange w f (l ∷ ls) = (refl, no-key-strange w f ls)
 
 few-picked : (f : Entry → Bool) (es : List Entry) → length es < most → length (picked f es) < most
 few-picked f es h = let l = picked-less f es in omega (arith, l)
-
-pub place-below : (k : Bytes) (ls : Store) → known k ls ≡ true → placeOf k ls < length ls
-unfolding known placeOf
-place-below k [] h = absurd (false≢true h)
-place-below k (l ∷ ls) h = go (sameBytes k (l .key)) h (place-below k ls)
-  where
-    go : (b : Bool) → cond b true (known k ls) ≡ true → (known k ls ≡ true → placeOf k ls < length ls) → cond b 0 (suc (placeOf k ls)) < suc (length ls)
-    go true q again = omega arith
-    go false q again = let l = again q in omega arith
 
 module _ (es : List Entry) (e : Entry) where
   pub marks-same : (marks ms : Words) (i : ℕ) (ls : Store) → ((j : ℕ) → i ≤ j → j < i + length ls → Same marks ms j) → Strange (e .keyed) ls →

@@ -5,4 +5,5 @@ pub mod Join
 pub mod OneKey
 pub mod EachOnce
 pub mod Places
+pub mod Lots
 pub mod Samples
