@@ -37,7 +37,7 @@ enum Next {
 }
 
 // Where the first record of the bytes ends.
-enum Ends {
+pub enum Ends {
     At { length: usize, lines: usize },
     Beyond,
 }
@@ -179,8 +179,8 @@ fn is_last(line: &[u8], lines: usize) -> bool {
     }
 }
 
-// A line has at least one byte, so the bytes are more turns than are needed.
-fn first_end(s: &[u8]) -> Ends {
+// Of a record that was accepted. A line has at least one byte, so the bytes are more turns than are needed.
+pub fn first_end(s: &[u8]) -> Ends {
     let mut at: usize = 0;
     let mut lines: usize = 0;
     let mut turns = s.len();

@@ -10,6 +10,7 @@ enum Verb {
     Replay,
     Same,
     Mend,
+    Stock,
     Unknown,
 }
 
@@ -37,6 +38,9 @@ fn asked() -> Verb {
     }
     if program_io::is_argument(1, b"mend") {
         return Verb::Mend;
+    }
+    if program_io::is_argument(1, b"stock") {
+        return Verb::Stock;
     }
     Verb::Unknown
 }
@@ -78,6 +82,7 @@ fn main() {
         Verb::Replay => program_replay::run(2),
         Verb::Same => program_pairs::run(),
         Verb::Mend => program_mend::run(),
+        Verb::Stock => program_stock::run(),
         Verb::Unknown => {
             io::write_all(
                 libc::STDERR_FILENO,
