@@ -99,31 +99,28 @@ def compare(data, name, what):
 
 rng = random.Random(31)
 name = sys.argv[1] + "/many.sdf"
-small = [sized_record(rng, 600 + k % 90) for k in range(1000)]
+small = [sized_record(rng, 900 + k % 90) for k in range(1000)]
 spoilt = rng.sample(range(1000), 30)
 for k in spoilt:
-    while True:
-        lines = small[k].split(b"\n")
-        j = rng.randrange(3, len(lines) - 2)
-        lines[j] = rng.choice((b"x" * 90, b"", b"$$$$", b">  <A>", lines[j] + b"\xe9"))
-        data = b"\n".join(lines)
-        if check(1, data)[0] == "refused" and data.count(b"\n$$$$\n") == 1:
-            small[k] = data
-            break
+    lines = small[k].split(b"\n")
+    j = rng.randrange(3, len(lines) - 3)
+    lines[j] = rng.choice((b"x" * 201, lines[j] + b"\xe9"))
+    small[k] = b"\n".join(lines)
 found = compare(b"".join(small), name, "1000 records")
 if found != (30, 970):
     print("1000 records with 30 bad ones:", found)
     sys.exit(1)
 for turn in range(25):
-    data = b"".join(damaged(rng, 1) if rng.random() < .6 else sized_record(rng, 400) for _ in range(rng.randrange(1, 7)))
+    data = b"".join(damaged(rng, 1) if rng.random() < .6 else sized_record(rng, 900) for _ in range(rng.randrange(1, 7)))
     compare(data, name, "damaged files %d" % turn)
 # A record longer than the buffer, and one that its end cuts.
 bad = small[spoilt[0]]
 number, line, column = check(1, bad)[1:]
 filler = b"A" * 200 + b"\n"
-long = small[spoilt[0] - 1 if spoilt[0] - 1 not in spoilt else 0].replace(b"\n\n$$$$", b"\n" + filler * 6000 + b"\n$$$$", 1)
+good = small[next(k for k in range(1000) if k not in spoilt)]
+long = good[:-6] + filler * 6000 + b"\n$$$$\n"
 lines, more = bad.count(b"\n"), long.count(b"\n")
-theirs = told(bad + long + bad + small[spoilt[0] - 1], name)
+theirs = told(bad + long + bad + good, name)
 mine = [(1, number, line, column), (2, None, lines + 1, None), (3, number, lines + more + line, column)]
 if theirs[0] != mine or theirs[1:] != (1, 3):
     print("a record longer than the buffer:", theirs, mine)
