@@ -74,35 +74,40 @@ no-skip : (l : List ℤ) (s k : ℕ) (d : Difference) → s ≤ 0 → log (putAt
 no-skip l zero k d h = refl
 no-skip l (suc s) k d h = absurd (omega arith)
 
-module _ (l : List ℤ) (c : Count) (r : ℕ) (p : Place) (side : ℕ) (left right : ℤ) (z : c .skip ≤ 0) (u : r ≡ up (c .seen)) where
-  pub put-full : length l / 7 ≤ c .seen → log l (seen r) ≡ noted (log l c) (record { at = p; side = side; left = left; right = right } ∷ [])
-  unfolding noted putAt
-  put-full h =
-      let f : putAt l (c .seen) (row (record { at = p; side = side; left = left; right = right })) ≡ l = rw (le-ltb (c .seen) (length l / 7) h) in
-      ap₂ (λ (t : List ℤ) (k : ℕ). log t (seen k)) (sym f) u ∙ no-skip l (c .skip) (c .seen) (record { at = p; side = side; left = left; right = right }) z
+pub put-one : (l m : List ℤ) (c : Count) (r : ℕ) (p : Place) (side : ℕ) (left right v w : ℤ) → c .skip ≤ 0 → r ≡ up (c .seen) → v ≡ left → w ≡ right →
+    m ≡ putAt l (c .seen) (row (record { at = p; side = side; left = v; right = w })) →
+    log m (seen r) ≡ noted (log l c) (record { at = p; side = side; left = left; right = right } ∷ [])
+unfolding noted
+put-one l m c r p side left right v w z u i j e =
+    ap₂ (λ (t : List ℤ) (k : ℕ). log t (seen k)) (e ∙ ap₂ (λ (x y : ℤ). putAt l (c .seen) (row (record { at = p; side = side; left = x; right = y }))) i j) u
+    ∙ no-skip l (c .skip) (c .seen) (record { at = p; side = side; left = left; right = right }) z
 
-  pub put-room : c .seen < length l / 7 →
-      {m₁ m₂ m₃ m₄ m₅ m₆ m : List ℤ} {v₁ v₂ v₃ v₄ v₅ v₆ v₇ : ℤ} →
-      m₁ ≡ set l (7 * c .seen) v₁ → v₁ ≡ pos (p .position) →
-      m₂ ≡ set m₁ (7 * c .seen + 1) v₂ → v₂ ≡ pos (p .part) →
-      m₃ ≡ set m₂ (7 * c .seen + 2) v₃ → v₃ ≡ pos (p .index) →
-      m₄ ≡ set m₃ (7 * c .seen + 3) v₄ → v₄ ≡ pos (p .field) →
-      m₅ ≡ set m₄ (7 * c .seen + 4) v₅ → v₅ ≡ pos side →
-      m₆ ≡ set m₅ (7 * c .seen + 5) v₆ → v₆ ≡ left →
-      m ≡ set m₆ (7 * c .seen + 6) v₇ → v₇ ≡ right →
-      log m (seen r) ≡ noted (log l c) (record { at = p; side = side; left = left; right = right } ∷ [])
-  unfolding noted putAt
-  put-room h {m = m} e₁ q₁ e₂ q₂ e₃ q₃ e₄ q₄ e₅ q₅ e₆ q₆ e₇ q₇ =
-      let k = c .seen in
-      let a : 7 * k + 1 ≡ suc (7 * k) = omega arith in
-      let b : 7 * k + 2 ≡ suc (suc (7 * k)) = omega arith in
-      let j : 7 * k + 3 ≡ suc (suc (suc (7 * k))) = omega arith in
-      let d : 7 * k + 4 ≡ suc (suc (suc (suc (7 * k)))) = omega arith in
-      let f : 7 * k + 5 ≡ suc (suc (suc (suc (suc (7 * k))))) = omega arith in
-      let g : 7 * k + 6 ≡ suc (suc (suc (suc (suc (suc (7 * k)))))) = omega arith in
-      let t : m ≡ putAt l k (row (record { at = p; side = side; left = left; right = right })) =
-      rw (lt-ltb k (length l / 7) h, e₇, e₆, e₅, e₄, e₃, e₂, e₁, q₁, q₂, q₃, q₄, q₅, q₆, q₇, a, b, j, d, f, g) in
-      ap₂ (λ (t : List ℤ) (n : ℕ). log t (seen n)) t u ∙ no-skip l (c .skip) k (record { at = p; side = side; left = left; right = right }) z
+pub put-full : (l : List ℤ) (k : ℕ) (t : List ℤ) → length l / 7 ≤ k → l ≡ putAt l k t
+unfolding putAt
+put-full l k t h = rw (le-ltb k (length l / 7) h)
+
+pub put-room : (l : List ℤ) (k : ℕ) (d : Difference) → k < length l / 7 →
+    {m₁ m₂ m₃ m₄ m₅ m₆ m : List ℤ} {v₁ v₂ v₃ v₄ v₅ v₆ v₇ : ℤ} →
+    m₁ ≡ set l (7 * k) v₁ → v₁ ≡ pos (d .at .position) →
+    m₂ ≡ set m₁ (7 * k + 1) v₂ → v₂ ≡ pos (d .at .part) →
+    m₃ ≡ set m₂ (7 * k + 2) v₃ → v₃ ≡ pos (d .at .index) →
+    m₄ ≡ set m₃ (7 * k + 3) v₄ → v₄ ≡ pos (d .at .field) →
+    m₅ ≡ set m₄ (7 * k + 4) v₅ → v₅ ≡ pos (d .side) →
+    m₆ ≡ set m₅ (7 * k + 5) v₆ → v₆ ≡ d .left →
+    m ≡ set m₆ (7 * k + 6) v₇ → v₇ ≡ d .right →
+    m ≡ putAt l k (row d)
+unfolding putAt
+put-room l k d h e₁ q₁ e₂ q₂ e₃ q₃ e₄ q₄ e₅ q₅ e₆ q₆ e₇ q₇ =
+    let a : 7 * k + 1 ≡ suc (7 * k) = omega arith in
+    let b : 7 * k + 2 ≡ suc (suc (7 * k)) = omega arith in
+    let c : 7 * k + 3 ≡ suc (suc (suc (7 * k))) = omega arith in
+    let f : 7 * k + 4 ≡ suc (suc (suc (suc (7 * k)))) = omega arith in
+    let g : 7 * k + 5 ≡ suc (suc (suc (suc (suc (7 * k))))) = omega arith in
+    let i : 7 * k + 6 ≡ suc (suc (suc (suc (suc (suc (7 * k)))))) = omega arith in
+    rw (lt-ltb k (length l / 7) h, e₇, e₆, e₅, e₄, e₃, e₂, e₁, q₁, q₂, q₃, q₄, q₅, q₆, q₇, a, b, c, f, g, i)
+
+pub row-fits : (l : List ℤ) (k i : ℕ) → length l * 8 < 2 ^ 63 → k < length l / 7 → i < 7 → 7 * k + i < 2 ^ 64
+row-fits l k i h f g = omega arith
 
 pub ruleset log-laws = (set-past, up-more, up-most, noted-none, put-skip, put-full)
 
