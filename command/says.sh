@@ -33,6 +33,8 @@ sentence() { # NUMBER COLUMN
     32) echo "groups of this formula are nested more than 8 deep" ;;
     33) echo "this formula has more than 9,999 atoms of an element" ;;
     34) echo "an atom is A, Q, * or LP, so the record cannot be compared with a formula" ;;
+    36) echo "the first of two files compared is not good" ;;
+    37) echo "the second of two files compared is not good" ;;
     *) echo "no sentence for this number" ;;
     esac
 }
