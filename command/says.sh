@@ -34,6 +34,8 @@ sentence() { # NUMBER COLUMN
     33) echo "this formula has more than 9,999 atoms of an element" ;;
     34) echo "an atom is A, Q, * or LP, so the record cannot be compared with a formula" ;;
     35) echo "the rows lent have room for fewer than a record may have" ;;
+    36) echo "the first of two files compared is not good" ;;
+    37) echo "the second of two files compared is not good" ;;
     38) echo "the room lent is shorter than the mended text" ;;
     39) echo "the list lent is too short" ;;
     *) echo "no sentence for this number" ;;

@@ -47,8 +47,10 @@
      33  a formula names an element more than 9,999 times
      34  a symbol in the atom table is no element (119 to 122)
      35  the rows lent are fewer than CAPELLANOTE_ROWS words
+     36  the first of two files compared is not good
+     37  the second of two files compared is not good
      38  the room lent is shorter than the mended text
-     39  the list lent is too short
+     39  the list lent is too short for all entries
 
    Tables
      An atom is 16 numbers: x, y, z in ten-thousandths, symbol (1 to 118 by atomic number, 119 A, 120 Q, 121 *, 122 LP),
@@ -68,7 +70,8 @@ typedef int capellanote_int;            /* 32 bits, signed */
 typedef unsigned int capellanote_count; /* 32 bits */
 typedef unsigned long capellanote_size; /* 64 bits */
 typedef unsigned long capellanote_word; /* 64 bits */
-typedef char capellanote_widths[sizeof(capellanote_int) == 4 && sizeof(capellanote_size) == 8 ? 1 : -1];
+typedef long capellanote_signed;        /* 64 bits, signed */
+typedef char capellanote_widths[sizeof(capellanote_int) == 4 && sizeof(capellanote_size) == 8 && sizeof(capellanote_signed) == 8 ? 1 : -1];
 
 enum { CAPELLANOTE_MOLFILE = 0, CAPELLANOTE_SDFILE = 1 };
 
@@ -219,6 +222,28 @@ void capellanote_write_catalogue(const capellanote_byte *text, capellanote_size 
                                  capellanote_byte *room, capellanote_size room_length,
                                  capellanote_size answer[3]);
 
+/* ---- Two files compared */
+
+enum { CAPELLANOTE_DIFFERENCE = 7 };
+
+/* What differs between two SDfiles, record by record; the four tables are for the work in between.
+   A difference is seven numbers: record, part, place, field, side, left, right. Numbers count from 1, and are 0 where there is none.
+   Parts: 1 header line (place: its number), 2 number of atoms, 3 number of bonds, 4 chiral, 5 atom and 6 bond (place: its number up to the
+   smaller count, field: the number in its row), 7 name of an item (place: the item), 8 value line (place: the item, field: the line), 9 item
+   (place: the item) and 10 record that stands on one side only, listed once. Side: 0 on both, 1 in the first file only, 2 in the second only.
+   Left and right are both figures where figures differ, and 0 for texts.
+   Judged in this order: 2, 36 and 37 with the line and column of that file's own refusal, 39.
+   Accepted: answer = { 0, number of differences, 0 }: they stand at the front of the list, and the rest of it is as it was.
+   Refused: nothing is written to the list. Except after 2, the first CAPELLANOTE_LIMIT rows of the tables end as zeros. */
+void capellanote_compare(const capellanote_byte *old_text, capellanote_size old_length,
+                         const capellanote_byte *new_text, capellanote_size new_length,
+                         capellanote_int *old_atoms, capellanote_size old_atoms_length,
+                         capellanote_int *old_bonds, capellanote_size old_bonds_length,
+                         capellanote_int *new_atoms, capellanote_size new_atoms_length,
+                         capellanote_int *new_bonds, capellanote_size new_bonds_length,
+                         capellanote_signed *list, capellanote_size list_length,
+                         capellanote_size answer[3]);
+
 /* ---- A formula against the structure */
 
 enum { CAPELLANOTE_FOUND = 118 * 3 };
@@ -256,9 +281,6 @@ void capellanote_mend(const capellanote_byte *text, capellanote_size text_length
                       capellanote_size answer[3]);
 
 /* ---- The replay of a scanner log */
-
-typedef long capellanote_signed; /* 64 bits, signed */
-typedef char capellanote_signed_width[sizeof(capellanote_signed) == 8 ? 1 : -1];
 
 enum { CAPELLANOTE_LOTS = 512, CAPELLANOTE_KEYS = 3 * 512 };
 

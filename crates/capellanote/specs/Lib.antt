@@ -11,3 +11,4 @@ pub mod Replay
 pub mod Pieces
 pub mod Formula
 pub mod Mend
+pub mod Compare

@@ -5,10 +5,11 @@ use program_io::Text;
 use program_json_rows::ATOMS;
 use program_json_rows::BONDS;
 use program_verdict::Verdict;
-use source::BUFFER;
+pub use source::BUFFER;
+pub use source::More;
 use source::Next;
 use source::ROOM;
-use source::Source;
+pub use source::Source;
 use text::LineAt;
 
 // What two accepted files are to each other.
@@ -211,7 +212,7 @@ fn hold_texts(
 }
 
 // What has no place to go back to, as a pipe, is not read at all.
-fn judge(fd: i32, buf: &mut [u8; BUFFER], progress: bool) -> Verdict {
+pub fn judge(fd: i32, buf: &mut [u8; BUFFER], progress: bool) -> Verdict {
     if libc::lseek(fd, 0, libc::SEEK_CUR) < 0 {
         return Verdict::Once;
     }
@@ -223,7 +224,7 @@ fn judge(fd: i32, buf: &mut [u8; BUFFER], progress: bool) -> Verdict {
 }
 
 // A file's verdict, told; whether it is accepted.
-fn is_accepted(name: &[u8], v: Verdict) -> bool {
+pub fn is_accepted(name: &[u8], v: Verdict) -> bool {
     program_verdict::tell(name, v);
     match v {
         Verdict::Accepted { records: _ } => true,

@@ -13,10 +13,10 @@ pub const ROOM: usize = 1310720;
 
 // The bytes from `at` to before `filled` stand in the buffer; nothing follows them once it has ended.
 pub struct Source {
-    fd: i32,
-    at: usize,
-    filled: usize,
-    ended: bool,
+    pub fd: i32,
+    pub at: usize,
+    pub filled: usize,
+    pub ended: bool,
 }
 
 // The text of the next record, of so many bytes at the front of the room, and the file behind it.
@@ -29,7 +29,7 @@ pub enum Next {
 }
 
 // What filling the buffer came to.
-enum More {
+pub enum More {
     Source(Source),
     Failed,
 }
@@ -45,7 +45,7 @@ impl Source {
     }
 
     // Behind so many bytes; never past what is filled.
-    fn past(self, taken: usize) -> Source {
+    pub fn past(self, taken: usize) -> Source {
         let mut next = self;
         if self.at <= usize::MAX - taken {
             next.at = self.at + taken;
@@ -54,7 +54,7 @@ impl Source {
     }
 
     // The file has no more records: every byte of it is used up.
-    fn is_over(self, left: usize) -> bool {
+    pub fn is_over(self, left: usize) -> bool {
         if self.ended {
             return left == 0;
         }
@@ -62,7 +62,7 @@ impl Source {
     }
 
     // The rest moved to the front, and more read behind it.
-    fn fill(self, buf: &mut [u8; BUFFER]) -> More {
+    pub fn fill(self, buf: &mut [u8; BUFFER]) -> More {
         let kept = program_io::keep(buf, self.at, self.filled);
         match program_io::fill(self.fd, buf, kept) {
             Filled::Bytes(n) => More::Source(Source {

@@ -11,6 +11,7 @@ enum Verb {
     Same,
     Mend,
     Stock,
+    Compare,
     Unknown,
 }
 
@@ -41,6 +42,9 @@ fn asked() -> Verb {
     }
     if program_io::is_argument(1, b"stock") {
         return Verb::Stock;
+    }
+    if program_io::is_argument(1, b"compare") {
+        return Verb::Compare;
     }
     Verb::Unknown
 }
@@ -83,6 +87,7 @@ fn main() {
         Verb::Same => program_pairs::run(),
         Verb::Mend => program_mend::run(),
         Verb::Stock => program_stock::run(),
+        Verb::Compare => program_compare::run(),
         Verb::Unknown => {
             io::write_all(
                 libc::STDERR_FILENO,

@@ -1,0 +1,25 @@
+use borrow.Author.Needs.{needs}
+use Rattle.compare_files.specs.Judging.{judge-laws}
+use Rattle.compare_files.proofs.judge_second.Statement.{statement}
+use Rattle.compare_files.proofs.judge_second.Tie as tie
+use Rattle.compare_files.proofs.judge_second.Reads as reads
+use Rattle.reader_check.proofs.check.Reads as check-reads
+
+check-requires : tie.Need-check-requires
+check-requires c κs = search needs
+
+enum-known-more : tie.Need-enum-known-more
+enum-known-more c = search needs
+
+enum-known-line : tie.Need-enum-known-line
+enum-known-line c = search needs
+
+returns : tie.Need-returns
+returns c = search (needs, judge-laws)
+
+returns-2 : tie.Need-returns-2
+returns-2 c = search (needs, judge-laws)
+
+pub judge-second-spec : {M : Type 1} → statement M
+judge-second-spec =
+    tie.close (tie.spec check-requires enum-known-more enum-known-line returns returns-2)

@@ -1,0 +1,65 @@
+use borrow.Author.Needs.{needs}
+use mathlib.Core.Path.{_≡_}
+use lib.ListN.{length}
+use Rattle.program_compare.proofs.put_rows.Statement.{statement}
+use Rattle.program_compare.proofs.put_rows.Tie as tie
+use Rattle.program_compare.proofs.put_rows.Reads as reads
+use Rattle.program_compare.proofs.say.row_at.Reads as row-at-reads
+use Rattle.program_compare.proofs.tell.put_row.Reads as put-row-reads
+
+abbrev Inv-loop : tie.InvT-loop
+Inv-loop room₀ form list count s x u y next₀ left₀ at₀ room next left at = length room ≡ length room₀
+
+abbrev μ-loop : tie.MeasureT-loop
+μ-loop room₀ form list count s x u y next₀ left₀ at₀ room next left at = left
+
+loop-holds : tie.Need-loop-holds Inv-loop μ-loop
+loop-holds c = search needs
+
+same-length : tie.Need-same-length Inv-loop μ-loop
+same-length c = search needs
+
+returns : tie.Need-returns Inv-loop μ-loop
+returns c = search needs
+
+row-at-requires : tie.Need-row-at-requires Inv-loop μ-loop
+row-at-requires c κs = search needs
+
+put-row-requires : tie.Need-put-row-requires Inv-loop μ-loop
+put-row-requires c κs = search needs
+
+behind-row-requires : tie.Need-behind-row-requires Inv-loop μ-loop
+behind-row-requires c κs = search needs
+
+sub-left : tie.Need-sub-left Inv-loop μ-loop
+sub-left c = search needs
+
+loop-less : tie.Need-loop-less Inv-loop μ-loop
+loop-less c = search needs
+
+loop-again : tie.Need-loop-again Inv-loop μ-loop
+loop-again c = search needs
+
+same-length-2 : tie.Need-same-length-2 Inv-loop μ-loop
+same-length-2 c = search needs
+
+returns-2 : tie.Need-returns-2 Inv-loop μ-loop
+returns-2 c = search needs
+
+pub put-rows-spec : {M : Type 1} → statement M
+put-rows-spec =
+    tie.close
+    (tie.spec
+    Inv-loop
+    μ-loop
+    loop-holds
+    same-length
+    returns
+    row-at-requires
+    put-row-requires
+    behind-row-requires
+    sub-left
+    loop-less
+    loop-again
+    same-length-2
+    returns-2)

@@ -1,0 +1,156 @@
+// The lines of a record's header and items, found by their numbers. Differences come in order, so the walk over the items only goes on.
+use line_text::ItemRead;
+use text::LineAt;
+
+// Header line k; an empty one where there is none.
+pub fn header_line(s: &[u8], k: u64) -> &[u8] {
+    let mut at: usize = 0;
+    let mut left = k;
+    while left > 0 {
+        let LineAt::Line { end, next } = text::line_at(s, at) else {
+            return program_io::front(s, 0);
+        };
+        if left == 1 {
+            return program_json::part(s, at, end);
+        }
+        at = next;
+        left -= 1;
+    }
+    program_io::front(s, 0)
+}
+
+// A line of the items: its item and its number among the value lines of that, 0 for the data header or the blank line; where it stands, and where the
+// item's name does.
+pub struct Spot {
+    pub item: u64,
+    pub line: u64,
+    start: usize,
+    end: usize,
+    next: usize,
+    inside: bool,
+    name_from: usize,
+    name_to: usize,
+}
+
+// Where the name in a data header stands.
+struct Span {
+    from: usize,
+    to: usize,
+}
+
+fn span_of(line: &[u8]) -> Span {
+    match line_text::item_line(line) {
+        ItemRead::Title { from, to } => Span { from, to },
+        ItemRead::Close => Span { from: 0, to: 0 },
+        ItemRead::Bad { no: _, column: _ } => Span { from: 0, to: 0 },
+    }
+}
+
+// A sum that stays at the largest number.
+fn sum(a: usize, b: usize) -> usize {
+    if usize::MAX - a < b {
+        return usize::MAX;
+    }
+    a + b
+}
+
+fn up(n: u64) -> u64 {
+    if n < u64::MAX {
+        return n + 1;
+    }
+    n
+}
+
+impl Spot {
+    // Before the first item.
+    pub fn new() -> Spot {
+        Spot {
+            item: 0,
+            line: 0,
+            start: 0,
+            end: 0,
+            next: 0,
+            inside: false,
+            name_from: 0,
+            name_to: 0,
+        }
+    }
+
+    // On the data header from `start` to `end`.
+    fn header(self, s: &[u8], end: usize, next: usize) -> Spot {
+        let start = self.next;
+        let name = span_of(program_json::part(s, start, end));
+        Spot {
+            item: up(self.item),
+            line: 0,
+            start,
+            end,
+            next,
+            inside: true,
+            name_from: sum(start, name.from),
+            name_to: sum(start, name.to),
+        }
+    }
+
+    // On a value line, or on the blank line after the values.
+    fn inner(self, s: &[u8], end: usize, next: usize) -> Spot {
+        let mut spot = self;
+        spot.start = self.next;
+        spot.end = end;
+        spot.next = next;
+        if text::is_blank(program_json::part(s, self.next, end)) {
+            spot.inside = false;
+        } else {
+            spot.line = up(self.line);
+        }
+        spot
+    }
+
+    // On no line, behind the last.
+    fn over(self) -> Spot {
+        let mut spot = self;
+        spot.item = u64::MAX;
+        spot
+    }
+
+    // One line on.
+    fn step(self, s: &[u8]) -> Spot {
+        let LineAt::Line { end, next } = text::line_at(s, self.next) else {
+            return self.over();
+        };
+        if self.inside {
+            return self.inner(s, end, next);
+        }
+        self.header(s, end, next)
+    }
+
+    // Whether it stands at this line, or behind it.
+    fn is_at(self, item: u64, line: u64) -> bool {
+        if self.item == item {
+            return line <= self.line;
+        }
+        item < self.item
+    }
+
+    // On to a line of an item. A line has at least one byte, so the bytes are more turns than are needed.
+    pub fn seek(self, s: &[u8], item: u64, line: u64) -> Spot {
+        let mut spot = self;
+        let mut turns = s.len();
+        while turns > 0 {
+            if spot.is_at(item, line) {
+                return spot;
+            }
+            spot = spot.step(s);
+            turns -= 1;
+        }
+        spot
+    }
+
+    pub fn text_in(self, s: &[u8]) -> &[u8] {
+        program_json::part(s, self.start, self.end)
+    }
+
+    pub fn name_in(self, s: &[u8]) -> &[u8] {
+        program_json::part(s, self.name_from, self.name_to)
+    }
+}
