@@ -243,7 +243,8 @@ fn copy_numbers(to: &mut [u32], from: &[u32], n: usize)
     }
 }
 
-fn is_done(r: Tallied) -> bool
+// Whether nothing was refused.
+pub fn is_done(r: Tallied) -> bool
     ensures { λ b. ⌜ b ≡ isDone r ⌝ }
 {
     match r {
