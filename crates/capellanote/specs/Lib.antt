@@ -10,3 +10,4 @@ pub mod Feed
 pub mod Replay
 pub mod Pieces
 pub mod Formula
+pub mod Tally

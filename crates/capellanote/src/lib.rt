@@ -3,6 +3,7 @@
 mod formula;
 mod pieces;
 mod replay;
+mod tally;
 
 ghost use mathlib.Core.Path.{_≡_};
 ghost use lib.ListN.{length};
