@@ -9,6 +9,7 @@ enum Verb {
     Formula,
     Replay,
     Same,
+    Tally,
     Unknown,
 }
 
@@ -33,6 +34,9 @@ fn asked() -> Verb {
     }
     if program_io::is_argument(1, b"same") {
         return Verb::Same;
+    }
+    if program_io::is_argument(1, b"tally") {
+        return Verb::Tally;
     }
     Verb::Unknown
 }
@@ -73,6 +77,7 @@ fn main() {
         Verb::Formula => formula(),
         Verb::Replay => program_replay::run(2),
         Verb::Same => program_pairs::run(),
+        Verb::Tally => program_tally::run(2),
         Verb::Unknown => {
             io::write_all(
                 libc::STDERR_FILENO,
