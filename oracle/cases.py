@@ -8,6 +8,8 @@ from limit import LIMIT
 from mending import mend
 from pieces import split_record
 from scanner import replay
+from suppliers import Memory, add
+from tally import Tally
 from writer import copy_record, write_catalogue, write_record
 
 MODULUS = 4294967291        # the greatest prime below 2**32
@@ -82,6 +84,11 @@ def formula_case(atom_room, bond_room, data):
     return head("formula", atom_room, bond_room, len(data)) + block(data)
 
 
+def tally_case(tally, room, data):
+    first = head("tally", room, len(tally.entries), tally.missing, tally.total, len(data))
+    return first + b"".join(b"%d %s\n" % (count, name) for name, count in tally.entries) + block(data)
+
+
 def mend_case(room, list_room, data):
     return head("mend", room, list_room, len(data)) + block(data)
 
@@ -110,6 +117,13 @@ class Reader:
         end = self.data.index(b"\n", self.at)
         text, self.at = self.data[self.at:end].decode(), end + 1
         return text.split(" ")
+
+    def row(self):
+        """A line of a number, a space and any bytes."""
+        end = self.data.index(b"\n", self.at)
+        number, text = self.data[self.at:end].split(b" ", 1)
+        self.at = end + 1
+        return int(number), text
 
     def block(self, size):
         text, self.at = self.data[self.at:self.at + size], self.at + size + 1
@@ -208,6 +222,16 @@ def answer_mend(reader, room, list_room, size):
     return verdict(answer) + " list %d room %d" % (digest(told), digest(lent))
 
 
+def answer_tally(reader, room, entries, missing, total, size):
+    listed = [reader.row() for _ in range(entries)]
+    before = Tally(tuple((name, count) for count, name in listed), missing, total)
+    memory = Memory(room, before.entries, lent_room)
+    answer, after = add(before, room, reader.block(size))
+    if after is not before:
+        memory.follow(before.entries, after.entries)
+    return answer + " entries %d missing %d total %d list %d" % (len(after.entries), after.missing, after.total, digest(memory.numbers()))
+
+
 def answer_replay(reader, size):
     store = replay(reader.block(size))
     told = []
@@ -227,7 +251,7 @@ OPERATIONS = {
     "read": answer_read_rows if BOND_ROWS else answer_read, "fetch": answer_fetch, "write": answer_write,
     "catalogue": answer_catalogue, "copy": answer_copy, "feed": answer_feed,
     "next": answer_next, "replay": answer_replay, "formula": answer_formula,
-    "pieces": answer_pieces, "mend": answer_mend}
+    "pieces": answer_pieces, "mend": answer_mend, "tally": answer_tally}
 
 
 def answers(data):

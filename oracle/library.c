@@ -287,6 +287,58 @@ static void mend_case(const size *n)
     print_room(n[0]);
 }
 
+/* ---- Bottles per supplier */
+
+enum { SUPPLIERS = 70 };
+static byte names[SUPPLIERS * CAPELLANOTE_SUPPLIER];
+static unsigned int lengths[SUPPLIERS], counts[SUPPLIERS];
+
+/* A line of a count, a space and a name; of a name that is too long as much as there is place for. */
+static void supplier(size k)
+{
+    counts[k] = number(4294967295);
+    pass(' ');
+    lengths[k] = 0;
+    for (; at < end && *at != '\n'; at++) {
+        if (lengths[k] < CAPELLANOTE_SUPPLIER)
+            names[CAPELLANOTE_SUPPLIER * k + lengths[k]] = *at;
+        lengths[k]++;
+    }
+    pass('\n');
+}
+
+static size step_list(size digest, size length)
+{
+    for (size k = 0; k < CAPELLANOTE_SUPPLIER * length; k++)
+        digest = step(digest, names[k]);
+    for (size k = 0; k < length; k++)
+        digest = step(digest, lengths[k]);
+    for (size k = 0; k < length; k++)
+        digest = step(digest, counts[k]);
+    return digest;
+}
+
+/* ROOM ENTRIES MISSING TOTAL SIZE */
+static void tally_case(const size *n)
+{
+    size answer[4], length = n[0];
+    unsigned int totals[3] = { n[1], n[2], n[3] };
+    if (n[1] > length)
+        bad();
+    for (size k = 0; k < CAPELLANOTE_SUPPLIER * length; k++)
+        names[k] = (7 * k + 13) % 251;
+    for (size k = 0; k < length; k++)
+        lengths[k] = counts[k] = 1000003 + k;
+    for (size k = 0; k < n[1]; k++)
+        supplier(k);
+    capellanote_tally(block(n[4]), n[4], names, CAPELLANOTE_SUPPLIER * length, lengths, length, counts, length, totals, answer);
+    if (refused(answer))
+        printf(" record %lu", answer[3]);
+    else
+        printf("accepted %lu", answer[1]);
+    printf(" entries %u missing %u total %u list %lu", totals[0], totals[1], totals[2], step_list(1, length));
+}
+
 /* ---- A formula against the structure */
 
 static unsigned int found[CAPELLANOTE_FOUND];
@@ -371,6 +423,7 @@ static const struct { const char *word; void (*answer)(const size *); size count
     { "catalogue ", catalogue_case, 4, { ROWS, ROWS, ROOM - 1, MOST } },
     { "formula ", formula_case, 3, { ROWS, ROWS, MOST } },
     { "replay ", replay_case, 1, { MOST } },
+    { "tally ", tally_case, 5, { SUPPLIERS, SUPPLIERS, 4294967295, 4294967295, MOST } },
     { "mend ", mend_case, 3, { ROOM - 1, LIST / 2, MOST } },
 };
 
