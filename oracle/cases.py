@@ -3,6 +3,7 @@
 from bond_rows import ROWS, WORDS, halves, read_with_rows
 from counter import feed
 from ctfile import check, fetch, next_record, pairs_compared, read_record
+from deliveries import compare_into, seven
 from formula import FOUND, compare_formula
 from limit import LIMIT
 from mending import mend
@@ -82,6 +83,10 @@ def next_case(cursor, atom_room, bond_room, data):
 
 def formula_case(atom_room, bond_room, data):
     return head("formula", atom_room, bond_room, len(data)) + block(data)
+
+
+def changes_case(rooms, list_room, old, new):
+    return head("changes", *rooms, list_room, len(old), len(new)) + block(old) + block(new)
 
 
 def tally_case(tally, room, data):
@@ -222,6 +227,14 @@ def answer_mend(reader, room, list_room, size):
     return verdict(answer) + " list %d room %d" % (digest(told), digest(lent))
 
 
+def answer_changes(reader, old_atoms, old_bonds, new_atoms, new_bonds, list_room, old_size, new_size):
+    tables = [table(old_atoms, 16), table(old_bonds, 6), table(new_atoms, 16), table(new_bonds, 6)]
+    old, told = reader.block(old_size), table(list_room, 7)
+    answer, found = compare_into(old, reader.block(new_size), tables, list_room)
+    told[:7 * len(found)] = [number for difference in found for number in seven(difference)]
+    return verdict(answer) + " list %d old%s new%s" % (digest(told), tables_text(*tables[:2]), tables_text(*tables[2:]))
+
+
 def answer_tally(reader, room, entries, missing, total, size):
     listed = [reader.row() for _ in range(entries)]
     before = Tally(tuple((name, count) for count, name in listed), missing, total)
@@ -251,7 +264,7 @@ OPERATIONS = {
     "read": answer_read_rows if BOND_ROWS else answer_read, "fetch": answer_fetch, "write": answer_write,
     "catalogue": answer_catalogue, "copy": answer_copy, "feed": answer_feed,
     "next": answer_next, "replay": answer_replay, "formula": answer_formula,
-    "pieces": answer_pieces, "mend": answer_mend, "tally": answer_tally}
+    "pieces": answer_pieces, "mend": answer_mend, "tally": answer_tally, "changes": answer_changes}
 
 
 def answers(data):

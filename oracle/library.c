@@ -339,6 +339,36 @@ static void tally_case(const size *n)
     printf(" entries %u missing %u total %u list %lu", totals[0], totals[1], totals[2], step_list(1, length));
 }
 
+/* ---- Two deliveries compared */
+
+static int new_atoms[ROWS * CAPELLANOTE_ATOM], new_bonds[ROWS * CAPELLANOTE_BOND];
+static long differences[LIST];
+
+/* OLD_ATOMS OLD_BONDS NEW_ATOMS NEW_BONDS LIST_ROOM OLD_SIZE NEW_SIZE */
+static void changes_case(const size *n)
+{
+    size answer[3], digest = 1, a = 16 * n[0], b = 6 * n[1], c = 16 * n[2], d = 6 * n[3], length = CAPELLANOTE_DIFFERENCE * n[4];
+    fresh_tables(c, d);
+    for (size k = 0; k < c; k++)
+        new_atoms[k] = atoms[k];
+    for (size k = 0; k < d; k++)
+        new_bonds[k] = bonds[k];
+    fresh_tables(a, b);
+    for (size k = 0; k < length; k++)
+        differences[k] = 1000003 + k;
+    byte *old_text = block(n[5]), *new_text = block(n[6]);
+    capellanote_compare(old_text, n[5], new_text, n[6], atoms, a, bonds, b, new_atoms, c, new_bonds, d, differences, length, answer);
+    if (!refused(answer))
+        printf("changes %lu", answer[1]);
+    for (size k = 0; k < length; k++)
+        digest = step(digest, differences[k]);
+    printf(" list %lu old", digest);
+    print_tables(a, b);
+    printf(" new");
+    print_table("atoms", new_atoms, CAPELLANOTE_ATOMS, c);
+    print_table("bonds", new_bonds, CAPELLANOTE_BONDS, d);
+}
+
 /* ---- A formula against the structure */
 
 static unsigned int found[CAPELLANOTE_FOUND];
@@ -424,6 +454,7 @@ static const struct { const char *word; void (*answer)(const size *); size count
     { "formula ", formula_case, 3, { ROWS, ROWS, MOST } },
     { "replay ", replay_case, 1, { MOST } },
     { "tally ", tally_case, 5, { SUPPLIERS, SUPPLIERS, 4294967295, 4294967295, MOST } },
+    { "changes ", changes_case, 7, { ROWS, ROWS, ROWS, ROWS, LIST / CAPELLANOTE_DIFFERENCE, MOST, MOST } },
     { "mend ", mend_case, 3, { ROOM - 1, LIST / 2, MOST } },
 };
 
