@@ -2,7 +2,7 @@
 
 from bond_rows import ROWS, WORDS, halves, read_with_rows
 from counter import feed
-from ctfile import check, fetch, next_record, pairs_compared, read_record
+from ctfile import check, fetch, next_record
 from deliveries import compare_into, seven
 from formula import FOUND, compare_formula
 from limit import LIMIT
@@ -19,7 +19,6 @@ OFFSET = 2147483649         # makes every i32 positive, and never 0
 MOST_BYTES = 2_000_000      # of a block
 MOST_ROOM = 131071          # bytes of lent room
 SPLIT_ATOMS, SPLIT_BONDS = LIMIT * 16, LIMIT * 6
-BOND_ROWS = False           # is the record reader lent rows of bonds?
 
 
 def digest(numbers):
@@ -57,8 +56,7 @@ def check_case(kind, data):
 
 
 def read_case(kind, atom_room, bond_room, data, row_room=LIMIT):
-    rooms = (atom_room, bond_room, row_room) if BOND_ROWS else (atom_room, bond_room)
-    return head("read", kind, *rooms, len(data)) + block(data)
+    return head("read", kind, atom_room, bond_room, row_room, len(data)) + block(data)
 
 
 def fetch_case(name, data):
@@ -151,14 +149,7 @@ def tables_text(atoms, bonds):
     return " atoms %d %d bonds %d %d" % tuple(map(digest, parts))
 
 
-def answer_read(reader, kind, atom_room, bond_room, size):
-    atoms, bonds = table(atom_room, 16), table(bond_room, 6)
-    data = reader.block(size)
-    answer = read_record(kind, data, atoms, bonds)
-    return verdict(answer) + " compared %d" % pairs_compared(data, answer) + tables_text(atoms, bonds)
-
-
-def answer_read_rows(reader, kind, atom_room, bond_room, row_room, size):
+def answer_read(reader, kind, atom_room, bond_room, row_room, size):
     atoms, bonds, rows = table(atom_room, 16), table(bond_room, 6), table(row_room, WORDS)
     answer, asked = read_with_rows(kind, reader.block(size), atoms, bonds, rows)
     return (verdict(answer) + " asked %d" % asked + tables_text(atoms, bonds)
@@ -261,7 +252,7 @@ def answer_replay(reader, size):
 
 OPERATIONS = {
     "check": lambda reader, kind, size: verdict(check(kind, reader.block(size))),
-    "read": answer_read_rows if BOND_ROWS else answer_read, "fetch": answer_fetch, "write": answer_write,
+    "read": answer_read, "fetch": answer_fetch, "write": answer_write,
     "catalogue": answer_catalogue, "copy": answer_copy, "feed": answer_feed,
     "next": answer_next, "replay": answer_replay, "formula": answer_formula,
     "pieces": answer_pieces, "mend": answer_mend, "tally": answer_tally, "changes": answer_changes}

@@ -137,16 +137,32 @@ static void check_case(const size *n)
         printf("accepted %lu", answer[1]);
 }
 
-/* KIND ATOM_ROOM BOND_ROOM SIZE */
+static size words[ROWS * CAPELLANOTE_ROW];
+
+/* Each word as its low and then its high 32 bits. */
+static void print_words(size length)
+{
+    size front = 1, beyond = 1;
+    for (size k = 0; k < length; k++) {
+        size *digest = k < CAPELLANOTE_ROWS ? &front : &beyond;
+        *digest = step(step(*digest, words[k] & 4294967295), words[k] >> 32);
+    }
+    printf(" rows %lu %lu", front, beyond);
+}
+
+/* KIND ATOM_ROOM BOND_ROOM ROW_ROOM SIZE */
 static void read_case(const size *n)
 {
-    size answer[10], a = 16 * n[1], b = 6 * n[2];
+    size answer[10], a = 16 * n[1], b = 6 * n[2], r = CAPELLANOTE_ROW * n[3];
     fresh_tables(a, b);
-    capellanote_read(n[0], block(n[3]), n[3], atoms, a, bonds, b, answer);
+    for (size k = 0; k < r; k++)
+        words[k] = 1000003 + k;
+    capellanote_read(n[0], block(n[4]), n[4], atoms, a, bonds, b, words, r, answer);
     if (!refused(answer))
         printf("accepted %lu %lu %lu %lu 0 %lu %lu %lu", answer[1], answer[2], answer[3], answer[4], answer[6], answer[7], answer[8]);
-    printf(" compared %lu", answer[9]);
+    printf(" asked %lu", answer[9]);
     print_tables(a, b);
+    print_words(r);
 }
 
 static unsigned int labels[CAPELLANOTE_LIMIT], heads[CAPELLANOTE_LIMIT], sizes[CAPELLANOTE_LIMIT];
@@ -443,7 +459,7 @@ static void replay_case(const size *n)
 #define I32 2147483647
 static const struct { const char *word; void (*answer)(const size *); size count, most[10]; } operations[] = {
     { "check ", check_case, 2, { 255, MOST } },
-    { "read ", read_case, 4, { 255, ROWS, ROWS, MOST } },
+    { "read ", read_case, 5, { 255, ROWS, ROWS, ROWS, MOST } },
     { "pieces ", pieces_case, 4, { 255, ROWS, ROWS, MOST } },
     { "next ", next_case, 6, { ANY, ANY, ANY, ROWS, ROWS, MOST } },
     { "fetch ", fetch_case, 2, { MOST, MOST } },

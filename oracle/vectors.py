@@ -13,7 +13,7 @@ import re
 import sys
 from collections import Counter
 
-from cases import (BOND_ROWS, MOST_ROOM, OPERATIONS, Reader, answers, catalogue_case, changes_case, check_case, copy_case, feed_case, fetch_case,
+from cases import (MOST_ROOM, OPERATIONS, Reader, answers, catalogue_case, changes_case, check_case, copy_case, feed_case, fetch_case,
                    formula_case, mend_case, next_case, pieces_case, read_case, replay_case, tally_case,
                    write_case)
 from changed import any_pair, fixed_pairs
@@ -50,7 +50,7 @@ STORED = {                  # seed, cases, operations
     "changes": (1, 340, ("changes",))}
 LINES = {*range(3, 18), 19}  # refusals that a record of an SDfile can meet
 NUMBERS = {
-    "check": {1, 18} | LINES, "read": {1, 2, 18, *[35] * BOND_ROWS} | LINES, "fetch": {22} | LINES,
+    "check": {1, 18} | LINES, "read": {1, 2, 18, 35} | LINES, "fetch": {22} | LINES,
     "write": {2, 3, 4, 5, 16, 17, 18, 19, 20, 21}, "catalogue": {2, 20} | LINES, "copy": {1, 2, 18, 20} | LINES,
     "feed": LINES, "next": {2} | LINES, "replay": set(range(26, 31)),
     "formula": {2, 22, 31, 32, 33, 34} | LINES, "pieces": {1, 2, 18} | LINES, "mend": {38, 39} | LINES, "tally": {2, 23, 24, 25} | LINES, "changes": {2, 36, 37, 39}}
@@ -136,7 +136,7 @@ def make_read(rng):
     data = to_bytes(rng, spoiled_bond(rng, min(kind, 1)).rows) if rng.random() < 0.15 else any_file(rng, min(kind, 1))
     if kind == 1 and rng.random() < 0.3:
         data += rng.choice([b"\x00", b"x" * 90, b"$$$$\n", b"\r"])   # after the record
-    rows = rng.choice([0, 1, LIMIT - 1, MOST_ROWS]) if BOND_ROWS and rng.random() < 0.1 else LIMIT
+    rows = rng.choice([0, 1, LIMIT - 1, MOST_ROWS]) if rng.random() < 0.1 else LIMIT
     return read_case(kind, *table_rooms(rng), data, rows)
 
 
