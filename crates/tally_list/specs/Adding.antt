@@ -1,4 +1,4 @@
--- A record added to a list of tallies: found, then one more; or a place made and a new tally put there. The list is then what the flat layer leaves, and the rules say.
+-- A record added to a list of tallies: found, then one more; or a new tally inserted. The list is then what the flat layer leaves, and the rules say.
 use Prim.Native.Nat.{ℕ, zero, suc, _+_, _-_, _≤_, _<_}
 use native.Mathlib.Omega.{arith}
 use mathlib.Core.Path.{_≡_, refl, sym, ap, ap₂, _∙_, subst}

@@ -83,3 +83,18 @@ pub fn shift_up(list: &mut [Tally], from: usize, used: usize)
         j = k;
     }
 }
+
+// A new tally at its place: those from there on move one place up first.
+pub fn insert_tally(list: &mut [Tally], from: usize, used: usize, t: Tally)
+    requires { ⌜ (from ≤ used) × (used < length (now list)) ⌝ }
+    ensures { λ _. ⌜ now (list .exit) ≡ set (shifted (used - from) from (now (list .entry))) from t ⌝ }
+{
+    let mut j = used;
+    while from < j {
+        let k = j - 1;
+        let x = list[k];
+        list[j] = x;
+        j = k;
+    }
+    list[from] = t;
+}
