@@ -24,6 +24,9 @@ sentence() { # NUMBER COLUMN
     20) echo "the room lent is shorter than the canonical text" ;;
     21) echo "the tables hold numbers that cannot be written" ;;
     22) echo "the record is good and no item has that name" ;;
+    23) echo "the supplier of this record has more than 24 bytes" ;;
+    24) echo "this record has a 65th supplier, one more than a report holds" ;;
+    25) echo "this is the 1,000,000th record, one more than a report counts" ;;
     26) echo "an unknown kind of event; R, I, C or D must stand here" ;;
     27) echo "the log ends inside this event; 14 bytes follow R, I and C, and 4 follow D" ;;
     28) echo "an issue above the lot's paper figure; this event is skipped" ;;

@@ -16,7 +16,7 @@
 
    Refusals
       1  kind is neither 0 nor 1
-      2  the atom or bond table has room for fewer than CAPELLANOTE_LIMIT
+      2  the atom or bond table has room for fewer than CAPELLANOTE_LIMIT; a list of tallies that cannot be added to
       3  line too long (column 81, or 201 where a value line may stand)
       4  byte not allowed (allowed are 32 to 126)
       5  reserved tag in the first header line
@@ -37,6 +37,9 @@
      20  the room lent is shorter than the canonical text
      21  tables not writable
      22  record good, no item of that name
+     23  supplier above 24 bytes
+     24  a 65th supplier
+     25  a 1,000,000th record
      26  an event of a scanner log is of an unknown kind
      27  a scanner log is cut inside an event
      28  an issue above the lot's paper figure
@@ -306,6 +309,23 @@ void capellanote_replay(const capellanote_byte *log, capellanote_size log_length
                         capellanote_size state[3],
                         capellanote_count keys[CAPELLANOTE_KEYS], capellanote_count papers[CAPELLANOTE_LOTS],
                         capellanote_size answer[6], capellanote_signed difference[1]);
+
+/* ---- Bottles per supplier */
+
+enum { CAPELLANOTE_SUPPLIERS = 64, CAPELLANOTE_SUPPLIER = 24 };
+
+/* The records of an SDfile added to a list that is lent, one entry for each supplier, in rising byte order: entry i has its name at names[24 i],
+   of lengths[i] bytes, and its number of records in counts[i]; totals = { entries in use, records without a supplier, all records }. An empty list
+   has totals of zeros. The supplier is the first value line of the first item named SUPPLIER.
+   Judged in this order: 2 (room for fewer than 64 entries, more than 64 in use, a name above 24 bytes, names that do not rise, counts and missing
+   that do not make the total, a total above 999,999); the file; then record by record 25, 23, 24, with line and column 0.
+   Accepted: answer = { 0, records added, 0, 0 }. Bytes past a name are not looked at and move with their entry; new entries have zeros there.
+   Refused: answer = { number, line, column, the record that met 23, 24 or 25, else 0 }, and nothing else is written. */
+void capellanote_tally(const capellanote_byte *text, capellanote_size text_length,
+                       capellanote_byte *names, capellanote_size names_length,
+                       capellanote_count *lengths, capellanote_size lengths_length,
+                       capellanote_count *counts, capellanote_size counts_length,
+                       capellanote_count totals[3], capellanote_size answer[4]);
 
 #ifdef __cplusplus
 }

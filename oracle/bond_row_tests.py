@@ -3,7 +3,7 @@
 import random
 
 from bond_rows import ROWS, WORDS, read_with_rows, row_words
-from cases import answer_read_rows, digest, Reader, head, block
+from cases import answer_read, digest, Reader, head, block
 from ctfile import read_record, pairs_compared
 from damage import damaged, spoiled_bond
 from expect import expect
@@ -80,7 +80,7 @@ def rows_and_list_say_the_same():
 def answered_rows():
     case = head("read", 1, LIMIT, LIMIT, LIMIT, len(SAMPLE)) + block(SAMPLE)
     reader = Reader(case)
-    line = answer_read_rows(reader, *map(int, reader.line()[1:]))
+    line = answer_read(reader, *map(int, reader.line()[1:]))
     want = digest([2, 0] + [0] * (2 * WORDS - 2) + [1] + [0] * (2 * ROWS - 2 * WORDS - 1))
     expect("a line with rows", (line.split(" atoms ")[0], line.split(" rows ")[1]),
            ("accepted 2 1 0 265 0 17 244 260 asked 1", "%d 1" % want))

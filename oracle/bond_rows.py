@@ -1,6 +1,6 @@
 """Bond rows: for each atom a row of bits that says which atoms it is bonded to, atom 1 the lowest bit of the first word.
 
-Only the record reader takes them. Case and line, once `BOND_ROWS` in cases.py is set:
+Only the record reader takes them. Case and line:
 
     read KIND ATOM_ROOM BOND_ROOM ROW_ROOM SIZE
     accepted N M CHIRAL LENGTH 0 HEADER_END ITEMS_START ITEMS_END asked K atoms A B bonds C D rows E F

@@ -2,12 +2,15 @@
 
 from bond_rows import ROWS, WORDS, halves, read_with_rows
 from counter import feed
-from ctfile import check, fetch, next_record, pairs_compared, read_record
+from ctfile import check, fetch, next_record
+from deliveries import compare_into, seven
 from formula import FOUND, compare_formula
 from limit import LIMIT
 from mending import mend
 from pieces import split_record
 from scanner import replay
+from suppliers import Memory, add
+from tally import Tally
 from writer import copy_record, write_catalogue, write_record
 
 MODULUS = 4294967291        # the greatest prime below 2**32
@@ -16,7 +19,6 @@ OFFSET = 2147483649         # makes every i32 positive, and never 0
 MOST_BYTES = 2_000_000      # of a block
 MOST_ROOM = 131071          # bytes of lent room
 SPLIT_ATOMS, SPLIT_BONDS = LIMIT * 16, LIMIT * 6
-BOND_ROWS = True            # is the record reader lent rows of bonds?
 
 
 def digest(numbers):
@@ -54,8 +56,7 @@ def check_case(kind, data):
 
 
 def read_case(kind, atom_room, bond_room, data, row_room=LIMIT):
-    rooms = (atom_room, bond_room, row_room) if BOND_ROWS else (atom_room, bond_room)
-    return head("read", kind, *rooms, len(data)) + block(data)
+    return head("read", kind, atom_room, bond_room, row_room, len(data)) + block(data)
 
 
 def fetch_case(name, data):
@@ -80,6 +81,15 @@ def next_case(cursor, atom_room, bond_room, data):
 
 def formula_case(atom_room, bond_room, data):
     return head("formula", atom_room, bond_room, len(data)) + block(data)
+
+
+def changes_case(rooms, list_room, old, new):
+    return head("changes", *rooms, list_room, len(old), len(new)) + block(old) + block(new)
+
+
+def tally_case(tally, room, data):
+    first = head("tally", room, len(tally.entries), tally.missing, tally.total, len(data))
+    return first + b"".join(b"%d %s\n" % (count, name) for name, count in tally.entries) + block(data)
 
 
 def mend_case(room, list_room, data):
@@ -111,6 +121,13 @@ class Reader:
         text, self.at = self.data[self.at:end].decode(), end + 1
         return text.split(" ")
 
+    def row(self):
+        """A line of a number, a space and any bytes."""
+        end = self.data.index(b"\n", self.at)
+        number, text = self.data[self.at:end].split(b" ", 1)
+        self.at = end + 1
+        return int(number), text
+
     def block(self, size):
         text, self.at = self.data[self.at:self.at + size], self.at + size + 1
         assert len(text) == size and self.data[self.at - 1:self.at] == b"\n"
@@ -132,14 +149,7 @@ def tables_text(atoms, bonds):
     return " atoms %d %d bonds %d %d" % tuple(map(digest, parts))
 
 
-def answer_read(reader, kind, atom_room, bond_room, size):
-    atoms, bonds = table(atom_room, 16), table(bond_room, 6)
-    data = reader.block(size)
-    answer = read_record(kind, data, atoms, bonds)
-    return verdict(answer) + " compared %d" % pairs_compared(data, answer) + tables_text(atoms, bonds)
-
-
-def answer_read_rows(reader, kind, atom_room, bond_room, row_room, size):
+def answer_read(reader, kind, atom_room, bond_room, row_room, size):
     atoms, bonds, rows = table(atom_room, 16), table(bond_room, 6), table(row_room, WORDS)
     answer, asked = read_with_rows(kind, reader.block(size), atoms, bonds, rows)
     return (verdict(answer) + " asked %d" % asked + tables_text(atoms, bonds)
@@ -208,6 +218,24 @@ def answer_mend(reader, room, list_room, size):
     return verdict(answer) + " list %d room %d" % (digest(told), digest(lent))
 
 
+def answer_changes(reader, old_atoms, old_bonds, new_atoms, new_bonds, list_room, old_size, new_size):
+    tables = [table(old_atoms, 16), table(old_bonds, 6), table(new_atoms, 16), table(new_bonds, 6)]
+    old, told = reader.block(old_size), table(list_room, 7)
+    answer, found = compare_into(old, reader.block(new_size), tables, list_room)
+    told[:7 * len(found)] = [number for difference in found for number in seven(difference)]
+    return verdict(answer) + " list %d old%s new%s" % (digest(told), tables_text(*tables[:2]), tables_text(*tables[2:]))
+
+
+def answer_tally(reader, room, entries, missing, total, size):
+    listed = [reader.row() for _ in range(entries)]
+    before = Tally(tuple((name, count) for count, name in listed), missing, total)
+    memory = Memory(room, before.entries, lent_room)
+    answer, after = add(before, room, reader.block(size))
+    if after is not before:
+        memory.follow(before.entries, after.entries)
+    return answer + " entries %d missing %d total %d list %d" % (len(after.entries), after.missing, after.total, digest(memory.numbers()))
+
+
 def answer_replay(reader, size):
     store = replay(reader.block(size))
     told = []
@@ -224,10 +252,10 @@ def answer_replay(reader, size):
 
 OPERATIONS = {
     "check": lambda reader, kind, size: verdict(check(kind, reader.block(size))),
-    "read": answer_read_rows if BOND_ROWS else answer_read, "fetch": answer_fetch, "write": answer_write,
+    "read": answer_read, "fetch": answer_fetch, "write": answer_write,
     "catalogue": answer_catalogue, "copy": answer_copy, "feed": answer_feed,
     "next": answer_next, "replay": answer_replay, "formula": answer_formula,
-    "pieces": answer_pieces, "mend": answer_mend}
+    "pieces": answer_pieces, "mend": answer_mend, "tally": answer_tally, "changes": answer_changes}
 
 
 def answers(data):

@@ -2,7 +2,7 @@
 
 import random
 
-from cases import BOND_ROWS, answers, read_case
+from cases import answers, read_case
 from ctfile import check, pairs_compared, read_record
 from damage import spoiled_bond
 from expect import expect
@@ -81,12 +81,10 @@ def spoiled_bonds_are_compared():
 
 
 def answered_counts():
-    if BOND_ROWS:                   # the line has the number of rows asked instead
-        return
     line = answers(read_case(1, LIMIT, LIMIT, bare(4, PAIRS[:3] + [(4, 3)])))
-    expect("a refusal's line", line.startswith("refused 11 line 12 column 1 compared 5 atoms "), True)
+    expect("a refusal's line", line.startswith("refused 11 line 12 column 1 asked 4 atoms "), True)
     line = answers(read_case(1, LIMIT, LIMIT, SAMPLE))
-    expect("a reading's line", line.startswith("accepted 2 1 0 265 0 17 244 260 compared 0 atoms "), True)
+    expect("a reading's line", line.startswith("accepted 2 1 0 265 0 17 244 260 asked 1 atoms "), True)
 
 
 ALL = [comparisons_by_hand, other_refusals, large_numbers_of_comparisons, spoiled_bonds_are_compared, answered_counts]

@@ -1,12 +1,12 @@
 """What changed between two SDfiles, record by record: a list made from the two readings alone.
 
-Nothing in the library has this yet. Its case would be two files and the room of the lent list, counted in differences:
+Its case is two files, the rooms of the four tables and of the lent list, counted in differences:
 
-    changes ATOM_ROOM BOND_ROOM LIST_ROOM OLD_SIZE NEW_SIZE     OLD_SIZE bytes, NEW_SIZE bytes: the SDfiles
-    changes COUNT list D
-    refused NUMBER line LINE column COLUMN list D
+    changes OLD_ATOMS OLD_BONDS NEW_ATOMS NEW_BONDS LIST_ROOM OLD_SIZE NEW_SIZE     OLD_SIZE bytes, NEW_SIZE bytes: the SDfiles
+    changes COUNT list D old TABLES new TABLES
+    refused NUMBER line LINE column COLUMN list D old TABLES new TABLES
 
-Here D would be the digest over the list's bytes as `json_lines` writes them; how the lent list holds a difference isn't settled.
+A difference is seven numbers in the list (`seven`). The tables are for the work in between and end zero, but stay as they were after 2.
 `python3 deliveries.py OLD NEW` writes the list, one JSON object a line; its status is 0, 1 or 2, as `diff` has it.
 """
 
@@ -96,17 +96,34 @@ def compare(old, new):
     return list(differences(first, readings(new, 37)))
 
 
-def compare_into(old, new, atom_table, bond_table, room):
-    """("changes", count) with all differences, or the refusal with none."""
+def compare_into(old, new, tables, room):
+    """("changes", count) with all differences, or the refusal with none. `tables` are the old file's and the new one's, atoms and bonds."""
     try:
-        if min(table_rooms(atom_table, bond_table)) < LIMIT:
+        if min(table_rooms(*tables[:2]) + table_rooms(*tables[2:])) < LIMIT:
             raise Refusal(2)
+        for table, width in zip(tables, (16, 6, 16, 6)):
+            table[:LIMIT * width] = [0] * (LIMIT * width)
         found = compare(old, new)
         if len(found) > room:
             raise Refusal(39)
         return ("changes", len(found)), found
     except Refusal as refusal:
         return refusal.answer(), []
+
+
+PARTS = "header atoms bonds chiral atom bond name value item record".split()
+
+
+def seven(difference):
+    """Record, part, place, field, side and both figures: numbers count from 1, and 0 stands where there is none. Figures of texts
+    are 0; the side is 0 for both, 1 for the old file alone, 2 for the new one alone."""
+    place, field = (difference.place + (0, 0))[:2]
+    if difference.part in ("atom", "bond"):
+        field = 1 + (ATOM_FIELDS if difference.part == "atom" else BOND_FIELDS).index(field)
+    figures = difference.part in ("atoms", "bonds", "chiral", "atom", "bond")
+    side = 1 if difference.new is None else 2 if difference.old is None else 0
+    return [difference.record, 1 + PARTS.index(difference.part), place, field, side,
+            *((difference.old, difference.new) if figures else (0, 0))]
 
 
 PLACE_NAMES = {"header": ("line",), "atom": ("number", "field"), "bond": ("number", "field"), "name": ("item",), "value": ("item", "line"),

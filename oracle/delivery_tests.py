@@ -3,14 +3,18 @@
 import random
 
 from ctfile import sdfile
-from deliveries import Difference, compare, compare_into, json_line
+from changed import changed
+from deliveries import Difference, compare, compare_into, json_line, seven
 from expect import expect
 from formulas import record
 from generate import draft_record, file_rows, good_drafts, plain_bytes, to_bytes
-from limit import LIMIT
 from lines import Refusal, Sheet
 from samples import LINES, SAMPLE, edit, tables
 from writer import catalogue_text
+
+
+def four():
+    return [list(table) for table in (*tables(), *tables())]
 
 
 def told(old, new):
@@ -55,31 +59,26 @@ def refused_comparisons():
             expect("refused", None, want)
         except Refusal as refusal:
             expect("refused", refusal.args, want)
-    expect("39", compare_into(SAMPLE, edit(11, b"1"), *tables(), 0), (("refused", 39, 0, 0), []))
-    expect("room enough", compare_into(SAMPLE, edit(11, b"1"), *tables(), 1)[0], ("changes", 1))
-    expect("no room needed", compare_into(SAMPLE, SAMPLE, *tables(), 0), (("changes", 0), []))
-    expect("2 first", compare_into(bad, bad, *tables(LIMIT - 1, LIMIT), 9)[0], ("refused", 2, 0, 0))
-    expect("36 before 39", compare_into(bad, SAMPLE, *tables(), 0)[0], ("refused", 36, 12, 1))
+    expect("39", compare_into(SAMPLE, edit(11, b"1"), four(), 0), (("refused", 39, 0, 0), []))
+    expect("room enough", compare_into(SAMPLE, edit(11, b"1"), four(), 1)[0], ("changes", 1))
+    expect("no room needed", compare_into(SAMPLE, SAMPLE, four(), 0), (("changes", 0), []))
+    for k in range(4):
+        short = four()
+        short[k].pop()
+        whole = [list(table) for table in short]
+        expect("2 first", (compare_into(bad, bad, short, 9)[0], short), (("refused", 2, 0, 0), whole))
+    expect("36 before 39", compare_into(bad, SAMPLE, four(), 0)[0], ("refused", 36, 12, 1))
 
 
-def changed(rng, draft):
-    """The draft with one thing changed in place, or as it was."""
-    choice = rng.randrange(8)
-    if choice == 0:
-        draft.header[rng.randrange(3)] = rng.choice([b"", b"x", b"x ", b"y"])
-    elif choice == 1:
-        draft.chiral = 1 - draft.chiral
-    elif choice == 2 and draft.atoms:
-        rng.choice(draft.atoms)[rng.choice(["mass", "parity", "h0"])] = rng.randrange(2)
-    elif choice == 3 and draft.bonds:
-        rng.choice(draft.bonds)[4] = rng.randrange(3)
-    elif choice == 4 and draft.items:
-        place = rng.randrange(len(draft.items))
-        draft.items[place] = (draft.items[place][0], rng.choice([[], [b"v"], [b"v", b"w"], [b"v "]]))
-    elif choice == 5 and draft.items:
-        draft.items.pop()
-    elif choice == 6:
-        draft.items.append((b"NEW", [b"1"]))
+def sevens_by_hand():
+    old = record((b"C", b"O"), [(b"A", [b"1"]), (b"B", [b"2", b"3"])])
+    new = record((b"S",), [(b"B", [b"2", b"3"]), (b"B", [b"2"]), (b"C", [b"4", b"5"])])
+    expect("seven numbers", [seven(difference) for difference in compare(old, new + old)], [
+        [1, 2, 0, 0, 0, 2, 1], [1, 5, 1, 4, 0, 6, 16], [1, 7, 1, 0, 0, 0, 0], [1, 8, 1, 1, 0, 0, 0], [1, 8, 1, 2, 2, 0, 0],
+        [1, 8, 2, 2, 1, 0, 0], [1, 9, 3, 0, 2, 0, 0], [2, 10, 0, 0, 2, 0, 0]])
+    expect("a title, a bond's type and chiral", [seven(difference) for difference in compare(SAMPLE, edit(1, b"").replace(
+        b"  1  2  1", b"  1  2  2").replace(b"  2  1  0  0  0", b"  2  1  0  0  1"))], [
+            [1, 1, 1, 0, 0, 0, 0], [1, 4, 0, 0, 0, 0, 1], [1, 6, 1, 3, 0, 1, 2]])
 
 
 def same_reading_exactly():
@@ -111,4 +110,4 @@ def one_zero_in_many():
     expect("one zero in many", found, [Difference(41, "value", (1, 1), b"00417", b"0417")])
 
 
-ALL = [changes_by_hand, refused_comparisons, same_reading_exactly, one_zero_in_many]
+ALL = [changes_by_hand, sevens_by_hand, refused_comparisons, same_reading_exactly, one_zero_in_many]

@@ -15,7 +15,6 @@ enum { MOST = 4 << 20, ROWS = CAPELLANOTE_LIMIT + 5, ROOM = 131072 };
 static char file[MOST + 1];
 static char *at = file, *start = file, *end = file;
 static int atoms[ROWS * CAPELLANOTE_ATOM], bonds[ROWS * CAPELLANOTE_BOND];
-static size bond_rows[ROWS * CAPELLANOTE_ROW];
 static byte room[ROOM];
 
 static void bad(void)
@@ -138,13 +137,15 @@ static void check_case(const size *n)
         printf("accepted %lu", answer[1]);
 }
 
+static size words[ROWS * CAPELLANOTE_ROW];
+
 /* Each word as its low and then its high 32 bits. */
-static void print_rows(size length)
+static void print_words(size length)
 {
     size front = 1, beyond = 1;
     for (size k = 0; k < length; k++) {
         size *digest = k < CAPELLANOTE_ROWS ? &front : &beyond;
-        *digest = step(step(*digest, bond_rows[k] & 4294967295), bond_rows[k] >> 32);
+        *digest = step(step(*digest, words[k] & 4294967295), words[k] >> 32);
     }
     printf(" rows %lu %lu", front, beyond);
 }
@@ -152,16 +153,16 @@ static void print_rows(size length)
 /* KIND ATOM_ROOM BOND_ROOM ROW_ROOM SIZE */
 static void read_case(const size *n)
 {
-    size answer[10], a = 16 * n[1], b = 6 * n[2], w = CAPELLANOTE_ROW * n[3];
+    size answer[10], a = 16 * n[1], b = 6 * n[2], r = CAPELLANOTE_ROW * n[3];
     fresh_tables(a, b);
-    for (size k = 0; k < w; k++)
-        bond_rows[k] = 1000003 + k;
-    capellanote_read(n[0], block(n[4]), n[4], atoms, a, bonds, b, bond_rows, w, answer);
+    for (size k = 0; k < r; k++)
+        words[k] = 1000003 + k;
+    capellanote_read(n[0], block(n[4]), n[4], atoms, a, bonds, b, words, r, answer);
     if (!refused(answer))
         printf("accepted %lu %lu %lu %lu 0 %lu %lu %lu", answer[1], answer[2], answer[3], answer[4], answer[6], answer[7], answer[8]);
     printf(" asked %lu", answer[9]);
     print_tables(a, b);
-    print_rows(w);
+    print_words(r);
 }
 
 static unsigned int labels[CAPELLANOTE_LIMIT], heads[CAPELLANOTE_LIMIT], sizes[CAPELLANOTE_LIMIT];
@@ -302,6 +303,88 @@ static void mend_case(const size *n)
     print_room(n[0]);
 }
 
+/* ---- Bottles per supplier */
+
+enum { SUPPLIERS = 70 };
+static byte names[SUPPLIERS * CAPELLANOTE_SUPPLIER];
+static unsigned int lengths[SUPPLIERS], counts[SUPPLIERS];
+
+/* A line of a count, a space and a name; of a name that is too long as much as there is place for. */
+static void supplier(size k)
+{
+    counts[k] = number(4294967295);
+    pass(' ');
+    lengths[k] = 0;
+    for (; at < end && *at != '\n'; at++) {
+        if (lengths[k] < CAPELLANOTE_SUPPLIER)
+            names[CAPELLANOTE_SUPPLIER * k + lengths[k]] = *at;
+        lengths[k]++;
+    }
+    pass('\n');
+}
+
+static size step_list(size digest, size length)
+{
+    for (size k = 0; k < CAPELLANOTE_SUPPLIER * length; k++)
+        digest = step(digest, names[k]);
+    for (size k = 0; k < length; k++)
+        digest = step(digest, lengths[k]);
+    for (size k = 0; k < length; k++)
+        digest = step(digest, counts[k]);
+    return digest;
+}
+
+/* ROOM ENTRIES MISSING TOTAL SIZE */
+static void tally_case(const size *n)
+{
+    size answer[4], length = n[0];
+    unsigned int totals[3] = { n[1], n[2], n[3] };
+    if (n[1] > length)
+        bad();
+    for (size k = 0; k < CAPELLANOTE_SUPPLIER * length; k++)
+        names[k] = (7 * k + 13) % 251;
+    for (size k = 0; k < length; k++)
+        lengths[k] = counts[k] = 1000003 + k;
+    for (size k = 0; k < n[1]; k++)
+        supplier(k);
+    capellanote_tally(block(n[4]), n[4], names, CAPELLANOTE_SUPPLIER * length, lengths, length, counts, length, totals, answer);
+    if (refused(answer))
+        printf(" record %lu", answer[3]);
+    else
+        printf("accepted %lu", answer[1]);
+    printf(" entries %u missing %u total %u list %lu", totals[0], totals[1], totals[2], step_list(1, length));
+}
+
+/* ---- Two deliveries compared */
+
+static int new_atoms[ROWS * CAPELLANOTE_ATOM], new_bonds[ROWS * CAPELLANOTE_BOND];
+static long differences[LIST];
+
+/* OLD_ATOMS OLD_BONDS NEW_ATOMS NEW_BONDS LIST_ROOM OLD_SIZE NEW_SIZE */
+static void changes_case(const size *n)
+{
+    size answer[3], digest = 1, a = 16 * n[0], b = 6 * n[1], c = 16 * n[2], d = 6 * n[3], length = CAPELLANOTE_DIFFERENCE * n[4];
+    fresh_tables(c, d);
+    for (size k = 0; k < c; k++)
+        new_atoms[k] = atoms[k];
+    for (size k = 0; k < d; k++)
+        new_bonds[k] = bonds[k];
+    fresh_tables(a, b);
+    for (size k = 0; k < length; k++)
+        differences[k] = 1000003 + k;
+    byte *old_text = block(n[5]), *new_text = block(n[6]);
+    capellanote_compare(old_text, n[5], new_text, n[6], atoms, a, bonds, b, new_atoms, c, new_bonds, d, differences, length, answer);
+    if (!refused(answer))
+        printf("changes %lu", answer[1]);
+    for (size k = 0; k < length; k++)
+        digest = step(digest, differences[k]);
+    printf(" list %lu old", digest);
+    print_tables(a, b);
+    printf(" new");
+    print_table("atoms", new_atoms, CAPELLANOTE_ATOMS, c);
+    print_table("bonds", new_bonds, CAPELLANOTE_BONDS, d);
+}
+
 /* ---- A formula against the structure */
 
 static unsigned int found[CAPELLANOTE_FOUND];
@@ -386,6 +469,8 @@ static const struct { const char *word; void (*answer)(const size *); size count
     { "catalogue ", catalogue_case, 4, { ROWS, ROWS, ROOM - 1, MOST } },
     { "formula ", formula_case, 3, { ROWS, ROWS, MOST } },
     { "replay ", replay_case, 1, { MOST } },
+    { "tally ", tally_case, 5, { SUPPLIERS, SUPPLIERS, 4294967295, 4294967295, MOST } },
+    { "changes ", changes_case, 7, { ROWS, ROWS, ROWS, ROWS, LIST / CAPELLANOTE_DIFFERENCE, MOST, MOST } },
     { "mend ", mend_case, 3, { ROOM - 1, LIST / 2, MOST } },
 };
 

@@ -11,10 +11,10 @@ def parted(case):
     reader = Reader(case)
     word, *numbers = reader.line()
     numbers = list(map(int, numbers))
-    sizes = {"fetch": slice(0, 2), "write": slice(7, 9)}.get(word, slice(-1, None))
+    sizes = {"fetch": slice(0, 2), "write": slice(7, 9), "changes": slice(5, 7)}.get(word, slice(-1, None))
     rows = []
-    if word == "write":
-        rows = [reader.line() for _ in range(numbers[5] + numbers[6])]
+    if word in ("write", "tally"):
+        rows = [reader.line() for _ in range(numbers[5] + numbers[6] if word == "write" else numbers[1])]
     blocks = [reader.block(size) for size in numbers[sizes]]
     return word, numbers, sizes, rows, blocks
 

@@ -1,12 +1,12 @@
 """Bottles per supplier: how many records each supplier sent, over many SDfiles.
 
-Nothing in the library has this yet. Its case would be a list, then a file to add to it; its line the list after:
+Its case is a list, then a file to add to it:
 
     tally ROOM ENTRIES MISSING TOTAL SIZE       ENTRIES lines of a count, a space and the supplier; SIZE bytes: the SDfile
     accepted RECORDS entries E missing M total T list D
     refused NUMBER line LINE column COLUMN record R entries E missing M total T list D
 
-ROOM counts tally records. R is the record that met 23, 24 or 25, else 0. D is the digest over each supplier's length, bytes and count.
+ROOM counts tally records. R is the record that met 23, 24 or 25, else 0. D is the digest over the lent memory.
 """
 
 from typing import NamedTuple, Tuple

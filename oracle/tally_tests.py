@@ -8,15 +8,11 @@ from expect import expect
 from formulas import record
 from lines import Refusal
 from samples import SAMPLE, edit
+from suppliers import sent
 from tally import Tally, report, with_file, with_files
 
 EMPTY = Tally()
 FULL = Tally(tuple((b"%02d" % k, 1) for k in range(64)), 0, 64)
-
-
-def sent(*suppliers):
-    """An SDfile with a record for each supplier; None for a record without the item."""
-    return b"".join(record((), [] if name is None else [(b"SUPPLIER", [name])]) for name in suppliers)
 
 
 def refused(tally, data, room=64):

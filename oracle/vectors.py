@@ -13,11 +13,14 @@ import re
 import sys
 from collections import Counter
 
-from cases import (BOND_ROWS, MOST_ROOM, OPERATIONS, Reader, answers, catalogue_case, check_case, copy_case, feed_case, fetch_case,
-                   formula_case, mend_case, next_case, pieces_case, read_case, replay_case, write_case)
+from cases import (MOST_ROOM, OPERATIONS, Reader, answers, catalogue_case, changes_case, check_case, copy_case, feed_case, fetch_case,
+                   formula_case, mend_case, next_case, pieces_case, read_case, replay_case, tally_case,
+                   write_case)
+from changed import any_pair, fixed_pairs
 from counter import BUFFER, MOST
 from ctfile import SDFILE, one_record, record_at
 from damage import AIMED_NUMBERS, aimed, blind, damaged, spoiled_bond, surplus, truncated
+from deliveries import compare
 from formulas import any_record, fixed_records
 from generate import (NAMES, all_symbols, draft_record, file_rows, good_drafts, plain_bytes,
                       record_rows, to_bytes)
@@ -31,6 +34,7 @@ from scanner import replay
 from small import small_refusals, small_surplus
 from spelled import spelled_lines
 from spoiled import any_spoiled, fixed_spoiled
+from suppliers import FULL, any_tally, fixed_tallies
 from writer import catalogue_text, text_of
 
 MOST_STORED = 4_000_000     # bytes of all stored files together
@@ -42,13 +46,14 @@ STORED = {                  # seed, cases, operations
     "base": (1, 2700, BASE), "copy": (1, 500, ("copy",)), "feed": (1, 420, ("feed",)),
     "next": (1, 400, ("next",)), "replay": (11, 700, ("replay",)),
     "formula": (1, 430, ("formula",)), "pieces": (1, 360, ("pieces",)),
-    "mend": (1, 700, ("mend",))}
+    "mend": (1, 700, ("mend",)), "tally": (1, 500, ("tally",)),
+    "changes": (1, 340, ("changes",))}
 LINES = {*range(3, 18), 19}  # refusals that a record of an SDfile can meet
 NUMBERS = {
-    "check": {1, 18} | LINES, "read": {1, 2, 18, *[35] * BOND_ROWS} | LINES, "fetch": {22} | LINES,
+    "check": {1, 18} | LINES, "read": {1, 2, 18, 35} | LINES, "fetch": {22} | LINES,
     "write": {2, 3, 4, 5, 16, 17, 18, 19, 20, 21}, "catalogue": {2, 20} | LINES, "copy": {1, 2, 18, 20} | LINES,
     "feed": LINES, "next": {2} | LINES, "replay": set(range(26, 31)),
-    "formula": {2, 22, 31, 32, 33, 34} | LINES, "pieces": {1, 2, 18} | LINES, "mend": {38, 39} | LINES}
+    "formula": {2, 22, 31, 32, 33, 34} | LINES, "pieces": {1, 2, 18} | LINES, "mend": {38, 39} | LINES, "tally": {2, 23, 24, 25} | LINES, "changes": {2, 36, 37, 39}}
 SWEEP_LINES = {
     b"counts": b"  2  1  0  0  0  0  0  0  0  0999 V2000",
     b"atom": b"    1.2500   -0.8250    0.0000 O   0  5  0  0  0  0  0  0  0  0  0  0",
@@ -131,7 +136,7 @@ def make_read(rng):
     data = to_bytes(rng, spoiled_bond(rng, min(kind, 1)).rows) if rng.random() < 0.15 else any_file(rng, min(kind, 1))
     if kind == 1 and rng.random() < 0.3:
         data += rng.choice([b"\x00", b"x" * 90, b"$$$$\n", b"\r"])   # after the record
-    rows = rng.choice([0, 1, LIMIT - 1, MOST_ROWS]) if BOND_ROWS and rng.random() < 0.1 else LIMIT
+    rows = rng.choice([0, 1, LIMIT - 1, MOST_ROWS]) if rng.random() < 0.1 else LIMIT
     return read_case(kind, *table_rooms(rng), data, rows)
 
 
@@ -381,6 +386,47 @@ def mend_cases(rng):
                 yield mend_case(room, list_room, data)
 
 
+def make_tally(rng):
+    return tally_case(*any_tally(rng))
+
+
+def tally_cases():
+    """Lists and files one by one, and the file's own refusals."""
+    for tally, room, data in fixed_tallies():
+        yield tally_case(tally, room, data)
+    for _, _, _, data in small_refusals():
+        yield tally_case(FULL, 64, data)
+
+
+def make_changes(rng, pair=None):
+    """Two deliveries, the list with room enough, or for one difference too few."""
+    old, new = pair or any_pair(rng)
+    try:
+        count = len(compare(old, new))
+    except Refusal:
+        count = 2
+    rooms = [LIMIT + rng.choice([0, 0, 0, 1, 5]) for _ in range(4)]
+    if rng.random() < 0.05:
+        rooms[rng.randrange(4)] = rng.choice([0, LIMIT - 1])
+    return changes_case(rooms, max(0, count + rng.choice([0, 0, 0, 0, 1, 1, -1])), old, new)
+
+
+def changes_cases(rng):
+    """Pairs one by one, tables short by one, lists just long enough and one too short."""
+    for pair in fixed_pairs():
+        yield make_changes(rng, pair)
+    for k in range(4):
+        for data in (SAMPLE, b"x"):
+            rooms = [LIMIT] * 4
+            rooms[k] -= 1
+            yield changes_case(rooms, 3, data, SAMPLE)
+    for room in range(5):
+        yield changes_case([LIMIT] * 4, room, SAMPLE * 2, edit(1, b"x") + edit(11, b"417"))
+        yield changes_case([LIMIT] * 4, room, SAMPLE * 3, b"")
+    circle = bare(LIMIT, ring(LIMIT))
+    yield changes_case([LIMIT] * 4, 2, circle, circle.replace(b"  1  2  1\n", b"  2  1  1\n", 1))
+
+
 def small_cases():
     """Short files for each refusal, where no chance brings every number often enough."""
     for _, _, _, data in small_refusals():
@@ -496,13 +542,15 @@ def operation_of(case):
 
 MAKERS = [make_check] * 35 + [make_read] * 25 + [make_fetch] * 10 + [make_write] * 22 + [
     make_catalogue] * 8 + [make_copy] * 15 + [make_feed] * 15 + [make_next] * 12 + [make_replay] * 15 + [
-    make_formula] * 12 + [make_pieces] * 12 + [make_mend] * 15
+    make_formula] * 12 + [make_pieces] * 12 + [make_mend] * 15 + [make_tally] * 12 + [
+    make_changes] * 12
 
 
 def case_list(seed, count, operations):
     rng = random.Random(seed)
     cases = list(fixed_cases(rng)) + list(sweeps(rng, count // 6)) + list(spelled_cases(rng, count // 6))
-    cases += [*sample_cases(), *coded_cases(), *repeat_cases(), *formula_cases(), *pieces_cases(), *mend_cases(rng), *small_cases()]
+    cases += [*sample_cases(), *coded_cases(), *repeat_cases(), *formula_cases(), *pieces_cases(), *mend_cases(rng), *tally_cases(), *changes_cases(rng),
+              *small_cases()]
     cases = [case for case in cases if operation_of(case) in operations]
     makers = [make for make in MAKERS if make.__name__[5:] in operations]
     rng = random.Random(seed)           # anew, so that what stands before does not change what is drawn
@@ -523,7 +571,7 @@ def skipped(case):
     return {note.number for note in notes} - {0}
 
 
-def tally(cases, expected):
+def counted(cases, expected):
     """In how many cases each refusal number comes, and at how many different places."""
     times, spots = Counter(), set()
     for case, line in zip(cases, expected.splitlines()):
@@ -543,7 +591,7 @@ def write_files(seed, count, out, operations):
         file.write(data)
     with open(out + ".expected", "w") as file:
         file.write(expected)
-    counts, size = tally(cases, expected), len(data) + len(expected)
+    counts, size = counted(cases, expected), len(data) + len(expected)
     print("%s: %d cases, %d bytes" % (out, expected.count("\n"), size))
     for number, (times, places) in counts.items():
         print("refusal %2d: %4d cases, %3d places" % (number, times, places))

@@ -12,3 +12,4 @@ pub mod Pieces
 pub mod Formula
 pub mod Mend
 pub mod Compare
+pub mod Tally

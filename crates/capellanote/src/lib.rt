@@ -5,6 +5,7 @@ mod formula;
 mod mend;
 mod pieces;
 mod replay;
+mod tally;
 
 ghost use mathlib.Core.Path.{_≡_};
 ghost use lib.ListN.{length};

@@ -12,6 +12,7 @@ enum Verb {
     Mend,
     Stock,
     Compare,
+    Tally,
     Unknown,
 }
 
@@ -45,6 +46,9 @@ fn asked() -> Verb {
     }
     if program_io::is_argument(1, b"compare") {
         return Verb::Compare;
+    }
+    if program_io::is_argument(1, b"tally") {
+        return Verb::Tally;
     }
     Verb::Unknown
 }
@@ -88,6 +92,7 @@ fn main() {
         Verb::Mend => program_mend::run(),
         Verb::Stock => program_stock::run(),
         Verb::Compare => program_compare::run(),
+        Verb::Tally => program_tally::run(2),
         Verb::Unknown => {
             io::write_all(
                 libc::STDERR_FILENO,

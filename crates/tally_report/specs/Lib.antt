@@ -1,0 +1,4 @@
+-- What the contracts cite
+pub mod Reported
+-- Laws for the proofs
+pub mod Steps
