@@ -124,7 +124,7 @@ is "usage: two files to count" 2 "" "count takes one file"
 got ./capellanote tidy
 is "usage: unknown command" 2 "" "unknown command tidy"
 got ./capellanote help
-[ "$status" = 0 ] && grep -q '^usage: capellanote check' "$room/out" && ok || bad "help" "status $status"
+[ "$status" = 0 ] && grep -q '^  capellanote check' "$room/out" && ok || bad "help" "status $status"
 (cd "$room" && ln -s "$OLDPWD/capellanote" linked && ./linked check "two words.sdf" >"$room/out" 2>"$room/err")
 status=$?
 is "check: the command by a link, from another folder" 0 "two words.sdf: accepted, 5 records" ""

@@ -3,8 +3,11 @@
 limit=$(sed -n 's/^#define CAPELLANOTE_LIMIT //p' include/capellanote.h)
 python3 bench/catalogue.py 5 1 "$room/ring.sdf" --ring "$limit" || bad "the largest record" "it was not made"
 [ "$(wc -c <"$room/ring.sdf")" -gt 65536 ] && ok || bad "the largest record" "it fits the counter's buffer"
+examples/compile --run target/bin/counter <"$room/ring.sdf" >"$room/out" 2>"$room/err"
+status=$?
+is "counter: the largest record" 0 "record 1 too long" ""
 got ./capellanote count "$room/ring.sdf"
-is "count: the largest record" 1 "record 1 too long" ""
+is "count: the largest record" 0 "accepted 1" ""
 got ./capellanote check "$room/ring.sdf"
 is "check: the largest record" 0 "$room/ring.sdf: accepted, 1 record" ""
 got ./capellanote canon "$room/ring.sdf"

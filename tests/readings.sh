@@ -81,7 +81,14 @@ for task in read "fetch LOT" canon; do
     # shellcheck disable=SC2086
     cat examples/sample.sdf | ./capellanote $task /dev/stdin >"$room/out" 2>"$room/err"
     status=$?
-    is "$task: a pipe" 2 "" "cannot be read twice"
+    piped=$(cat "$room/out")
+    # shellcheck disable=SC2086
+    got ./capellanote $task examples/sample.sdf
+    is "$task: a pipe" 0 "$piped" ""
+    # shellcheck disable=SC2086
+    cat examples/sample.sdf | ./capellanote $task - >"$room/out" 2>"$room/err"
+    status=$?
+    is "$task: standard input" 0 "$piped" ""
 done
 got ./capellanote fetch LOT "$room/two words.sdf"
 is "fetch: every record" 0 '{"record":1,"line":1,"value":["00417"]}
