@@ -1,8 +1,8 @@
 #!/usr/bin/env python3
-"""report.py COMMAND [--last OLD] [--log LOG] [--title TEXT] -o REPORT.html FILE...: a delivery on one page.
+"""report.py COMMAND LAST LOG TITLE FILE...: a delivery on one page of HTML, on standard output. LAST, LOG and TITLE may be empty.
 
 Every figure comes from the command's own verbs with --json; this page counts their lines and computes widths, nothing else. Whatever comes
-from a file is escaped. It needs Python 3 alone. Status: 0 written and nothing to object to, 1 written and something is, 2 not written.
+from a file is escaped. It needs Python 3 alone. Status: 0 nothing to object to; 1 a record is refused or a lot differs; 2 no page.
 """
 
 import hashlib
@@ -12,7 +12,7 @@ import os
 import subprocess
 import sys
 import tempfile
-from collections import Counter, defaultdict
+from collections import Counter
 
 MOST_ROWS = 1000        # of a table; what lies beyond is counted and said
 CHUNK = 1 << 20
@@ -95,6 +95,15 @@ class Verb:
 
     def said(self):
         return spoken(["capellanote", *self.words])
+
+
+def meaning(command, number, known={}):
+    """The plain words of a refusal's number, which is the first line that `explain` says."""
+    if number not in known:
+        run = subprocess.run([command, "explain", str(number)], stdout=subprocess.PIPE, stderr=subprocess.DEVNULL)
+        first = run.stdout.decode("utf-8", "replace").split("\n")[0]
+        known[number] = first.split(": ", 1)[-1]
+    return known[number]
 
 
 class Kept:
@@ -189,12 +198,11 @@ class Checked:
     def __init__(self, command, files):
         self.verb = Verb(command, "check", "--all", "--json", *files)
         self.refusals, self.warnings, self.files = Kept(), Kept(), []
-        self.numbers, self.words = Counter(), {}
+        self.command, self.numbers = command, Counter()
         for told in self.verb.objects():
             if "number" in told:
                 self.refusals.add(told)
                 self.numbers[told["number"]] += 1
-                self.words.setdefault(told["number"], told.get("meaning") or told.get("sentence") or "")
             elif "warning" in told:
                 self.warnings.add(told)
             elif "verdict" in told and "file" in told:
@@ -229,7 +237,7 @@ class Checked:
         if not self.refusals.count:
             parts.append("<p>None.</p>\n")
         else:
-            rows = [("%d %s" % (number, escaped(self.words[number])), count) for number, count in sorted(self.numbers.items())]
+            rows = [("%d: %s" % (number, escaped(meaning(self.command, number))), count) for number, count in sorted(self.numbers.items())]
             parts.append(bars("Refused records by the number of the refusal", rows))
             parts.append(folded("What to ask the supplier for, record by record", self.refusals, self.refusal_table(several)))
         if self.warnings.count:
@@ -244,7 +252,7 @@ class Checked:
         rows = []
         for told in self.refusals.rows:
             place = "%s:%s" % (told.get("line", ""), told.get("column", ""))
-            what = escaped(told.get("message") or self.words.get(told["number"]) or "")
+            what = escaped(told.get("message") or meaning(self.command, told["number"]))
             quoted = marked(told["text"], told.get("column") or 1) if told.get("text") is not None else ""
             stands = "%s%s" % (escaped(told["field"]) + ": " if told.get("field") else "", code(told["found"]) if told.get("found") is not None else "")
             rows.append([*([code(told.get("file"))] if several else []), told.get("record", ""), code(told.get("title")), place,
@@ -427,61 +435,23 @@ def page(command, asked):
     return text, min(status, 2)
 
 
-def write_whole(name, text):
-    """The file appears only when it is complete."""
-    folder = os.path.dirname(os.path.abspath(name))
-    try:
-        descriptor, beside = tempfile.mkstemp(dir=folder, prefix=".report-")
-        try:
-            with os.fdopen(descriptor, "w", encoding="utf-8", errors="backslashreplace") as file:
-                file.write(text)
-            mask = os.umask(0)
-            os.umask(mask)
-            os.chmod(beside, 0o666 & ~mask)
-            os.replace(beside, name)
-        except BaseException:
-            os.unlink(beside)
-            raise
-    except OSError as trouble:
-        die("%s cannot be written: %s" % (name, trouble.strerror))
-
-
-def arguments(words):
-    asked, values = {"last": None, "log": None, "title": None, "out": None, "files": []}, {"--last": "last", "--log": "log", "--title": "title", "-o": "out"}
-    words = list(words)
-    while words:
-        word = words.pop(0)
-        if word in values:
-            if not words:
-                die("report: %s takes a word" % word)
-            asked[values[word]] = words.pop(0)
-        elif word == "--":
-            asked["files"] += words
-            break
-        elif word.startswith("-"):
-            die("report: unknown option %s" % word)
-        else:
-            asked["files"].append(word)
-    return asked
-
-
-def main(command, *words):
-    asked = arguments(words)
-    if not asked["files"] or not asked["out"]:
-        die("report takes -o REPORT.html and the names of files")
-    if asked["last"] and len(asked["files"]) > 1:
+def main(command, last, log, title, *files):
+    asked = {"last": last, "log": log, "title": title, "files": list(files)}
+    if last and len(files) > 1:
         die("report: --last goes with one file, since a comparison takes two")
-    for name in asked["files"] + [name for name in (asked["last"], asked["log"]) if name]:
+    for name in [*files, *filter(None, (last, log))]:
         if not os.path.isfile(name):
-            die("%s: no such file" % name)
-    if any(os.path.exists(asked["out"]) and os.path.samefile(asked["out"], name) for name in asked["files"]):
-        die("report: %s is the delivery itself" % asked["out"])
+            die("%s: %s" % (name, "not a file that can be read several times" if os.path.exists(name) else "no such file"))
     text, status = page(command, asked)
-    write_whole(asked["out"], text)
+    try:
+        sys.stdout.buffer.write(text.encode("utf-8", "backslashreplace"))
+        sys.stdout.buffer.flush()
+    except OSError as trouble:
+        die("the page cannot be written: %s" % trouble.strerror)
     return status
 
 
 if __name__ == "__main__":
-    if len(sys.argv) < 2:
+    if len(sys.argv) < 6:
         sys.exit(__doc__)
     sys.exit(main(*sys.argv[1:]))
