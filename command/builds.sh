@@ -63,14 +63,16 @@ unlock() {
     locked=
 }
 
-# Builds of one folder go one after the other. The lock names its process, so that a build that was killed does not keep it.
+# Builds of one folder go one after the other. The lock names its processes, so that a build that was killed does not keep it.
 lock() {
     building=$here/target/building
     if ! mkdir "$building" 2>/dev/null; then
         holder=$(cat "$building/process" 2>/dev/null)
-        if [ -z "$holder" ] || kill -0 "$holder" 2>/dev/null || [ -d "/proc/$holder" ]; then
-            die "another build is under way here (process ${holder:-not known}): try again when it has ended; if there is none, remove $building"
-        fi
+        for process in ${holder:-/}; do
+            if [ "$process" = / ] || kill -0 "$process" 2>/dev/null || [ -d "/proc/$process" ]; then
+                die "another build is under way here (process ${process#/}): try again when it has ended; if there is none, remove $building"
+            fi
+        done
         printf 'capellanote: the last build was cut off; this one goes on where it stopped\n' >&2
         rm -rf "$building"
         mkdir "$building" || die "another build has just begun here: try again when it has ended"
@@ -111,6 +113,7 @@ build() { # PROGRAM...
         echo $? >"$room/ended"
     ) >"$log" 2>&1 3>/dev/null 7<&- </dev/null &
     running=$!
+    echo "$running" >>"$building/process"
     follow "$log"
     wait "$running"
     running=

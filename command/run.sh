@@ -22,6 +22,7 @@ kill_tree() { # PROCESS
 # A signal stops the program, too; then the command ends by the same signal, so that its caller sees it.
 stopped() { # SIGNAL
     trap - EXIT "$1"
+    [ -z "$locked" ] || printf 'capellanote: the build was stopped; call it again, and it goes on from there\n' >&2
     clean_up
     kill -s "$1" $$
     exit 2
@@ -62,9 +63,8 @@ open_output() {
         return
     fi
     [ ! -L "$target" ] || target=$(resolved "$target")
-    temporary=$(dirname "$target")/.capellanote.$$
-    # shellcheck disable=SC3045
-    (set -C && : >"$temporary") 2>/dev/null || { temporary= && die "$option_o: cannot be written there"; }
+    temporary=$(mktemp "$(dirname "$target")/.capellanote.XXXXXX" 2>/dev/null) || { temporary= && die "$option_o: cannot be written there"; }
+    chmod "$(printf '%o' $((0666 & ~$(umask))))" "$temporary" # as any new file is
     exec >"$temporary"
 }
 
@@ -89,6 +89,8 @@ find_loader() {
         bin=$here/target/bin libs=$tools/lib emulator=$tools/bin/qemu-x86_64
     fi
     loader=$libs/ld-linux-x86-64.so.2
+    leash= # where it is there: the program ends even with a command that is killed outright
+    if setpriv --pdeathsig TERM true 2>/dev/null; then leash="setpriv --pdeathsig TERM"; fi
     [ -x "$emulator" ] || emulator=
     [ -e "$loader" ] || die "$libs has no loader for this machine"
 }
@@ -96,7 +98,8 @@ find_loader() {
 launch() { # PROGRAM WORDS...
     program=$1
     shift
-    exec ${emulator:+"$emulator"} "$loader" --library-path "$libs" "$bin/$program" "$@"
+    # shellcheck disable=SC2086
+    exec $leash ${emulator:+"$emulator"} "$loader" --library-path "$libs" "$bin/$program" "$@"
 }
 
 # Starts a program beside the command: its verdict lines to one file, its output to another, or to standard output if that is "".

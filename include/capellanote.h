@@ -1,6 +1,7 @@
 /* Capellanote for C: a proved reader and writer of CTfile V2000 molfiles and SDfiles.
 
-   Build: `rt staticlib capellanote` writes target/staticlib/libcapellanote.a for x86-64 Linux. It needs memset and memcpy and nothing else.
+   Build: `library/build` writes target/staticlib/libcapellanote.a and target/sharedlib/libcapellanote.so for x86-64 Linux
+   (`rt staticlib capellanote` the first alone). They need memset and memcpy and nothing else.
 
    Memory
      The library keeps nothing between calls and asks for no memory of its own but about 105 kB of stack.
@@ -76,6 +77,35 @@ enum { CAPELLANOTE_MORE = 0, CAPELLANOTE_ACCEPTED = 1, CAPELLANOTE_TOO_LONG = 2 
 /* Places in an atom's and in a bond's row, and what as many rows take as a record may have. */
 enum { CAPELLANOTE_ATOM = 16, CAPELLANOTE_BOND = 6,
        CAPELLANOTE_ATOMS = CAPELLANOTE_LIMIT * CAPELLANOTE_ATOM, CAPELLANOTE_BONDS = CAPELLANOTE_LIMIT * CAPELLANOTE_BOND };
+
+/* ---- Names for numbers: refusals, places of a row, places of an answer */
+
+enum { CAPELLANOTE_BAD_KIND = 1, CAPELLANOTE_SHORT_TABLE = 2, CAPELLANOTE_LONG_LINE = 3, CAPELLANOTE_BAD_BYTE = 4,
+       CAPELLANOTE_RESERVED_TAG = 5, CAPELLANOTE_NOT_V2000 = 6, CAPELLANOTE_MALFORMED = 7, CAPELLANOTE_OUT_OF_RANGE = 8,
+       CAPELLANOTE_UNKNOWN_SYMBOL = 9, CAPELLANOTE_EQUAL_ENDS = 10, CAPELLANOTE_BONDED_TWICE = 11, CAPELLANOTE_MORE_THAN_PAIRS = 12,
+       CAPELLANOTE_UNKNOWN_PROPERTY = 13, CAPELLANOTE_LISTED_TWICE = 14, CAPELLANOTE_NOT_A_SPACE = 15, CAPELLANOTE_NO_HEADER = 16,
+       CAPELLANOTE_NO_VALUE_OR_BLANK = 17, CAPELLANOTE_LINE_TOO_MANY = 18, CAPELLANOTE_CUT_SHORT = 19, CAPELLANOTE_SHORT_ROOM = 20,
+       CAPELLANOTE_UNWRITABLE = 21, CAPELLANOTE_NO_SUCH_ITEM = 22, CAPELLANOTE_UNKNOWN_EVENT = 26, CAPELLANOTE_CUT_EVENT = 27,
+       CAPELLANOTE_ABOVE_PAPER = 28, CAPELLANOTE_ABOVE_MILLION = 29, CAPELLANOTE_LOT_TOO_MANY = 30, CAPELLANOTE_NO_FORMULA = 31,
+       CAPELLANOTE_NESTED_TOO_DEEP = 32, CAPELLANOTE_TOO_MANY_ATOMS = 33, CAPELLANOTE_NO_ELEMENT = 34 };
+
+/* atoms[k * CAPELLANOTE_ATOM + CAPELLANOTE_CHARGE] is the charge of atom k + 1. */
+enum { CAPELLANOTE_X = 0, CAPELLANOTE_Y = 1, CAPELLANOTE_Z = 2, CAPELLANOTE_SYMBOL = 3, CAPELLANOTE_MASS_DIFFERENCE = 4,
+       CAPELLANOTE_CHARGE = 5, CAPELLANOTE_RADICAL = 6, CAPELLANOTE_ISOTOPE = 7, CAPELLANOTE_PARITY = 8, CAPELLANOTE_HYDROGENS = 9,
+       CAPELLANOTE_CARE = 10, CAPELLANOTE_VALENCE = 11, CAPELLANOTE_H0 = 12, CAPELLANOTE_MAP = 13, CAPELLANOTE_INVERSION = 14,
+       CAPELLANOTE_EXACT = 15 };
+enum { CAPELLANOTE_FIRST = 0, CAPELLANOTE_SECOND = 1, CAPELLANOTE_TYPE = 2, CAPELLANOTE_STEREO = 3, CAPELLANOTE_TOPOLOGY = 4,
+       CAPELLANOTE_CENTRE = 5 };
+
+/* Of every answer; where it is refused. */
+enum { CAPELLANOTE_REFUSED = 0, CAPELLANOTE_LINE = 1, CAPELLANOTE_COLUMN = 2 };
+/* Of a record read; the last is that of capellanote_read alone, and those of capellanote_next follow. */
+enum { CAPELLANOTE_READ_ATOMS = 1, CAPELLANOTE_READ_BONDS = 2, CAPELLANOTE_READ_CHIRAL = 3, CAPELLANOTE_READ_BYTES = 4,
+       CAPELLANOTE_READ_LINES = 5, CAPELLANOTE_READ_HEADER_END = 6, CAPELLANOTE_READ_ITEMS = 7, CAPELLANOTE_READ_ITEMS_END = 8,
+       CAPELLANOTE_READ_PAIRS = 9 };
+enum { CAPELLANOTE_NEXT_AT = 9, CAPELLANOTE_NEXT_LINES = 10, CAPELLANOTE_NEXT_RECORDS = 11, CAPELLANOTE_NEXT_RECORD = 12 };
+/* Of an item found; of a text written. */
+enum { CAPELLANOTE_ITEM_FROM = 1, CAPELLANOTE_ITEM_TO = 2, CAPELLANOTE_WRITTEN_LENGTH = 1 };
 
 /* A whole file.
    Accepted: answer = { 0, number of records, 0 }. Nothing else is written. */

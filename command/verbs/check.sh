@@ -16,18 +16,18 @@ END
 
 # The files of one kind, judged by one process: a verdict line each, in the order of their names.
 judge_kind() { # KIND FILES...
-    wanted=$1
+    wanted=$1 at=1 names=
     shift
-    count=$#
     for file in "$@"; do
         kind_of "$file"
-        plain "$file"
-        [ "$kind" != "$wanted" ] || set -- "$@" "$path"
+        if [ "$kind" = "$wanted" ]; then
+            case $file in -?*) names="$names \"./\${$at}\"" ;; *) names="$names \"\${$at}\"" ;; esac
+        fi
+        at=$((at + 1))
     done
-    shift "$count"
     : >"$room/$wanted"
-    [ $# -gt 0 ] || return 0
-    start "$room/$wanted" /dev/null check_files "$wanted" ${option_progress:+--progress} "$@"
+    [ -n "$names" ] || return 0
+    eval "start \"\$room/\$wanted\" /dev/null check_files \"\$wanted\" \${option_progress:+--progress} $names"
     await
 }
 
@@ -37,8 +37,9 @@ show_verdict() { # FILE
     [ -z "$cause" ] || printf '  hint: %s\n' "$cause" >&2
     case $status in
     0)
-        records=${verdict#accepted }
-        say '%s: accepted, %s\n' "$1" "$(plural "$records" record)"
+        records=${verdict#accepted } many=s
+        [ "$records" != 1 ] || many=
+        say '%s: accepted, %s record%s\n' "$1" "$records" "$many"
         total=$((total + records)) good=$((good + 1))
         ;;
     1) refused=$((refused + 1)) ;;
@@ -47,6 +48,9 @@ show_verdict() { # FILE
 }
 
 verb() { # FILES...
+    dashes=0
+    for file in "$@"; do [ "$file" != - ] || dashes=$((dashes + 1)); done
+    [ "$dashes" -lt 2 ] || misused "standard input can be read once, and - stands twice"
     judge_kind sdfile "$@"
     judge_kind molfile "$@"
     worst=0 good=0 refused=0 unread=0 total=0 files=$#

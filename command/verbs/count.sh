@@ -8,8 +8,8 @@ place=20
 explain() {
     cat <<'END'
 One line: `accepted 5` with the number of records, `refused 17 line 29 column 1`, or `record 3 too long`.
-A record may take up to 1,048,576 bytes, as for check. The program counter, with a buffer of 65,536 bytes, counts
-standard input and needs no file that can be read twice; it stands beside the others.
+A record may take up to 1,048,576 bytes, as for check; for the program `counter`, which stands beside the others and counts
+standard input alone, 65,536.
 Status: 0 accepted; 1 refused, or a record too long; 2 not read.
 END
 }

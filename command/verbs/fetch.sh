@@ -16,6 +16,7 @@ END
 }
 
 # The program's lines for each name, side by side, as the lines asked for. A name is escaped as the program escapes it.
+# Of several files the verdict lines say how many lines are whose; of one file all are.
 # shellcheck disable=SC2016
 merge='
     function text(s,    i, c, r) {
@@ -37,56 +38,100 @@ merge='
         }
         return r
     }
+    # The next line for each name: what stands before the values, and the values. Nothing where the first has no more.
+    function next_row(    k, line, at) {
+        for (k = 1; k <= count; k++) {
+            if ((getline line < (room "/item." k)) <= 0) { if (k == 1) return 0; exit 3 }
+            at = index(line, ",\"value\":")
+            head = substr(line, 2, at - 2)
+            row[k] = substr(line, at + 9, length(line) - at - 9)
+        }
+        return 1
+    }
+    function as_table(file,    out, k) {
+        out = file "\t" substr(head, 10, index(head, ",") - 10)
+        for (k = 1; k <= count; k++) out = out "\t" cell(row[k])
+        return out
+    }
+    function as_json(file,    out, k) {
+        out = "{" (several == "" ? "" : "\"file\":" text(file) ",") head
+        if (count == 1) return out ",\"value\":" row[1] "}"
+        for (k = 1; k <= count; k++) out = out (k == 1 ? ",\"values\":{" : ",") text(names[k]) ":" row[k]
+        return out "}}"
+    }
     BEGIN {
         for (i = 1; i < 32; i++) low = low sprintf("%c", i)
         count = split(ENVIRON["NAMES"], names, "\n")
-        file = ENVIRON["FILE"]
-        while ((getline line < (room "/item.1")) > 0) {
-            at = index(line, ",\"value\":")
-            head = substr(line, 2, at - 2)
-            row[1] = substr(line, at + 9, length(line) - at - 9)
-            for (k = 2; k <= count; k++) {
-                if ((getline line < (room "/item." k)) <= 0) exit 3
-                at = index(line, ",\"value\":")
-                row[k] = substr(line, at + 9, length(line) - at - 9)
+        for (f = 1; f < ARGC; f++) {
+            left = 1 # of one file: as long as there are any
+            if (several != "") {
+                getline verdict < (room "/verdict.1")
+                left = verdict ~ /^accepted / ? substr(verdict, 10) + 0 : 0
             }
-            out = tsv == "" ? "{" (several == "" ? "" : "\"file\":" text(file) ",") head : file "\t" substr(head, 10, index(head, ",") - 10)
-            if (tsv == "") out = out (count == 1 ? ",\"value\":" : ",\"values\":{")
-            for (k = 1; k <= count; k++) {
-                if (row[k] != "null") found[k] = 1
-                if (tsv != "") out = out "\t" cell(row[k])
-                else if (count == 1) out = out row[k]
-                else out = out (k > 1 ? "," : "") text(names[k]) ":" row[k]
+            records = 0
+            for (k = 1; k <= count; k++) found[k] = 0
+            while (records < left && next_row()) {
+                print tsv == "" ? as_json(ARGV[f]) : as_table(ARGV[f])
+                for (k = 1; k <= count; k++) if (row[k] != "null") found[k] = 1
+                records++
+                if (several == "") left++
             }
-            print out (tsv != "" ? "" : count == 1 ? "}" : "}}")
-            records++
+            for (k = 1; k <= count; k++) if (records && !found[k]) print f " " names[k] >(room "/missing")
         }
         for (k = 2; k <= count; k++) while ((getline line < (room "/item." k)) > 0) exit 3
-        for (k = 1; k <= count; k++) if (records && !found[k]) print names[k] >(room "/missing")
+        exit 0
     }'
 
-merge_items() { # FILE
-    FILE=$1 NAMES=$names LC_ALL=C awk -v room="$room" -v tsv="$option_tsv" -v several="$several" "$merge"
+# It has a process of its own.
+merge_items() { # FILES...
+    NAMES=$names LC_ALL=C
+    export NAMES LC_ALL
+    exec awk -v room="$room" -v tsv="$option_tsv" -v several="$several" "$merge" "$@"
 }
 
-# One file: a process a name, all read side by side.
-fetch_file() { # FILE
-    twice "$1"
+# The places of the files among the arguments, as names that can be read twice, in $paths.
+settle() { # FILES...
+    paths= at=0
+    for file in "$@"; do
+        at=$((at + 1))
+        twice "$file"
+        case $path in
+        "$file") paths="$paths \"\${$at}\"" ;;
+        "./$file") paths="$paths \"./\${$at}\"" ;;
+        *) paths="$paths \"\$room/$copies/standard input\"" ;;
+        esac
+    done
+}
+
+# A process a name, for all files. Of one file the lines go straight on; of several they wait for the verdicts.
+fetch_items() { # FILES...
+    settle "$@"
     k=0 progress=${option_progress:+--progress}
-    rm -f "$room/missing"
     while IFS= read -r name; do
         k=$((k + 1))
-        pipe "item.$k"
-        start "$room/verdict.$k" "$room/item.$k" records fetch "$name" ${progress:+"$progress"} "$path"
+        [ -n "$several" ] || pipe "item.$k"
+        eval "start \"\$room/verdict.$k\" \"\$room/item.$k\" records fetch \"\$name\" \$progress $paths"
         progress=
     done <"$room/names"
-    sieve merge_items "$1"
-    verdict=
-    IFS= read -r verdict <"$room/verdict.1" || :
-    tell "$1"
-    [ ! -f "$room/missing" ] || while IFS= read -r name; do
-        printf 'capellanote: %s: no record has an item named %s\n' "$1" "$name" >&2
-    done <"$room/missing"
+    [ -n "$several" ] || return 0
+    await
+    ! grep -q '^changed' "$room/verdict.1" || die "a file changed while it was read, so nothing is written"
+}
+
+# What the verdict lines say of the files, and which names no record of a file has.
+tell_files() { # FILES...
+    worst=0 at=0
+    exec 8<"$room/verdict.1"
+    for file in "$@"; do
+        at=$((at + 1)) verdict=
+        IFS= read -r verdict <&8
+        tell "$file"
+        [ "$status" -le "$worst" ] || worst=$status
+        [ ! -f "$room/missing" ] || while read -r whose name; do
+            [ "$whose" != "$at" ] || printf 'capellanote: %s: no record has an item named %s\n' "$file" "$name" >&2
+        done <"$room/missing"
+    done
+    status=$worst
 }
 
 # The columns of a table.
@@ -109,10 +154,7 @@ verb() { # [NAME] FILES...
     several=
     [ $# = 1 ] || several=yes
     [ -z "$option_tsv" ] || put_heading
-    worst=0
-    for file in "$@"; do
-        fetch_file "$file"
-        [ "$status" -le "$worst" ] || worst=$status
-    done
-    status=$worst
+    fetch_items "$@"
+    sieve merge_items "$@"
+    tell_files "$@"
 }

@@ -29,6 +29,7 @@ verb() { # [PREFIX]
     [ ! -d "$here/run" ] || die "this is an installed copy; install from the repository"
     . "$here/command/verbs/build.sh"
     build_all
+    umask 022 # what is installed is for everybody
     if [ "$(id -u)" = 0 ]; then prefix=/usr/local; else prefix=${HOME:-}/.local; fi
     prefix=${1:-$prefix}
     mkdir -p "$prefix/lib" "$prefix/bin" "$prefix/share/man/man1" 2>/dev/null && [ -w "$prefix/lib" ] && [ -w "$prefix/bin" ] ||

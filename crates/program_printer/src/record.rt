@@ -169,6 +169,10 @@ fn is_last(line: &[u8], lines: usize) -> bool {
     if lines < 4 {
         return false;
     }
+    // Most lines are told by their first byte.
+    if text::column(line, 1) != b'$' {
+        return false;
+    }
     match line_text::item_line(line) {
         ItemRead::Close => true,
         _ => false,

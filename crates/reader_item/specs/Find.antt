@@ -8,7 +8,7 @@ use Rattle.text.specs.Text.{Bytes, Line}
 use Rattle.text.specs.Find.{lineAt, sameBytes}
 use Rattle.text.specs.Cut.{cut}
 use Rattle.text.specs.declared.LineAt.{LineAt}
-use Rattle.rules.specs.Record.{Item, Raw}
+use Rattle.rules.specs.Record.{Item, Raw, Values as ValuesOf}
 use Rattle.judge_line.specs.Got.{Got, got, bad}
 use Rattle.judge_line.specs.Judge.{ItemOrEnd, title, close, ValueOrBlank, value, blank, valueOf}
 use Rattle.judge_file.specs.Place.{sdfile}
@@ -110,3 +110,9 @@ pub record ItemsStart (s : Bytes) (at : ℕ) : Type 0 where
   pub k : ℕ
   pub is : outcomeOf sdfile s ≡ whole x k
   pub start : at ≡ afterLines s 0 (moleculeLines (x .molecule))
+
+-- value lines of an item start here, and end at their blank line
+pub record ValuesFrom (s : Bytes) (at : ℕ) : Type 0 where
+  pub vs : List Line
+  pub rest : List Line
+  pub is : ValuesOf (cut (drop at s) .lines) vs rest

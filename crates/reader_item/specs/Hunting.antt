@@ -7,12 +7,13 @@ use mathlib.Core.Bool.{Bool, true, false, cond}
 use lib.ListN.{length, take, drop}
 use Rattle.text.specs.Text.{Bytes, Line}
 use Rattle.text.specs.Find.{lineAt, sameBytes}
-use Rattle.text.specs.Cut.{Cut, cut, line-within, line-cut, line-rest}
+use Rattle.text.specs.Cut.{Cut, cut, line-within}
 use Rattle.text.specs.declared.LineAt.{LineAt}
 use Rattle.rules.specs.Record.{Item, Raw, Values, Items, Record, limit}
 use Rattle.judge_line.specs.Got.{got}
 use Rattle.judge_line.specs.Judge.{title, close, itemOf}
 use Rattle.judge_line.specs.AgreeItem.{title-is, close-line-is, value-is, blank-line-is}
+use Rattle.line_judged.specs.Known.{Standing, HeaderOrEnd}
 use Rattle.judge_file.specs.Place.{sdfile}
 use Rattle.judge_file.specs.One.{One, oneRecord}
 use Rattle.judge_file.specs.OneAgree.{one-whole}
@@ -20,7 +21,7 @@ use Rattle.judge_file.specs.WalkText.{afterLines, after-cut}
 use Rattle.reader_walk.specs.Outcome.{Outcome, whole, outcomeOf, ofOne}
 use Rattle.reader_walk.specs.Stands.{moleculeLines}
 use Rattle.reader_walk.specs.Walked.{walkedBy, walkOf}
-use Rattle.reader_walk.specs.Walking.{after-more, part-start, part-end}
+use Rattle.reader_walk.specs.Walking.{after-more}
 use Rattle.reader_walk.specs.Checking.{left-length, left-length-2}
 use Rattle.reader_walk.specs.declared.Walked.{Walked}
 use Rattle.line_counts_bonds.specs.declared.Counts.{Counts}
@@ -29,7 +30,8 @@ use Rattle.reader_item.specs.declared.Part.{Part}
 use Rattle.reader_item.specs.declared.Title.{Title}
 use Rattle.reader_item.specs.declared.Values.{Values as Stretch}
 use Rattle.reader_item.specs.Find.{fromOf, toOf, Said, item, refused, numbersOf, Spot, after, nowhere, spotOf, saidBy, foundBy, foundOf, stretchOf}
-use Rattle.reader_item.specs.Find.{titledAs, titleBy, valuesAhead, valuesAt, ItemsStart}
+use Rattle.reader_item.specs.Find.{titledAs, titleBy, valuesAhead, valuesAt, ItemsStart, ValuesFrom}
+use Rattle.reader_item.specs.NeverRefused.{item-known, items-stand, items-line}
 use Rattle.reader_item.specs.Promise.{Promised}
 use Rattle.reader_item.specs.Position.{after-join, after-low, stretch-within, Past, past-values, past-molecule}
 
@@ -73,6 +75,11 @@ module _ (name : Bytes) where
       let b = is-named (sameBytes found name) (sym (title-by l found (title-is l found h)) ∙ q) in
       by-title found vs is j true b ∙ ap (after (suc j)) (sym (many-values v))
 
+  -- what follows a data header are its values
+  here-values : {l : Line} {t rest : List Line} {left : List Item} → Items (l ∷ t) left rest → (titleBy name (itemOf l) ≡ Title.Close → ⊥) → (vs : List Line) × (u : List Line) × Values t vs u
+  here-values (Items.end {l = l} h) n = absurd (n (close-by l (close-line-is l h)))
+  here-values (Items.more {u = u} {vs = vs} h v p) n = (vs, u, v)
+
   -- the items that follow an item
   record Later (t rest : List Line) (left : List Item) : Type 0 where
     pub u : List Line
@@ -98,9 +105,6 @@ module _ (name : Bytes) where
   unfolding spotOf
   here-close (Items.end h) q j = refl
   here-close (Items.more {l = l} {name = found} h v p) q j = absurd (not-close (sameBytes found name) (sym (title-by l found (title-is l found h)) ∙ q))
-
-no-items : {X : Type 0} {is : List Item} {r : List Line} → Items [] is r → X
-no-items = elim [ ]
 
 -- ---- The items of a record
 
@@ -157,15 +161,21 @@ module _ (s name : Bytes) (at : ℕ) (g : Hunting s name at) where
   unfolding foundOf
   said p h = ap (saidBy s) (sym h ∙ sym (g .same)) ∙ ap (foundBy s name) (sym (g .is))
 
-  pub hunting-rest : (o : LineAt) → o ≡ lineAt s at → o ≡ LineAt.Unfinished → refused 22 0 0 ≡ foundOf s name
-  hunting-rest o h q = no-items (subst (λ (t : List Line). Items t (g .left) (g .rest)) (ap (λ (c : Cut). c .lines) (line-rest s at (sym h ∙ q))) (g .items))
+  pub hunting-line : Standing s at
+  hunting-line = items-stand s at (g .items)
 
-  module _ (o : LineAt) (e n : ℕ) (h : o ≡ lineAt s at) (q : o ≡ LineAt.Line e n) where
-    l-is : lineAt s at ≡ LineAt.Line e n
-    l-is = sym h ∙ q
+  module _ (e n : ℕ) (l-is : lineAt s at ≡ LineAt.Line e n) where
+    pub hunting-low : at ≤ e
+    hunting-low = line-within s at e n l-is .0
+
+    pub hunting-high : e ≤ length s
+    hunting-high = let w = line-within s at e n l-is in omega (arith, w .1, w .2)
 
     here : Items (take (e - at) (drop at s) ∷ (cut (drop n s) .lines)) (g .left) (g .rest)
-    here = subst (λ (t : List Line). Items t (g .left) (g .rest)) (ap (λ (c : Cut). c .lines) (line-cut s at e n l-is)) (g .items)
+    here = items-line s at e n l-is (g .items)
+
+    pub hunting-known : HeaderOrEnd (take (e - at) (drop at s))
+    hunting-known = item-known here
 
     next-is : afterLines s 0 (suc (g .j)) ≡ n
     next-is = after-more s 0 (g .j) at e n (g .place) l-is
@@ -173,6 +183,15 @@ module _ (s name : Bytes) (at : ℕ) (g : Hunting s name at) where
     module _ (y : Title) (u : y ≡ titleBy name (itemOf (take (e - at) (drop at s)))) where
       pub hunting-close : y ≡ Title.Close → refused 22 0 0 ≡ foundOf s name
       hunting-close k = said nowhere (here-close name here (sym u ∙ k) (g .j))
+
+      values-from : (titleBy name (itemOf (take (e - at) (drop at s))) ≡ Title.Close → ⊥) → ValuesFrom s n
+      values-from k = let v = here-values name here k in record { vs = v .0; rest = v .1; is = v .2 }
+
+      pub named-values : y ≡ Title.Named → ValuesFrom s n
+      named-values k = values-from (λ h. let z : Title.Named ≡ Title.Close = sym k ∙ u ∙ h in let z : _≡_ {A = ℕ} 0 1 = cc in omega arith)
+
+      pub other-values : y ≡ Title.Other → ValuesFrom s n
+      other-values k = values-from (λ h. let z : Title.Other ≡ Title.Close = sym k ∙ u ∙ h in let z : _≡_ {A = ℕ} 0 1 = cc in omega arith)
 
       module _ (v : Stretch) (vals : v ≡ valuesAt s n) where
         pub hunting-named : y ≡ Title.Named → item (v .from) (v .to) ≡ foundOf s name
@@ -214,7 +233,7 @@ module _ (s name : Bytes) (at : ℕ) (g : Hunting s name at) where
             let a = after-low s n (suc (valuesAhead (cut (drop n s) .lines))) (w .2) in
             omega (arith, after-is, a .0, w .0, w .1, w .2)
 
-pub ruleset hunting-laws = (part-start, part-end, hunting-start, hunting-rest, hunting-close, hunting-named, hunting-other, hunting-less)
+pub ruleset hunting-laws = (hunting-start, hunting-line, hunting-low, hunting-high, hunting-known, hunting-close, named-values, other-values, hunting-named, hunting-other, hunting-less)
 
 -- ---- After the walk
 

@@ -1,5 +1,6 @@
 pub mod Find
 pub mod Position
+pub mod NeverRefused
 pub mod Passing
 pub mod Hunting
 pub mod Promise

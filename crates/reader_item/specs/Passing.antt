@@ -1,27 +1,29 @@
 -- A name held against another, and the loop over the value lines of an item.
-use Prim.Native.Nat.{ℕ, suc, _+_, _-_}
+use Prim.Native.Nat.{ℕ, suc, _+_, _-_, _≤_, _<_}
 use native.Mathlib.Omega.{arith}
 use mathlib.Core.Path.{_≡_, refl, sym, ap, _∙_}
 use mathlib.Core.Bool.{Bool, true, false, cond}
+use mathlib.Core.List.{_∷_}
 use lib.ListN.{length, take, drop}
 use Rattle.text.specs.Text.{Bytes, Line}
 use Rattle.text.specs.Columns.{columnsFor}
-use Rattle.text.specs.Find.{lineAt, sameBytes, hasText}
-use Rattle.text.specs.Cut.{cut, line-cut, line-rest}
+use Rattle.text.specs.Find.{lineAt, sameBytes, hasText, isBlank}
+use Rattle.text.specs.Cut.{cut, line-within, line-cut}
 use Rattle.text.specs.Agree.{same-bytes, columns-whole}
 use Rattle.text.specs.declared.LineAt.{LineAt}
-use Rattle.judge_line.specs.Judge.{itemOf, valueOf}
-use Rattle.line_text.specs.Answer.{itemGot, valueGot}
-use Rattle.line_text.specs.Within.{title-order, title-end}
-use Rattle.line_text.specs.declared.ItemRead.{ItemRead}
-use Rattle.line_text.specs.declared.ValueRead.{ValueRead}
-use Rattle.judge_file.specs.WalkText.{afterLines, after-none, after-last}
-use Rattle.reader_walk.specs.Walking.{after-more, part-start, part-end, walking-less}
+use Rattle.rules.specs.Record.{Values}
+use Rattle.judge_line.specs.Got.{Got, got}
+use Rattle.judge_line.specs.Judge.{isClose, itemOf, ValueOrBlank, value, blank, valueOf}
+use Rattle.judge_line.specs.AgreeItem.{title-is, close-is}
+use Rattle.line_judged.specs.Known.{Standing, HeaderOrEnd, Header, Named}
+use Rattle.judge_file.specs.WalkText.{afterLines, after-none}
+use Rattle.reader_walk.specs.Walking.{after-more}
 use Rattle.reader_item.specs.declared.Title.{Title}
 use Rattle.reader_item.specs.declared.Values.{Values as Stretch}
 use Rattle.reader_item.specs.Find.{lineEnd, fromOf, toOf}
-use Rattle.reader_item.specs.Find.{titledAs, titleBy, isValue, valuesAhead, valuesAt}
-use Rattle.reader_item.specs.Position.{after-join, end-is}
+use Rattle.reader_item.specs.Find.{titledAs, titleBy, isValue, valuesAhead, valuesAt, ValuesFrom}
+use Rattle.reader_item.specs.Position.{end-is}
+use Rattle.reader_item.specs.NeverRefused.{values-stand, values-line, value-known, blank-known}
 
 -- ---- A name held against another
 
@@ -50,33 +52,45 @@ module _ (found name : Bytes) where
 
 pub ruleset name-laws = (titled-short, titled-same, titled-other)
 
-module _ (line name : Bytes) (r : ItemRead) (e : itemGot line r ≡ itemOf line) where
-  pub line-titled : (from to : ℕ) (t : Title) → r ≡ ItemRead.Title from to → t ≡ titledAs (take (to - from) (drop from line)) name → t ≡ titleBy name (itemOf line)
-  unfolding titleBy
-  line-titled from to t q h = h ∙ ap (titleBy name) (sym (ap (itemGot line) q) ∙ e)
+-- a data header or the end of the record
+module _ (line name : Bytes) (g : HeaderOrEnd line) (b : Bool) (e : b ≡ isClose line) where
+  pub line-closed : b ≡ true → Title.Close ≡ titleBy name (itemOf line)
+  unfolding titleBy itemOf
+  line-closed q = rw (sym e, q)
 
-  pub line-closed : r ≡ ItemRead.Close → Title.Close ≡ titleBy name (itemOf line)
-  unfolding titleBy
-  line-closed q = ap (titleBy name) (sym (ap (itemGot line) q) ∙ e)
+  pub line-header : b ≡ false → Header line
+  line-header q = go g
+    where
+      go : HeaderOrEnd line → Header line
+      go (HeaderOrEnd.header found d) = record { name = found; is = d }
+      go (HeaderOrEnd.record-end r) = absurd (let z : true ≡ false = sym (close-is line r) ∙ sym e ∙ q in let z : _≡_ {A = ℕ} 0 1 = cc in omega arith)
 
-  pub line-bad : (n c : ℕ) → r ≡ ItemRead.Bad n c → Title.Close ≡ titleBy name (itemOf line)
-  unfolding titleBy
-  line-bad n c q = ap (titleBy name) (sym (ap (itemGot line) q) ∙ e)
+module _ (line name : Bytes) (from to : ℕ) (d : Named line from to) where
+  pub name-order : from ≤ to
+  name-order = d .order
 
-pub ruleset title-laws = (title-order, title-end, line-titled, line-closed, line-bad)
+  pub name-inside : to ≤ length line
+  name-inside = d .inside
+
+  pub line-titled : (t : Title) → t ≡ titledAs (take (to - from) (drop from line)) name → t ≡ titleBy name (itemOf line)
+  unfolding titleBy
+  line-titled t h = h ∙ ap (titleBy name) (sym (title-is line (take (to - from) (drop from line)) (d .is)))
+
+pub ruleset title-laws = (line-closed, line-header, name-order, name-inside, line-titled)
 
 -- ---- The value lines of an item
 
 -- so many value lines lie between `at` and i
 pub record Passing (s : Bytes) (at from to i : ℕ) : Type 0 where
+  pub left : ValuesFrom s i
   pub passed : ℕ
   pub place : afterLines s at passed ≡ i
   pub ahead : valuesAhead (cut (drop at s) .lines) ≡ passed + valuesAhead (cut (drop i s) .lines)
   pub from-is : from ≡ fromOf at passed
   pub to-is : to ≡ toOf s at passed
 
-pub passing-start : (s : Bytes) (at : ℕ) → Passing s at 0 0 at
-passing-start s at = record { passed = 0; place = after-none s at; ahead = omega arith; from-is = refl; to-is = refl }
+pub passing-start : (s : Bytes) (at : ℕ) → ValuesFrom s at → Passing s at 0 0 at
+passing-start s at g = record { left = g; passed = 0; place = after-none s at; ahead = omega arith; from-is = refl; to-is = refl }
 
 module _ (s : Bytes) (at from to i : ℕ) (g : Passing s at from to i) where
   -- no value line follows
@@ -87,30 +101,36 @@ module _ (s : Bytes) (at from to i : ℕ) (g : Passing s at from to i) where
       let z : valuesAhead (cut (drop at s) .lines) ≡ g .passed = omega (arith, g .ahead) in
       rw (z, g .from-is, g .to-is, sym k)
 
-  pub passing-rest : (o : LineAt) → o ≡ lineAt s i → o ≡ LineAt.Unfinished → _≡_ {A = Stretch} (record { from = from; to = to; next = i }) (valuesAt s at)
-  unfolding valuesAhead
-  passing-rest o h q =
-      let l = sym h ∙ q in
-      let p : suc (g .passed) ≡ g .passed + 1 = omega arith in
-      over i (rw (line-rest s i l))
-      (ap (afterLines s at) p ∙ after-join s at (g .passed) 1 ∙ ap (λ (a : ℕ). afterLines s a 1) (g .place) ∙ after-last s i 0 l)
+  pub passing-line : Standing s i
+  passing-line = values-stand s i (g .left .is)
 
-  module _ (o : LineAt) (e n : ℕ) (h : o ≡ lineAt s i) (q : o ≡ LineAt.Line e n) where
-    l : lineAt s i ≡ LineAt.Line e n
-    l = sym h ∙ q
+  module _ (e n : ℕ) (l : lineAt s i ≡ LineAt.Line e n) where
+    pub passing-low : i ≤ e
+    passing-low = line-within s i e n l .0
+
+    pub passing-high : e ≤ length s
+    passing-high = let w = line-within s i e n l in omega (arith, w .1, w .2)
+
+    pub passing-less : length s - n < length s - i
+    passing-less = let w = line-within s i e n l in omega (arith, w .0, w .1, w .2)
 
     further : afterLines s at (suc (g .passed)) ≡ n
     further = after-more s at (g .passed) i e n (g .place) l
 
-    module _ (v : ValueRead) (got-it : valueGot v ≡ valueOf (take (e - i) (drop i s))) where
-      ahead-is : valuesAhead (cut (drop i s) .lines) ≡ cond (isValue (valueGot v)) (suc (valuesAhead (cut (drop n s) .lines))) 0
-      unfolding valuesAhead
-      ahead-is = rw (line-cut s i e n l, sym got-it)
+    here : Values (take (e - i) (drop i s) ∷ (cut (drop n s) .lines)) (g .left .vs) (g .left .rest)
+    here = values-line s i e n l (g .left .is)
 
-      pub passing-next : v ≡ ValueRead.Value → Passing s at at e n
+    ahead-is : (v : Got ValueOrBlank) → valueOf (take (e - i) (drop i s)) ≡ v → valuesAhead (cut (drop i s) .lines) ≡ cond (isValue v) (suc (valuesAhead (cut (drop n s) .lines))) 0
+    unfolding valuesAhead
+    ahead-is v h = rw (line-cut s i e n l, h)
+
+    module _ (b : Bool) (q : b ≡ isBlank (take (e - i) (drop i s))) where
+      pub passing-next : b ≡ false → Passing s at at e n
       passing-next k =
-          let z : valuesAhead (cut (drop i s) .lines) ≡ suc (valuesAhead (cut (drop n s) .lines)) = ahead-is ∙ rw k in
+          let v = value-known here (sym q ∙ k) in
+          let z : valuesAhead (cut (drop i s) .lines) ≡ suc (valuesAhead (cut (drop n s) .lines)) = ahead-is (got value) (v .2) in
           record {
+            left = record { vs = v .0; rest = g .left .rest; is = v .1 };
             passed = suc (g .passed);
             place = further;
             ahead = omega (arith, g .ahead);
@@ -118,10 +138,7 @@ module _ (s : Bytes) (at from to i : ℕ) (g : Passing s at from to i) where
             to-is = sym (end-is s i e n l) ∙ ap (lineEnd s) (sym (g .place));
           }
 
-      pub passing-blank : v ≡ ValueRead.Blank → _≡_ {A = Stretch} (record { from = from; to = to; next = n }) (valuesAt s at)
-      passing-blank k = over n (ahead-is ∙ rw k) further
+      pub passing-blank : b ≡ true → _≡_ {A = Stretch} (record { from = from; to = to; next = n }) (valuesAt s at)
+      passing-blank k = over n (ahead-is (got blank) (blank-known here (sym q ∙ k))) further
 
-      pub passing-bad : (a c : ℕ) → v ≡ ValueRead.Bad a c → _≡_ {A = Stretch} (record { from = from; to = to; next = n }) (valuesAt s at)
-      passing-bad a c k = over n (ahead-is ∙ rw k) further
-
-pub ruleset passing-laws = (part-start, part-end, walking-less, passing-start, passing-rest, passing-next, passing-blank, passing-bad)
+pub ruleset passing-laws = (passing-start, passing-line, passing-low, passing-high, passing-less, passing-next, passing-blank)

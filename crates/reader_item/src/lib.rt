@@ -5,15 +5,13 @@ ghost use lib.ListN.{length};
 ghost use Rattle.rules.specs.Record.{atomPlaces, bondPlaces};
 ghost use Rattle.judge_line.specs.Judge.{itemOf};
 ghost use Rattle.line_property.specs.Listed.{places};
-ghost use Rattle.reader_item.specs.Find.{titledAs, titleBy, valuesAt, numbersOf, foundOf, stretchOf, ItemsStart};
+ghost use Rattle.line_judged.specs.Known.{HeaderOrEnd};
+ghost use Rattle.reader_item.specs.Find.{titledAs, titleBy, valuesAt, numbersOf, foundOf, stretchOf, ItemsStart, ValuesFrom};
 ghost use Rattle.reader_item.specs.Promise.{Promised, Handed};
-use line_text::ItemRead;
-use line_text::ValueRead;
 use reader_walk::Walked;
 use rules::ATOMS;
 use rules::BONDS;
 use rules::LISTED;
-use text::LineAt;
 
 // What a fetch finds: the bytes from the first value line's start up to the last one's end; both 0 where the item has no value lines.
 pub enum Found {
@@ -54,41 +52,38 @@ fn title_as(found: &[u8], name: &[u8]) -> Title
     Title::Other
 }
 
-// A line where a data header or `$$$$` must stand.
+// A data header or the `$$$$` line that ends the record.
 fn title_line(line: &[u8], name: &[u8]) -> Title
+    requires { ⌜ HeaderOrEnd (now line) ⌝ }
     ensures { λ r. ⌜ r ≡ titleBy (now (name .entry)) (itemOf (now (line .entry))) ⌝ }
 {
-    match line_text::item_line(line) {
-        ItemRead::Title { from, to } => title_as(&line[from..to], name),
-        ItemRead::Close => Title::Close,
-        ItemRead::Bad { no: _, column: _ } => Title::Close,
+    if line_judged::is_end(line) {
+        return Title::Close;
     }
+    let found = line_judged::name_of(line);
+    let from = found.from;
+    let to = found.to;
+    title_as(&line[from..to], name)
 }
 
-// The value lines that start at position `at`, and the line that ends them.
+// The value lines of an item of a good record, which start at position `at`, and the blank line that ends them.
 fn values_at(s: &[u8], at: usize) -> Values
+    requires { ⌜ ValuesFrom (now s) at ⌝ }
     ensures { λ r. ⌜ r ≡ valuesAt (now (s .entry)) at ⌝ }
 {
     let mut from: usize = 0;
     let mut to: usize = 0;
     let mut i = at;
     loop {
-        let LineAt::Line { end, next } = text::line_at(s, i) else {
-            return Values { from, to, next: i };
-        };
-        match line_text::value_line(&s[i..end]) {
-            ValueRead::Value => {
-                from = at;
-                to = end;
-                i = next;
-            }
-            ValueRead::Blank => {
-                return Values { from, to, next };
-            }
-            ValueRead::Bad { no: _, column: _ } => {
-                return Values { from, to, next };
-            }
+        let line = line_judged::whole_line(s, i);
+        let end = line.end;
+        let next = line.next;
+        if text::is_blank(&s[i..end]) {
+            return Values { from, to, next };
         }
+        from = at;
+        to = end;
+        i = next;
     }
 }
 
@@ -99,13 +94,9 @@ fn hunt(s: &[u8], start: usize, name: &[u8]) -> Found
 {
     let mut at = start;
     loop {
-        let LineAt::Line { end, next } = text::line_at(s, at) else {
-            return Found::Refused {
-                no: 22,
-                line: 0,
-                column: 0,
-            };
-        };
+        let line = line_judged::whole_line(s, at);
+        let end = line.end;
+        let next = line.next;
         match title_line(&s[at..end], name) {
             Title::Named => {
                 let v = values_at(s, next);

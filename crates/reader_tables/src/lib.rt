@@ -110,8 +110,8 @@ pub fn put_bond(bonds: &mut [i32], i: usize, b: Bond)
     bonds[at + 5] = centre;
 }
 
-// Zeros from place `from` to before place `to`.
-pub fn clear(table: &mut [i32], from: usize, to: usize)
+// Zeros from place `from` to before place `to`, one by one.
+fn clear_few(table: &mut [i32], from: usize, to: usize)
     requires { ⌜ (from ≤ to) × (to ≤ length (now table)) ⌝ }
     ensures { λ r. ⌜ now (table .exit) ≡ cleared (now (table .entry)) from to ⌝ }
 {
@@ -120,6 +120,35 @@ pub fn clear(table: &mut [i32], from: usize, to: usize)
         table[i] = 0;
         i += 1;
     }
+}
+
+// Sixty-four zeros from place `at` on, which compile to sixteen wide stores.
+fn clear_block(table: &mut [i32], at: usize)
+    requires { ⌜ at + 64 ≤ length (now table) ⌝ }
+    ensures { λ r. ⌜ now (table .exit) ≡ cleared (now (table .entry)) at (at + 64) ⌝ }
+{
+    let mut k: usize = 0;
+    while k < 64 {
+        table[at + k] = 0;
+        k += 1;
+    }
+}
+
+// Zeros from place `from` to before place `to`: both halves side by side, block by block, and then the few that are left. One run of zeros would compile
+// to a call that takes a third more.
+pub fn clear(table: &mut [i32], from: usize, to: usize)
+    requires { ⌜ (from ≤ to) × (to ≤ length (now table)) ⌝ }
+    ensures { λ r. ⌜ now (table .exit) ≡ cleared (now (table .entry)) from to ⌝ }
+{
+    let half = (to - from) / 128 * 64;
+    let mid = from + half;
+    let mut i: usize = 0;
+    while i < half {
+        clear_block(table, from + i);
+        clear_block(table, mid + i);
+        i += 64;
+    }
+    clear_few(table, mid + half, to);
 }
 
 // Whether one of the places 1 to n after place `from` is in use.

@@ -19,17 +19,14 @@ use Rattle.rules.specs.Canon.{canonLines, canonFile}
 use Rattle.judge_file.specs.Place.{sdfile}
 use Rattle.judge_file.specs.WalkText.{afterLines}
 use Rattle.reader_walk.specs.Outcome.{Outcome, whole, refused, outcomeOf}
-use Rattle.writer_molecule.specs.Body.{bodySize}
-use Rattle.judge_parts.specs.Part.{good}
-use Rattle.judge_parts.specs.Written.{textOf, writtenHeaders, writtenItems, headersText, itemsText}
-use Rattle.judge_parts.specs.PartAgree.{good-headers, good-items}
 use Rattle.reader_record.specs.declared.RecordRead.{RecordRead}
 use Rattle.reader_record.specs.Read.{readAs}
 use Rattle.reader_record.specs.Rows.{RowsPromise}
 use Rattle.writer_record.specs.declared.Written.{Written}
-use Rattle.writer_record.specs.Write.{canonText}
-use Rattle.writer_record.specs.Measure.{sized, afterHeaders, text-length}
-use Rattle.writer_copy.specs.Bridge.{Front}
+use Rattle.writer_record.specs.Write.{Given, canonText}
+use Rattle.writer_record.specs.Measure.{sized, partsSize, GoodParts, text-length}
+use Rattle.writer_copy.specs.Bridge.{givenOf, Front}
+use Rattle.writer_copy.specs.NeverRefused.{headers-are, items-are, front-parts}
 use Rattle.writer_catalogue.specs.declared.Measured.{Measured}
 use Rattle.writer_catalogue.specs.Catalogue.{catalogueText, upTo}
 use Rattle.writer_catalogue.specs.Reading.{front, read-refused}
@@ -78,26 +75,17 @@ text-last xs x =
 
 -- ---- One record
 
--- header lines, molecule, items and the line that ends the record
-unfoldable pub partsSize : ℕ → ℕ → List ℤ → Bytes → Bytes → ℕ
-partsSize n m atoms headers items = length (textOf (writtenHeaders headers)) + bodySize n m atoms + length (textOf (writtenItems items)) + 5
-
 -- all that is asked of a record that is measured
 pub record Measurable (n m : ℕ) (atoms : List ℤ) (headers items : Bytes) (k : ℕ) : Type 0 where
   pub few : k * 1 < 2 ^ 63
   pub few-atoms : n ≤ limit
   pub few-bonds : m ≤ limit
   pub rows : 16 * n ≤ length atoms
-  pub headers-good : writtenHeaders headers ≡ good (textOf (writtenHeaders headers))
-  pub items-good : writtenItems items ≡ good (textOf (writtenItems items))
+  pub parts : GoodParts headers items
 
 module _ (n m : ℕ) (atoms : List ℤ) (headers items : Bytes) (k : ℕ) (g : Measurable n m atoms headers items k) where
   abbrev size : ℕ
   size = partsSize n m atoms headers items
-
-  sized-parts : (j : ℕ) → afterHeaders (bodySize n m atoms) j (writtenItems items) (writtenHeaders headers) ≡ sized size j
-  unfolding partsSize
-  sized-parts j = ap₂ (afterHeaders (bodySize n m atoms) j) (g .items-good) (g .headers-good)
 
   pub over-already : (needed : ℕ) → k < needed → k + 1 ≡ upTo k (needed + size)
   over-already needed h = sym (up-over k (needed + size) (omega arith))
@@ -105,10 +93,7 @@ module _ (n m : ℕ) (atoms : List ℤ) (headers items : Bytes) (k : ℕ) (g : M
   pub over-fits : Fits w64 (k + 1)
   over-fits = record { fits = omega (arith, g .few) }
 
-  module _ (needed : ℕ) (h : needed ≤ k) (w : Written) (ew : w ≡ afterHeaders (bodySize n m atoms) (k - needed) (writtenItems items) (writtenHeaders headers)) where
-    is : w ≡ sized size (k - needed)
-    is = ew ∙ sized-parts (k - needed)
-
+  module _ (needed : ℕ) (h : needed ≤ k) (w : Written) (is : w ≡ sized size (k - needed)) where
     module _ (l : ℕ) (q : w ≡ Written.Done l) where
       done : (l ≡ size) × (size ≤ k - needed)
       unfolding sized
@@ -141,13 +126,8 @@ measuredBy t needed k (whole x j) = Measured.Record (afterLines t 0 j) j (upTo k
 measuredBy t needed k (refused e i c) = Measured.Refused e i c
 
 module _ (t : Bytes) (ta tb : List ℤ) (n m chiral len j h a b : ℕ) (f : Front sdfile t ta tb n m chiral len j h a b) where
-  front-headers : writtenHeaders (take (h - 0) (drop 0 t)) ≡ good (headersText (meaning (f .x) .headers))
-  unfolding writtenHeaders
-  front-headers = rw (good-headers (take (h - 0) (drop 0 t)) (meaning (f .x) .headers) .1 (f .accepted .headers))
-
-  front-items : writtenItems (take (b - a) (drop a t)) ≡ good (itemsText (meaning (f .x) .items))
-  unfolding writtenItems
-  front-items = rw (good-items (take (b - a) (drop a t)) (meaning (f .x) .items) .1 (f .accepted .items))
+  abbrev given : Given
+  given = givenOf t ta tb n m chiral h a b
 
   n-is : n ≡ meaning (f .x) .n
   n-is = sym (ap (λ (y : Reading). y .n) (f .accepted .tables))
@@ -163,16 +143,14 @@ module _ (t : Bytes) (ta tb : List ℤ) (n m chiral len j h a b : ℕ) (f : Fron
         few-atoms = omega (arith, w .n, n-is);
         few-bonds = omega (arith, w .m, m-is);
         rows = omega (arith, w .n, n-is, f .accepted .roomy .atoms);
-        headers-good = rw front-headers;
-        items-good = rw front-items;
+        parts = front-parts sdfile t ta tb n m chiral len j h a b f;
       }
 
   front-size : partsSize n m ta (take (h - 0) (drop 0 t)) (take (b - a) (drop a t)) ≡ length (canonText (meaning (f .x)))
   unfolding partsSize
   front-size =
-      rw (front-headers, front-items)
-      (text-length (record { atoms = ta; bonds = tb; n = n; m = m; chiral = chiral; headers = take (h - 0) (drop 0 t); items = take (b - a) (drop a t) }) (meaning (f .x) .headers) (meaning (f .x) .items)
-      ∙ ap (λ (y : Reading). length (canonText y)) (sym (f .accepted .tables)))
+      rw (headers-are given (meaning (f .x)) (f .accepted), items-are given (meaning (f .x)) (f .accepted))
+      (text-length given (meaning (f .x) .headers) (meaning (f .x) .items) ∙ ap (λ (y : Reading). length (canonText y)) (sym (f .accepted .tables)))
 
 module _ (t : Bytes) (ta tb ta′ tb′ : List ℤ) (ra : atomPlaces ≤ length ta) (rb : bondPlaces ≤ length tb) (p : RowsPromise sdfile t ta tb ta′ tb′)
     (r : RecordRead) (er : r ≡ readAs sdfile (length ta) (length tb) t) where

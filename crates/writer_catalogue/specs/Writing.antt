@@ -25,6 +25,7 @@ use Rattle.writer_record.specs.Write.{Given, canonText}
 use Rattle.writer_record.specs.Measure.{recordText, Ready}
 use Rattle.writer_record.specs.Promise.{Accepted, Promise, accepted-one, accepted-ready, accepted-laid}
 use Rattle.writer_catalogue.specs.declared.Wrote.{Wrote}
+use Rattle.writer_catalogue.specs.declared.Again.{Again}
 use Rattle.writer_copy.specs.Bridge.{givenOf, Front}
 use Rattle.writer_catalogue.specs.Reading.{front, read-atoms, read-bonds, read-refused}
 
@@ -105,6 +106,20 @@ module _ (g : Given) (r : Bytes) (to : ℕ) (h : Handed g r to) where
 
 -- ---- One record
 
+-- the text begins with a record
+pub record Known (t : Bytes) (ta tb : List ℤ) : Type 0 where
+  pub atoms : atomPlaces ≤ length ta
+  pub bonds : bondPlaces ≤ length tb
+  pub x : Raw
+  pub k : ℕ
+  pub is : outcomeOf sdfile t ≡ whole x k
+
+-- it was read, and its rows stand in the tables
+pub record ReadAgain (t : Bytes) (ta tb ta′ tb′ : List ℤ) (w : Again) : Type 0 where
+  pub left-atoms : Beside atomPlaces ta ta′
+  pub left-bonds : Beside bondPlaces tb tb′
+  pub front : Front sdfile t ta′ tb′ (w .n) (w .m) (w .chiral) (w .length) (w .lines) (w .«header_end») (w .«items_start») (w .«items_end»)
+
 -- the text begins with a record whose canonical text has room
 pub record Next (t : Bytes) (ta tb : List ℤ) (r : Bytes) (to : ℕ) : Type 0 where
   pub atoms : atomPlaces ≤ length ta
@@ -123,43 +138,63 @@ pub record WroteNext (t r₀ r : Bytes) (to : ℕ) (w : Wrote) : Type 0 where
 same-whole : {o : Outcome} {x y : Raw} {k j : ℕ} → o ≡ whole x k → o ≡ whole y j → (x ≡ y) × (k ≡ j)
 same-whole {o} {x} {y} {k} {j} p q = let e : whole x k ≡ whole y j = sym p ∙ q in (cc, cc)
 
-module _ (t : Bytes) (ta tb ta′ tb′ : List ℤ) (r : Bytes) (to : ℕ) (g : Next t ta tb r to) (rows : RowsPromise sdfile t ta tb ta′ tb′)
+module _ (t : Bytes) (ta tb ta′ tb′ : List ℤ) (g : Known t ta tb) (rows : RowsPromise sdfile t ta tb ta′ tb′)
     (a : RecordRead) (er : a ≡ readAs sdfile (length ta) (length tb) t) where
+  pub second-reads : (n m chiral len k h i j : ℕ) → a ≡ RecordRead.Read n m chiral len k h i j →
+      ReadAgain t ta tb ta′ tb′ (record { n = n; m = m; chiral = chiral; length = len; lines = k; «header_end» = h; «items_start» = i; «items_end» = j })
+  second-reads n m chiral len k h i j q =
+      record {
+        left-atoms = read-atoms t ta tb ta′ tb′ (g .atoms) (g .bonds) rows;
+        left-bonds = read-bonds t ta tb ta′ tb′ (g .atoms) (g .bonds) rows;
+        front = front t ta tb ta′ tb′ (g .atoms) (g .bonds) rows a er n m chiral len k h i j q;
+      }
+
+  -- a record that begins the text is read
+  pub second-never : {X : Type 0} (e i c : ℕ) → a ≡ RecordRead.Refused e i c → X
+  second-never e i c q =
+      let o = read-refused t ta tb ta′ tb′ (g .atoms) (g .bonds) rows a er e i c q in
+      let z : whole (g .x) (g .k) ≡ refused e i c = sym (g .is) ∙ o in
+      absurd (let z : _≡_ {A = ℕ} 0 1 = cc in omega arith)
+
+  pub second-other : (e i c : ℕ) (w : Again) → a ≡ RecordRead.Refused e i c → ReadAgain t ta tb ta′ tb′ w
+  second-other e i c w q = second-never e i c q
+
+pub ruleset again-laws = (second-reads, second-other)
+
+pub next-known : (t : Bytes) (ta tb : List ℤ) (r : Bytes) (to : ℕ) → Next t ta tb r to → Known t ta tb
+next-known t ta tb r to g = record { atoms = g .atoms; bonds = g .bonds; x = g .x; k = g .k; is = g .is }
+
+module _ (t : Bytes) (ta tb ta′ tb′ : List ℤ) (w : Again) (b : ReadAgain t ta tb ta′ tb′ w) where
   pub wrote-atoms : Beside atomPlaces ta ta′
-  wrote-atoms = read-atoms t ta tb ta′ tb′ (g .atoms) (g .bonds) rows
+  wrote-atoms = b .left-atoms
 
   pub wrote-bonds : Beside bondPlaces tb tb′
-  wrote-bonds = read-bonds t ta tb ta′ tb′ (g .atoms) (g .bonds) rows
+  wrote-bonds = b .left-bonds
 
-  module _ (n m chiral len k h i j : ℕ) (q : a ≡ RecordRead.Read n m chiral len k h i j) where
-    it : Front sdfile t ta′ tb′ n m chiral len k h i j
-    it = front t ta tb ta′ tb′ (g .atoms) (g .bonds) rows a er n m chiral len k h i j q
+  pub wrote-headers : w .«header_end» ≤ length t
+  wrote-headers = b .front .headers-end
 
-    pub wrote-headers : h ≤ length t
-    wrote-headers = it .headers-end
+  pub wrote-items : w .«items_start» ≤ w .«items_end»
+  wrote-items = b .front .items-start
 
-    pub wrote-items : i ≤ j
-    wrote-items = it .items-start
+  pub wrote-items-end : w .«items_end» ≤ length t
+  wrote-items-end = b .front .items-end
 
-    pub wrote-items-end : j ≤ length t
-    wrote-items-end = it .items-end
-
-    pub wrote-handed : Handed (givenOf t ta′ tb′ n m chiral h i j) r to
-    wrote-handed =
+  module _ (r : Bytes) (to : ℕ) where
+    pub wrote-handed : Next t ta tb r to → Handed (givenOf t ta′ tb′ (w .n) (w .m) (w .chiral) (w .«header_end») (w .«items_start») (w .«items_end»)) r to
+    wrote-handed g =
+        let it = b .front in
         let e = ap (λ (y : Raw). length (canonText (meaning y))) (same-whole (it .is) (g .is) .0) in
         record { x = meaning (it .x); accepted = it .accepted; enough = omega (arith, g .enough) }
 
-    pub wrote-next : (r′ : Bytes) (e : ℕ) → Put (givenOf t ta′ tb′ n m chiral h i j) r r′ to e → WroteNext t r r′ to (record { length = len; lines = k; to = e })
+    pub wrote-next : (r′ : Bytes) (e : ℕ) → Put (givenOf t ta′ tb′ (w .n) (w .m) (w .chiral) (w .«header_end») (w .«items_start») (w .«items_end»)) r r′ to e →
+        WroteNext t r r′ to (record { length = w .length; lines = w .lines; to = e })
     wrote-next r′ e p =
+        let it = b .front in
         record {
           laid = λ x u o. subst (λ (z : Raw). Laid r r′ to (canonText (meaning z)) e) (same-whole (it .is) o .0) (p .laid (meaning (it .x)) (it .accepted));
           bytes = λ x u o. it .size ∙ ap (afterLines t 0) (same-whole (it .is) o .1);
           lines = λ x u o. same-whole (it .is) o .1;
         }
 
-  -- a record that begins the text is read
-  pub wrote-never : (e i c : ℕ) (w : Wrote) → a ≡ RecordRead.Refused e i c → WroteNext t r r to w
-  wrote-never e i c w q =
-      let o = read-refused t ta tb ta′ tb′ (g .atoms) (g .bonds) rows a er e i c q in
-      let z : whole (g .x) (g .k) ≡ refused e i c = sym (g .is) ∙ o in
-      absurd (let z : _≡_ {A = ℕ} 0 1 = cc in omega arith)
+pub ruleset wrote-laws = (next-known, wrote-atoms, wrote-bonds, wrote-headers, wrote-items, wrote-items-end, wrote-handed, wrote-next)

@@ -15,9 +15,10 @@ ghost use Rattle.reader_walk.specs.Walked.{Beside};
 ghost use Rattle.judge_file.specs.Place.{sdfile};
 ghost use Rattle.reader_record.specs.Read.{zeroed, rowsIn};
 ghost use Rattle.writer_catalogue.specs.Catalogue.{fileFor, answerBy, roomBy, upTo};
-ghost use Rattle.writer_catalogue.specs.Sizes.{partsSize, Measurable, measuredBy};
+ghost use Rattle.writer_record.specs.Measure.{partsSize};
+ghost use Rattle.writer_catalogue.specs.Sizes.{Measurable, measuredBy};
 ghost use Rattle.writer_catalogue.specs.Measuring.{concludeBy};
-ghost use Rattle.writer_catalogue.specs.Writing.{Handed, Put, Next, WroteNext};
+ghost use Rattle.writer_catalogue.specs.Writing.{Handed, Put, Known, ReadAgain, Next, WroteNext};
 ghost use Rattle.writer_catalogue.specs.Filling.{FileFits, textIn};
 ghost use Rattle.writer_catalogue.specs.Promise.{Promise};
 
@@ -49,6 +50,18 @@ pub struct Wrote {
     pub to: usize,
 }
 
+// A record that was read again.
+struct Again {
+    n: u32,
+    m: u32,
+    chiral: u32,
+    length: usize,
+    lines: usize,
+    header_end: usize,
+    items_start: usize,
+    items_end: usize,
+}
+
 // One record more, where those before it fit.
 fn measure_parts(
     atoms: &[i32],
@@ -62,7 +75,7 @@ fn measure_parts(
     requires { ⌜ Measurable n m (now atoms) (now headers) (now items) room × (needed ≤ room) ⌝ }
     ensures { λ r. ⌜ r ≡ upTo room (needed + partsSize n m (now (atoms .entry)) (now (headers .entry)) (now (items .entry))) ⌝ }
 {
-    match writer_record::judge_parts(atoms, n, m, headers, items, room - needed) {
+    match writer_record::measure_parts(atoms, n, m, headers, items, room - needed) {
         Written::Done { length } => needed + length,
         Written::Refused {
             no: _,
@@ -198,12 +211,10 @@ fn put_record(
     to + writer_record::lay_record(atoms, bonds, n, m, chiral, headers, items, &mut room[to..])
 }
 
-// The record at the front of a text, read and written.
-fn write_next(t: &[u8], atoms: &mut [i32], bonds: &mut [i32], room: &mut [u8], to: usize) -> Wrote
-    requires { ⌜ Next (now t) (now atoms) (now bonds) (now room) to ⌝ }
-    ensures { λ r. ⌜ WroteNext (now (t .entry)) (now (room .entry)) (now (room .exit)) to r ⌝ }
-    ensures { λ r. ⌜ Beside atomPlaces (now (atoms .entry)) (now (atoms .exit)) ⌝ }
-    ensures { λ r. ⌜ Beside bondPlaces (now (bonds .entry)) (now (bonds .exit)) ⌝ }
+// The record at the front of a text, read again. It was read when it was measured, so the other arm is never taken (`second-never`): a match has to have it.
+fn read_good(t: &[u8], atoms: &mut [i32], bonds: &mut [i32]) -> Again
+    requires { ⌜ Known (now t) (now atoms) (now bonds) ⌝ }
+    ensures { λ r. ⌜ ReadAgain (now (t .entry)) (now (atoms .entry)) (now (bonds .entry)) (now (atoms .exit)) (now (bonds .exit)) r ⌝ }
 {
     match reader_record::read_rows(true, t, atoms, bonds) {
         RecordRead::Read {
@@ -215,30 +226,58 @@ fn write_next(t: &[u8], atoms: &mut [i32], bonds: &mut [i32], room: &mut [u8], t
             header_end,
             items_start,
             items_end,
-        } => Wrote {
+        } => Again {
+            n,
+            m,
+            chiral,
             length,
             lines,
-            to: put_record(
-                atoms,
-                bonds,
-                n,
-                m,
-                chiral,
-                &t[0..header_end],
-                &t[items_start..items_end],
-                room,
-                to,
-            ),
+            header_end,
+            items_start,
+            items_end,
         },
         RecordRead::Refused {
             no: _,
             line: _,
             column: _,
-        } => Wrote {
+        } => Again {
+            n: 0,
+            m: 0,
+            chiral: 0,
             length: 0,
             lines: 0,
-            to,
+            header_end: 0,
+            items_start: 0,
+            items_end: 0,
         },
+    }
+}
+
+// The record at the front of a text, read and written.
+fn write_next(t: &[u8], atoms: &mut [i32], bonds: &mut [i32], room: &mut [u8], to: usize) -> Wrote
+    requires { ⌜ Next (now t) (now atoms) (now bonds) (now room) to ⌝ }
+    ensures { λ r. ⌜ WroteNext (now (t .entry)) (now (room .entry)) (now (room .exit)) to r ⌝ }
+    ensures { λ r. ⌜ Beside atomPlaces (now (atoms .entry)) (now (atoms .exit)) ⌝ }
+    ensures { λ r. ⌜ Beside bondPlaces (now (bonds .entry)) (now (bonds .exit)) ⌝ }
+{
+    let again = read_good(t, atoms, bonds);
+    let header_end = again.header_end;
+    let items_start = again.items_start;
+    let items_end = again.items_end;
+    Wrote {
+        length: again.length,
+        lines: again.lines,
+        to: put_record(
+            atoms,
+            bonds,
+            again.n,
+            again.m,
+            again.chiral,
+            &t[0..header_end],
+            &t[items_start..items_end],
+            room,
+            to,
+        ),
     }
 }
 

@@ -15,9 +15,7 @@ use Rattle.judge_file.specs.Place.{FileKind, molfile, sdfile}
 use Rattle.reader_walk.specs.Outcome.{Outcome, whole, refused, outcomeOf}
 use Rattle.reader_walk.specs.Walked.{walkedBy, walkOf}
 use Rattle.writer_lines.specs.Laid.{Laid}
-use Rattle.writer_molecule.specs.Body.{bodySize}
 use Rattle.judge_parts.specs.Part.{good}
-use Rattle.judge_parts.specs.Written.{writtenHeaders, writtenItems}
 use Rattle.reader_record.specs.declared.RecordRead.{RecordRead}
 use Rattle.reader_record.specs.Read.{answered, readAs, readOf, atomsAfter, bondsAfter, RowsLeft}
 use Rattle.reader_record.specs.Promise.{Roomy, kindNumber}
@@ -27,7 +25,7 @@ use Rattle.writer_tables.specs.Tables.{writableTables}
 use Rattle.writer_record.specs.declared.Written.{Written}
 use Rattle.writer_record.specs.Write as W
 use Rattle.writer_record.specs.Write.{Given, canonText, demand, textFor, writeOf}
-use Rattle.writer_record.specs.Measure.{tables-agree, judged-parts, afterHeaders, recordText, Ready, ready-by}
+use Rattle.writer_record.specs.Measure.{sized, partsSize, GoodParts, never-refused, tables-agree, judged-parts, recordText, Ready, ready-by}
 use Rattle.writer_record.specs.Promise as WP
 use Rattle.writer_record.specs.Promise.{Accepted, record-agrees, promise-done, promise-refused, accepted-ready, accepted-laid}
 use Rattle.writer_copy.specs.declared.Copied.{Copied}
@@ -35,6 +33,7 @@ use Rattle.writer_copy.specs.Copy.{textOf, fitting, answerBy, roomBy, co
 use Rattle.writer_copy.specs.Promise.{Promise, Seen, seen, promise}
 use Rattle.writer_copy.specs.Most.{copy-most, surely, surely-enough}
 use Rattle.writer_copy.specs.Bridge.{walked-refused, givenOf, Front, front}
+use Rattle.writer_copy.specs.NeverRefused.{good-parts}
 
 -- ---- What was read is measured and laid
 
@@ -42,6 +41,10 @@ use Rattle.writer_copy.specs.Bridge.{walked-refused, givenOf, Front, fro
 pub record Sound (g : Given) : Type 0 where
   pub x : Reading
   pub accepted : Accepted g x
+
+pub sound-parts : (n m chiral : ℕ) (atoms bonds : List ℤ) (headers items : Bytes) →
+    Sound (record { atoms = atoms; bonds = bonds; n = n; m = m; chiral = chiral; headers = headers; items = items }) → GoodParts headers items
+sound-parts n m chiral atoms bonds headers items s = good-parts _ (s .x) (s .accepted)
 
 pub sound-small : (n m chiral : ℕ) (atoms bonds : List ℤ) (headers items : Bytes) →
     Sound (record { atoms = atoms; bonds = bonds; n = n; m = m; chiral = chiral; headers = headers; items = items }) →
@@ -52,12 +55,13 @@ sound-small n m chiral atoms bonds headers items s =
     let em = ap (λ (y : Reading). y .m) (s .accepted .tables) in
     (omega (arith, w .n, en, s .accepted .roomy .atoms), (omega (arith, w .n, en), omega (arith, w .m, em)))
 
-module _ (g : Given) (s : Sound g) (k : ℕ) (j : Written) (e : j ≡ afterHeaders (bodySize (g .n) (g .m) (g .atoms)) k (writtenItems (g .items)) (writtenHeaders (g .headers))) where
+module _ (g : Given) (s : Sound g) (k : ℕ) (j : Written) (e : j ≡ sized (partsSize (g .n) (g .m) (g .atoms) (g .headers) (g .items)) k) where
   sound-judged : j ≡ writeOf g k
   sound-judged =
       let a = s .accepted in
       let t = tables-agree g (s .x .headers) (s .x .items) (a .roomy) .1 (subst (Writable limit) (a .tables) (a .writable)) in
-      judged-parts g k (writableTables (g .n) (g .m) (g .chiral) (g .atoms) (g .bonds)) (a .roomy .atoms) (a .roomy .bonds) refl t j e
+      let same = never-refused (g .n) (g .m) (g .atoms) (g .headers) (g .items) k (good-parts g (s .x) (s .accepted)) in
+      judged-parts g k (writableTables (g .n) (g .m) (g .chiral) (g .atoms) (g .bonds)) (a .roomy .atoms) (a .roomy .bonds) refl t j (e ∙ sym same)
 
   pub sound-ready : (l : ℕ) → j ≡ Written.Done l → Ready g k
   sound-ready l h = ready-by g k l j sound-judged h
@@ -73,7 +77,7 @@ pub record PutRead (g : Given) (taken lines : ℕ) (r₀ : Bytes) (c : Copied) (
   pub written : WP.Promise g r₀ w r
 
 module _ (g : Given) (s : Sound g) (taken lines : ℕ) (r₀ : Bytes) (j : Written)
-    (e : j ≡ afterHeaders (bodySize (g .n) (g .m) (g .atoms)) (length r₀) (writtenItems (g .items)) (writtenHeaders (g .headers))) where
+    (e : j ≡ sized (partsSize (g .n) (g .m) (g .atoms) (g .headers) (g .items)) (length r₀)) where
   pub sound-done : (l : ℕ) (r : Bytes) (v : ℕ) → j ≡ Written.Done l → Laid r₀ r 0 (recordText g) v → PutRead g taken lines r₀ (Copied.Done taken lines v) r
   sound-done l r v h p = record { w = Written.Done v; said = refl; written = promise-done g r₀ j l r v (sound-judged g s (length r₀) j e) h p }
 

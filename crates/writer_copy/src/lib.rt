@@ -63,7 +63,7 @@ fn put_measured(
     requires { ⌜ Sound (record { atoms = now atoms; bonds = now bonds; n = n; m = m; chiral = chiral; headers = now headers; items = now items }) ⌝ }
     ensures { λ r. ⌜ PutRead (record { atoms = now (atoms .entry); bonds = now (bonds .entry); n = n; m = m; chiral = chiral; headers = now (headers .entry); items = now (items .entry) }) taken lines (now (room .entry)) r (now (room .exit)) ⌝ }
 {
-    match writer_record::judge_parts(atoms, n, m, headers, items, room.len()) {
+    match writer_record::measure_parts(atoms, n, m, headers, items, room.len()) {
         Written::Done { length: _ } => Copied::Done {
             taken,
             lines,

@@ -17,7 +17,7 @@ use Rattle.judge_line.specs.GotLaws.{got-inj, bad-got, then-got}
 use Rattle.judge_line.specs.Judge.{firstHeaderOf, itemOf, ItemOrEnd, title, close, valueOf, ValueOrBlank, value, blank}
 use Rattle.judge_line.specs.Agree.{within-got, header-agrees, title-agrees}
 use Rattle.writer_parts.specs.Lengths.{title-length}
-use Rattle.writer_parts.specs.Step.{ended, Taken, taken, itemTaken, valueTaken, lineAs, longest, turnAs, turned, endsAt, judged, endsAs, writtenFrom}
+use Rattle.writer_parts.specs.Step.{ended, Taken, taken, itemTaken, valueTaken, lineAs, longest, turnAs, turned, Next, endsAt, judged, endsAs, writtenFrom}
 use Rattle.writer_parts.specs.Here.{fromHere, here-start, here-next, here-stop, here-cut, here-end}
 use Rattle.writer_parts.specs.declared.Place.{Place}
 use Rattle.writer_parts.specs.declared.Turn.{Turn}
@@ -70,16 +70,11 @@ line-grown Place.Values l t w e = let r = then-got (valueOf l) (valueTaken l) t 
     go value e = grown-is l e (grown-line l l refl)
     go blank e = grown-is l e (omega arith)
 
-turn-grown : (p : Place) (l : Line) (t : Taken) → turnAs p l ≡ got t → Grown l t
+pub turn-grown : (p : Place) (l : Line) (t : Taken) → turnAs p l ≡ got t → Grown l t
 unfolding turnAs
 turn-grown p l t e = let r = within-got (longest p) l (lineAs p l) t e in line-grown p l t (r .0) (r .1)
 
 -- ---- what the code's answer says of the turn
-
-pub record Next (p : Place) (l : Line) (q : Place) (n : ℕ) : Type 0 where
-  pub text : Bytes
-  pub turn : turnAs p l ≡ taken q text
-  pub size : n ≡ length text
 
 pub turn-next : (p : Place) (l : Line) (x : Turn) (q : Place) (n : ℕ) → x ≡ turned (turnAs p l) → x ≡ Turn.Next q n → Next p l q n
 turn-next p l x q n e h = go (turnAs p l) refl

@@ -1,5 +1,7 @@
 -- The turns of the code, which holds no lines: at each place the next one, and the canonical text of the line.
 use Prim.Native.Nat.{ℕ}
+use mathlib.Core.Path.{_≡_}
+use mathlib.Core.Bool.{Bool, true, false}
 use mathlib.Core.List.{[], _∷_, _++_}
 use lib.ListN.{length}
 use Rattle.text.specs.Text.{Bytes, Line, LF}
@@ -61,6 +63,17 @@ turnAs p l = within (longest p) l (lineAs p l)
 abbrev pub turned : Got Taken → Turn
 turned (got t) = Turn.Next (t .place) (length (t .text))
 turned (bad e column) = Turn.Bad e column
+
+-- the line is taken to this place, and its text has this length
+pub record Next (p : Place) (l : Line) (q : Place) (n : ℕ) : Type 0 where
+  pub text : Bytes
+  pub turn : turnAs p l ≡ taken q text
+  pub size : n ≡ length text
+
+-- where the next line of items stands: among the values of one, or not
+abbrev pub placeOf : Bool → Place
+placeOf false = Place.Items
+placeOf true = Place.Values
 
 -- ---- The part from a place, with the text before it
 

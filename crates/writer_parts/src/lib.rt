@@ -1,4 +1,4 @@
-// Header lines and items handed to the writer: judged, measured.
+// Header lines and items handed to the writer: judged and measured; those of a record that was read, measured alone.
 use line_text::HeaderJudged;
 use line_text::ItemRead;
 use line_text::ValueRead;
@@ -7,8 +7,10 @@ use text::LineAt;
 ghost use mathlib.Core.Path.{_≡_};
 ghost use Prim.Native.Nat.{_≤_};
 ghost use lib.ListN.{length};
-ghost use Rattle.judge_parts.specs.Written.{writtenHeaders, writtenItems};
-ghost use Rattle.writer_parts.specs.Step.{lineAs, longest, turnAs, turned, allowedAs, judged, endsAs, writtenFrom};
+ghost use Rattle.judge_parts.specs.Part.{good};
+ghost use Rattle.judge_parts.specs.Written.{textOf, writtenHeaders, writtenItems};
+ghost use Rattle.writer_parts.specs.Step.{lineAs, longest, turnAs, turned, allowedAs, Next, placeOf, judged, endsAs, writtenFrom};
+ghost use Rattle.writer_parts.specs.NeverRefused.{Taking};
 
 // What a part is found to be: the length of its canonical text, or the first refusal.
 pub enum PartJudged {
@@ -203,4 +205,84 @@ pub fn judge_items(s: &[u8]) -> PartJudged
     ensures { λ r. ⌜ r ≡ judged (writtenItems (now (s .entry))) ⌝ }
 {
     judge_part(s, Place::Items)
+}
+
+// After a line of good items: whether values of an item follow, and the length of the line's canonical text.
+struct Sized {
+    inside: bool,
+    size: usize,
+}
+
+// A data header.
+fn item_size(line: &[u8]) -> Sized
+    requires { ⌜ Taking Place.Items (now line) ⌝ }
+    ensures { λ r. ⌜ Next Place.Items (now (line .entry)) (placeOf (r .inside)) (r .size) ⌝ }
+{
+    let name = line_judged::name_of(line);
+    Sized {
+        inside: true,
+        size: name.to - name.from + 6,
+    }
+}
+
+// A value line or the blank line after the values.
+fn value_size(line: &[u8]) -> Sized
+    requires { ⌜ Taking Place.Values (now line) ⌝ }
+    ensures { λ r. ⌜ Next Place.Values (now (line .entry)) (placeOf (r .inside)) (r .size) ⌝ }
+{
+    if text::is_blank(line) {
+        return Sized {
+            inside: false,
+            size: 1,
+        };
+    }
+    Sized {
+        inside: true,
+        size: line.len() + 1,
+    }
+}
+
+// One line of good items.
+fn line_size(inside: bool, line: &[u8]) -> Sized
+    requires { ⌜ Taking (placeOf inside) (now line) ⌝ }
+    ensures { λ r. ⌜ Next (placeOf inside) (now (line .entry)) (placeOf (r .inside)) (r .size) ⌝ }
+{
+    if inside {
+        return value_size(line);
+    }
+    item_size(line)
+}
+
+// Good header lines, by the length of their canonical text.
+pub fn size_headers(s: &[u8]) -> usize
+    requires { ⌜ writtenHeaders (now s) ≡ good (textOf (writtenHeaders (now s))) ⌝ }
+    ensures { λ r. ⌜ r ≡ length (textOf (writtenHeaders (now (s .entry)))) ⌝ }
+{
+    let mut at: usize = 0;
+    let mut size: usize = 0;
+    while at < s.len() {
+        let line = line_judged::whole_line(s, at);
+        size += line.end - at + 1;
+        at = line.next;
+    }
+    size
+}
+
+// Good items, likewise.
+pub fn size_items(s: &[u8]) -> usize
+    requires { ⌜ writtenItems (now s) ≡ good (textOf (writtenItems (now s))) ⌝ }
+    ensures { λ r. ⌜ r ≡ length (textOf (writtenItems (now (s .entry)))) ⌝ }
+{
+    let mut inside = false;
+    let mut at: usize = 0;
+    let mut size: usize = 0;
+    while at < s.len() {
+        let line = line_judged::whole_line(s, at);
+        let end = line.end;
+        let sized = line_size(inside, &s[at..end]);
+        inside = sized.inside;
+        size += sized.size;
+        at = line.next;
+    }
+    size
 }

@@ -2,24 +2,23 @@
 use Prim.Native.Nat.{ℕ, _+_, _-_, _≤_, _<_}
 use native.Mathlib.Omega.{arith}
 use mathlib.Core.Path.{_≡_, refl, sym, ap, _∙_, subst}
+use mathlib.Core.Bool.{Bool, true, false}
 use mathlib.Core.List.{[], _∷_, _++_, append-assoc}
 use lib.ListN.{length, take, drop, set, length-append, length-set}
 use Rattle.text.specs.Text.{Bytes, Line, LF, bytes}
+use Rattle.text.specs.Find.{isBlank}
 use Rattle.rules.specs.Write.{headerText}
-use Rattle.judge_line.specs.Got.{Got, bad, then}
-use Rattle.judge_line.specs.Judge.{firstHeaderOf, itemOf, valueOf}
-use Rattle.line_text.specs.Answer.{headerGot, itemGot, itemIn, valueGot}
-use Rattle.line_text.specs.Within.{title-order, title-end}
-use Rattle.line_text.specs.declared.HeaderJudged.{HeaderJudged}
-use Rattle.line_text.specs.declared.ItemRead.{ItemRead}
-use Rattle.line_text.specs.declared.ValueRead.{ValueRead}
-use Rattle.writer_parts.specs.Step.{ended, Taken, taken, lineAs}
-use Rattle.writer_lines.specs.Laid.{Laid, laid-none, laid-join}
-use Rattle.writer_lines.specs.Parts.{Copying, copying-start, copying-next, copying-end, copying-size}
-use Rattle.writer_parts_put.specs.Put.{textIn, PutAs}
-use Rattle.writer_parts.specs.declared.Place.{Place}
-use Rattle.writer_parts_put.specs.declared.Put.{Put}
+use Rattle.judge_line.specs.Got.{Got}
+use Rattle.judge_line.specs.GotLaws.{got-inj}
+use Rattle.line_judged.specs.Known.{Header, Named}
+use Rattle.writer_parts.specs.Step.{ended, Taken, taken, turnAs, placeOf}
+use Rattle.writer_parts.specs.NeverRefused.{Taking, never-closed, title-taken, value-taken, blank-taken}
 use Rattle.writer_parts.specs.Lengths.{title-length, name-length}
+use Rattle.writer_parts.specs.declared.Place.{Place}
+use Rattle.writer_lines.specs.Laid.{Laid, laid-join}
+use Rattle.writer_lines.specs.Parts.{Copying, copying-start, copying-next, copying-end, copying-size}
+use Rattle.writer_parts_put.specs.Put.{Fitting, PutTo}
+use Rattle.writer_parts_put.specs.declared.Put.{Put}
 
 -- ---- bytes
 
@@ -45,132 +44,63 @@ title-laid name {r₀} {r₃ = r₃} {at} {e = e} p q s =
     same : bytes ">  <" ++ (name ++ ended (bytes ">")) ≡ ended (bytes ">  <" ++ (name ++ bytes ">"))
     same = simp append-assoc
 
--- ---- one line, as it is written
+-- ---- one line of items
 
--- room for the line's text
-room-for : (p : Place) (l : Line) (q : Place) (bs : Bytes) (at k n : ℕ) → lineAs p l ≡ taken q bs → length bs ≡ n → at + length (textIn (lineAs p l)) ≤ k → at + n ≤ k
-room-for p l q bs at k n e m h =
-    let s : length (textIn (lineAs p l)) ≡ length bs = ap (λ (x : Got Taken). length (textIn x)) e in
-    omega arith
+-- room for the text that was found
+room-for : {p q : Place} {l : Line} {at k n : ℕ} {bs : Bytes} (g : Fitting p l at k) → turnAs p l ≡ taken q bs → length bs ≡ n → at + n ≤ k
+room-for {bs = bs} g e m =
+    let same : bs ≡ g .taking .text = ap (λ (t : Taken). t .text) (got-inj (sym e ∙ g .taking .turn)) in
+    omega (arith, g .enough, ap length same)
 
-put-taken : (p : Place) (x : Got Taken) (q : Place) (bs r₀ r : Bytes) (at e : ℕ) → x ≡ taken q bs → Laid r₀ r at bs e → PutAs p x r₀ r at (record { place = q; next = e })
-put-taken p x q bs r₀ r at e h g = record { place = rw h; laid = rw h g }
+module _ (l : Line) (at k : ℕ) (g : Fitting Place.Items l at k) where
+  pub item-header : Header l
+  item-header = never-closed l (g .taking)
 
-put-left : (p : Place) (x : Got Taken) (a column : ℕ) (r : Bytes) (at : ℕ) → x ≡ bad a column → at + length (textIn x) ≤ length r → PutAs p x r r at (record { place = p; next = at })
-put-left p x a column r at h k = record { place = rw h; laid = rw h (laid-none r at (omega arith)) }
+  module _ (from to : ℕ) (d : Named l from to) where
+    pub title-order : from ≤ to
+    title-order = d .order
 
-line-size : (l : Line) → length (ended l) ≡ length l + 1
-line-size l = length-append l (LF ∷ [])
+    pub title-end : to ≤ length l
+    title-end = d .inside
 
-module _ (l : Line) (x : HeaderJudged) (e : headerGot l x ≡ firstHeaderOf l) where
-  is-first : x ≡ HeaderJudged.Good → lineAs Place.First l ≡ taken Place.Second (ended l)
-  unfolding lineAs then
-  is-first h = rw (← e, h)
+    pub title-room : at + (to - from + 6) ≤ k
+    title-room =
+        room-for g (title-taken l (g .taking) from to d)
+        (omega (arith, title-length (take (to - from) (drop from l)), name-length l from to (d .order) (d .inside)))
 
-  pub first-room : (at k : ℕ) → x ≡ HeaderJudged.Good → at + length (textIn (lineAs Place.First l)) ≤ k → at + (length l + 1) ≤ k
-  first-room at k h = room-for Place.First l Place.Second (ended l) at k (length l + 1) (is-first h) (line-size l)
+    pub title-put : (r₀ r : Bytes) (e : ℕ) → Laid r₀ r at (ended (headerText (take (to - from) (drop from l)))) e → PutTo Place.Items l r₀ r at Place.Values e
+    title-put r₀ r e p = record { text = _; turn = title-taken l (g .taking) from to d; laid = p }
 
-  pub first-put : (r₀ r : Bytes) (at f : ℕ) → x ≡ HeaderJudged.Good → Laid r₀ r at (ended l) f →
-      PutAs Place.First (lineAs Place.First l) r₀ r at (record { place = Place.Second; next = f })
-  first-put r₀ r at f h g = put-taken Place.First (lineAs Place.First l) Place.Second (ended l) r₀ r at f (is-first h) g
+pub ruleset put-item-laws = (item-header, title-order, title-end, title-room, title-put)
 
-  pub first-left : (r : Bytes) (at a column : ℕ) → x ≡ HeaderJudged.Bad a column → at + length (textIn (lineAs Place.First l)) ≤ length r →
-      PutAs Place.First (lineAs Place.First l) r r at (record { place = Place.First; next = at })
-  unfolding lineAs then
-  first-left r at a column h k = put-left Place.First (lineAs Place.First l) a column r at (rw (← e, h)) k
+module _ (l : Line) (at k : ℕ) (g : Fitting Place.Values l at k) (b : Bool) (e : b ≡ isBlank l) where
+  pub value-room : b ≡ false → at + (length l + 1) ≤ k
+  value-room h = room-for g (value-taken l (g .taking) (sym e ∙ h)) (length-append l (LF ∷ []))
 
-pub ruleset put-first-laws = (first-room, first-put, first-left)
+  pub blank-room : b ≡ true → at + 1 ≤ k
+  blank-room h = room-for g (blank-taken l (g .taking) (sym e ∙ h)) refl
 
-module _ (l : Line) (x : ItemRead) (e : itemGot l x ≡ itemOf l) where
-  is-title : (from to : ℕ) → x ≡ ItemRead.Title from to → lineAs Place.Items l ≡ taken Place.Values (ended (headerText (take (to - from) (drop from l))))
-  unfolding lineAs then
-  is-title from to h = rw (← e, h)
+  pub value-put : (r₀ r : Bytes) (f : ℕ) → b ≡ false → Laid r₀ r at (ended l) f → PutTo Place.Values l r₀ r at Place.Values f
+  value-put r₀ r f h p = record { text = ended l; turn = value-taken l (g .taking) (sym e ∙ h); laid = p }
 
-  pub title-room : itemIn l x → (from to at k : ℕ) → x ≡ ItemRead.Title from to → at + length (textIn (lineAs Place.Items l)) ≤ k → at + (to - from + 6) ≤ k
-  title-room w from to at k h =
-      let name = take (to - from) (drop from l) in
-      let n : length (ended (headerText name)) ≡ to - from + 6 =
-      title-length name ∙ ap (λ (m : ℕ). m + 6) (name-length l from to (title-order l x from to w h) (title-end l x from to w h))
-      in
-      room-for Place.Items l Place.Values (ended (headerText name)) at k (to - from + 6) (is-title from to h) n
+  pub blank-put : (r₀ r : Bytes) (f : ℕ) → b ≡ true → Laid r₀ r at (LF ∷ []) f → PutTo Place.Values l r₀ r at Place.Items f
+  blank-put r₀ r f h p = record { text = ended []; turn = blank-taken l (g .taking) (sym e ∙ h); laid = p }
 
-  pub title-put : (from to : ℕ) (r₀ r : Bytes) (at f : ℕ) → x ≡ ItemRead.Title from to → Laid r₀ r at (ended (headerText (take (to - from) (drop from l)))) f →
-      PutAs Place.Items (lineAs Place.Items l) r₀ r at (record { place = Place.Values; next = f })
-  title-put from to r₀ r at f h g = put-taken Place.Items (lineAs Place.Items l) Place.Values _ r₀ r at f (is-title from to h) g
-
-  pub close-left : (r : Bytes) (at : ℕ) → x ≡ ItemRead.Close → at + length (textIn (lineAs Place.Items l)) ≤ length r →
-      PutAs Place.Items (lineAs Place.Items l) r r at (record { place = Place.Items; next = at })
-  unfolding lineAs then
-  close-left r at h k = put-left Place.Items (lineAs Place.Items l) 16 1 r at (rw (← e, h)) k
-
-  pub item-left : (r : Bytes) (at a column : ℕ) → x ≡ ItemRead.Bad a column → at + length (textIn (lineAs Place.Items l)) ≤ length r →
-      PutAs Place.Items (lineAs Place.Items l) r r at (record { place = Place.Items; next = at })
-  unfolding lineAs then
-  item-left r at a column h k = put-left Place.Items (lineAs Place.Items l) a column r at (rw (← e, h)) k
-
-pub ruleset put-item-laws = (title-order, title-end, title-room, title-put, close-left, item-left)
-
-module _ (l : Line) (x : ValueRead) (e : valueGot x ≡ valueOf l) where
-  is-value : x ≡ ValueRead.Value → lineAs Place.Values l ≡ taken Place.Values (ended l)
-  unfolding lineAs then
-  is-value h = rw (← e, h)
-
-  is-blank : x ≡ ValueRead.Blank → lineAs Place.Values l ≡ taken Place.Items (ended [])
-  unfolding lineAs then
-  is-blank h = rw (← e, h)
-
-  pub value-room : (at k : ℕ) → x ≡ ValueRead.Value → at + length (textIn (lineAs Place.Values l)) ≤ k → at + (length l + 1) ≤ k
-  value-room at k h = room-for Place.Values l Place.Values (ended l) at k (length l + 1) (is-value h) (line-size l)
-
-  pub blank-room : (at k : ℕ) → x ≡ ValueRead.Blank → at + length (textIn (lineAs Place.Values l)) ≤ k → at + 1 ≤ k
-  blank-room at k h = room-for Place.Values l Place.Items (ended []) at k 1 (is-blank h) refl
-
-  pub value-put : (r₀ r : Bytes) (at f : ℕ) → x ≡ ValueRead.Value → Laid r₀ r at (ended l) f →
-      PutAs Place.Values (lineAs Place.Values l) r₀ r at (record { place = Place.Values; next = f })
-  value-put r₀ r at f h g = put-taken Place.Values (lineAs Place.Values l) Place.Values (ended l) r₀ r at f (is-value h) g
-
-  pub blank-put : (r₀ r : Bytes) (at f : ℕ) → x ≡ ValueRead.Blank → Laid r₀ r at (LF ∷ []) f →
-      PutAs Place.Values (lineAs Place.Values l) r₀ r at (record { place = Place.Items; next = f })
-  blank-put r₀ r at f h g = put-taken Place.Values (lineAs Place.Values l) Place.Items (ended []) r₀ r at f (is-blank h) g
-
-  pub value-left : (r : Bytes) (at a column : ℕ) → x ≡ ValueRead.Bad a column → at + length (textIn (lineAs Place.Values l)) ≤ length r →
-      PutAs Place.Values (lineAs Place.Values l) r r at (record { place = Place.Values; next = at })
-  unfolding lineAs then
-  value-left r at a column h k = put-left Place.Values (lineAs Place.Values l) a column r at (rw (← e, h)) k
-
-pub ruleset put-value-laws = (value-room, blank-room, value-put, blank-put, value-left)
+pub ruleset put-value-laws = (value-room, blank-room, value-put, blank-put)
 
 -- by the place
-module _ (p : Place) (l : Line) (at : ℕ) where
-  pub this-room : (q : Place) (k : ℕ) → p ≡ q → at + length (textIn (lineAs p l)) ≤ k → at + length (textIn (lineAs q l)) ≤ k
-  this-room q k e h = subst (λ (x : Place). at + length (textIn (lineAs x l)) ≤ k) e h
+module _ (b : Bool) (l : Line) (at : ℕ) where
+  pub in-values : (k : ℕ) → b ≡ true → Fitting (placeOf b) l at k → Fitting Place.Values l at k
+  in-values k e g = subst (λ (z : Bool). Fitting (placeOf z) l at k) e g
 
-  pub this-put : (q : Place) (r₀ r : Bytes) (y : Put) → p ≡ q → PutAs q (lineAs q l) r₀ r at y → PutAs p (lineAs p l) r₀ r at y
-  this-put q r₀ r y e g = subst (λ (x : Place). PutAs x (lineAs x l) r₀ r at y) (sym e) g
+  pub in-items : (k : ℕ) → b ≡ false → Fitting (placeOf b) l at k → Fitting Place.Items l at k
+  in-items k e g = subst (λ (z : Bool). Fitting (placeOf z) l at k) e g
 
-  is-second : p ≡ Place.Second → lineAs p l ≡ taken Place.Third (ended l)
-  unfolding lineAs
-  is-second e = rw e
+  module _ (r₀ r : Bytes) (y : Put) where
+    pub from-values : b ≡ true → PutTo Place.Values l r₀ r at (placeOf (y .inside)) (y .next) → PutTo (placeOf b) l r₀ r at (placeOf (y .inside)) (y .next)
+    from-values e g = subst (λ (z : Bool). PutTo (placeOf z) l r₀ r at (placeOf (y .inside)) (y .next)) (sym e) g
 
-  is-third : p ≡ Place.Third → lineAs p l ≡ taken Place.Full (ended l)
-  unfolding lineAs
-  is-third e = rw e
+    pub from-items : b ≡ false → PutTo Place.Items l r₀ r at (placeOf (y .inside)) (y .next) → PutTo (placeOf b) l r₀ r at (placeOf (y .inside)) (y .next)
+    from-items e g = subst (λ (z : Bool). PutTo (placeOf z) l r₀ r at (placeOf (y .inside)) (y .next)) (sym e) g
 
-  pub second-room : (k : ℕ) → p ≡ Place.Second → at + length (textIn (lineAs p l)) ≤ k → at + (length l + 1) ≤ k
-  second-room k e = room-for p l Place.Third (ended l) at k (length l + 1) (is-second e) (line-size l)
-
-  pub third-room : (k : ℕ) → p ≡ Place.Third → at + length (textIn (lineAs p l)) ≤ k → at + (length l + 1) ≤ k
-  third-room k e = room-for p l Place.Full (ended l) at k (length l + 1) (is-third e) (line-size l)
-
-  pub second-put : (r₀ r : Bytes) (f : ℕ) → p ≡ Place.Second → Laid r₀ r at (ended l) f → PutAs p (lineAs p l) r₀ r at (record { place = Place.Third; next = f })
-  second-put r₀ r f e g = put-taken p (lineAs p l) Place.Third (ended l) r₀ r at f (is-second e) g
-
-  pub third-put : (r₀ r : Bytes) (f : ℕ) → p ≡ Place.Third → Laid r₀ r at (ended l) f → PutAs p (lineAs p l) r₀ r at (record { place = Place.Full; next = f })
-  third-put r₀ r f e g = put-taken p (lineAs p l) Place.Full (ended l) r₀ r at f (is-third e) g
-
-  pub full-left : (r : Bytes) → p ≡ Place.Full → at + length (textIn (lineAs p l)) ≤ length r → PutAs p (lineAs p l) r r at (record { place = Place.Full; next = at })
-  unfolding lineAs
-  full-left r e k =
-      subst (λ (x : Place). PutAs p (lineAs p l) r r at (record { place = x; next = at })) e (put-left p (lineAs p l) 18 1 r at (rw e) k)
-
-pub ruleset put-turn-laws = (this-room, this-put, second-room, third-room, second-put, third-put, full-left)
+pub ruleset put-next-laws = (in-values, in-items, from-values, from-items)

@@ -1,30 +1,27 @@
--- What the code writes: of a line, and of a part that is good and has room.
+-- What the code writes: of a line that its place takes, and of a part that is good and has room.
 use Prim.Native.Nat.{ℕ, _+_, _≤_}
 use mathlib.Core.Path.{_≡_}
-use mathlib.Core.List.{[]}
 use lib.ListN.{length}
-use Rattle.text.specs.Text.{Bytes}
-use Rattle.judge_line.specs.Got.{Got, got, bad}
+use Rattle.text.specs.Text.{Bytes, Line}
 use Rattle.judge_parts.specs.Part.{PartVerdict, good}
 use Rattle.judge_parts.specs.Written.{textOf}
-use Rattle.writer_parts.specs.Step.{Taken}
+use Rattle.writer_parts.specs.Step.{taken, turnAs}
+use Rattle.writer_parts.specs.NeverRefused.{Taking}
 use Rattle.writer_lines.specs.Laid.{Laid}
 use Rattle.writer_parts.specs.declared.Place.{Place}
-use Rattle.writer_parts_put.specs.declared.Put.{Put}
 
--- ---- A line: nothing is written for one that is refused, and the place stays
+-- ---- A line
 
-abbrev pub textIn : Got Taken → Bytes
-textIn (got t) = t .text
-textIn (bad e column) = []
+-- its place takes it, and room of k bytes is enough for its text from place `at` on
+pub record Fitting (p : Place) (l : Line) (at k : ℕ) : Type 0 where
+  pub taking : Taking p l
+  pub enough : at + length (taking .text) ≤ k
 
-abbrev pub placeIn : Place → Got Taken → Place
-placeIn p (got t) = t .place
-placeIn p (bad e column) = p
-
-pub record PutAs (p : Place) (x : Got Taken) (r₀ r : Bytes) (at : ℕ) (y : Put) : Type 0 where
-  pub place : y .place ≡ placeIn p x
-  pub laid : Laid r₀ r at (textIn x) (y .next)
+-- its text was laid there, and the next line stands at place q
+pub record PutTo (p : Place) (l : Line) (r₀ r : Bytes) (at : ℕ) (q : Place) (next : ℕ) : Type 0 where
+  pub text : Bytes
+  pub turn : turnAs p l ≡ taken q text
+  pub laid : Laid r₀ r at text next
 
 -- ---- A part
 

@@ -1,20 +1,16 @@
-// Header lines and items handed to the writer: written into lent room.
-use line_text::HeaderJudged;
-use line_text::ItemRead;
-use line_text::ValueRead;
-use text::LineAt;
-use writer_parts::Place;
+// Good header lines and items, written into lent room: they were judged before, so none is refused here.
 ghost use Prim.Native.Nat.{_+_, _-_, _≤_};
 ghost use lib.ListN.{length, take, drop};
 ghost use Rattle.rules.specs.Write.{headerText};
 ghost use Rattle.judge_parts.specs.Written.{textOf, writtenHeaders, writtenItems};
-ghost use Rattle.writer_parts.specs.Step.{ended, lineAs, writtenFrom};
+ghost use Rattle.writer_parts.specs.Step.{ended, placeOf};
+ghost use Rattle.writer_parts.specs.declared.Place.{Place};
 ghost use Rattle.writer_lines.specs.Laid.{Laid};
-ghost use Rattle.writer_parts_put.specs.Put.{textIn, PutAs, Room};
+ghost use Rattle.writer_parts_put.specs.Put.{Room, Fitting, PutTo};
 
-// After a line is written: the next place, and where its text begins.
+// After a line of items is written: whether values of an item follow, and where the next line's text begins.
 struct Put {
-    place: Place,
+    inside: bool,
     next: usize,
 }
 
@@ -52,121 +48,77 @@ fn put_title(line: &[u8], from: usize, to: usize, room: &mut [u8], at: usize) ->
     put_line(b">", room, b)
 }
 
-// The first header line keeps its bytes. For a line that is refused nothing is written, here and below.
-fn put_first(line: &[u8], room: &mut [u8], at: usize) -> Put
-    requires { ⌜ at + length (textIn (lineAs Place.First (now line))) ≤ length (now room) ⌝ }
-    ensures { λ r. ⌜ PutAs Place.First (lineAs Place.First (now (line .entry))) (now (room .entry)) (now (room .exit)) at r ⌝ }
-{
-    match line_text::first_header(line) {
-        HeaderJudged::Good => Put {
-            place: Place::Second,
-            next: put_line(line, room, at),
-        },
-        HeaderJudged::Bad { no: _, column: _ } => Put {
-            place: Place::First,
-            next: at,
-        },
-    }
-}
-
 // A data header is made anew.
 fn put_item(line: &[u8], room: &mut [u8], at: usize) -> Put
-    requires { ⌜ at + length (textIn (lineAs Place.Items (now line))) ≤ length (now room) ⌝ }
-    ensures { λ r. ⌜ PutAs Place.Items (lineAs Place.Items (now (line .entry))) (now (room .entry)) (now (room .exit)) at r ⌝ }
+    requires { ⌜ Fitting Place.Items (now line) at (length (now room)) ⌝ }
+    ensures { λ r. ⌜ PutTo Place.Items (now (line .entry)) (now (room .entry)) (now (room .exit)) at (placeOf (r .inside)) (r .next) ⌝ }
 {
-    match line_text::item_line(line) {
-        ItemRead::Title { from, to } => Put {
-            place: Place::Values,
-            next: put_title(line, from, to, room, at),
-        },
-        ItemRead::Close => Put {
-            place: Place::Items,
-            next: at,
-        },
-        ItemRead::Bad { no: _, column: _ } => Put {
-            place: Place::Items,
-            next: at,
-        },
+    let name = line_judged::name_of(line);
+    Put {
+        inside: true,
+        next: put_title(line, name.from, name.to, room, at),
     }
 }
 
 // A value line keeps its bytes, and the blank line after the values is written empty.
 fn put_value(line: &[u8], room: &mut [u8], at: usize) -> Put
-    requires { ⌜ at + length (textIn (lineAs Place.Values (now line))) ≤ length (now room) ⌝ }
-    ensures { λ r. ⌜ PutAs Place.Values (lineAs Place.Values (now (line .entry))) (now (room .entry)) (now (room .exit)) at r ⌝ }
+    requires { ⌜ Fitting Place.Values (now line) at (length (now room)) ⌝ }
+    ensures { λ r. ⌜ PutTo Place.Values (now (line .entry)) (now (room .entry)) (now (room .exit)) at (placeOf (r .inside)) (r .next) ⌝ }
 {
-    match line_text::value_line(line) {
-        ValueRead::Value => Put {
-            place: Place::Values,
-            next: put_line(line, room, at),
-        },
-        ValueRead::Blank => Put {
-            place: Place::Items,
+    if text::is_blank(line) {
+        return Put {
+            inside: false,
             next: put_line(b"", room, at),
-        },
-        ValueRead::Bad { no: _, column: _ } => Put {
-            place: Place::Values,
-            next: at,
-        },
-    }
-}
-
-// One line at a place.
-fn put_turn(place: Place, line: &[u8], room: &mut [u8], at: usize) -> Put
-    requires { ⌜ at + length (textIn (lineAs place (now line))) ≤ length (now room) ⌝ }
-    ensures { λ r. ⌜ PutAs place (lineAs place (now (line .entry))) (now (room .entry)) (now (room .exit)) at r ⌝ }
-{
-    match place {
-        Place::First => put_first(line, room, at),
-        Place::Second => Put {
-            place: Place::Third,
-            next: put_line(line, room, at),
-        },
-        Place::Third => Put {
-            place: Place::Full,
-            next: put_line(line, room, at),
-        },
-        Place::Full => Put {
-            place: Place::Full,
-            next: at,
-        },
-        Place::Items => put_item(line, room, at),
-        Place::Values => put_value(line, room, at),
-    }
-}
-
-// A part from its first place on, line by line.
-fn put_part(s: &[u8], start: Place, room: &mut [u8], at: usize) -> usize
-    requires { ⌜ Room (writtenFrom start (now s)) at (length (now room)) ⌝ }
-    ensures { λ r. ⌜ Laid (now (room .entry)) (now (room .exit)) at (textOf (writtenFrom start (now (s .entry)))) r ⌝ }
-{
-    let mut place = start;
-    let mut i: usize = 0;
-    let mut e = at;
-    while i < s.len() {
-        let LineAt::Line { end, next } = text::line_at(s, i) else {
-            return e;
         };
-        let put = put_turn(place, &s[i..end], room, e);
-        place = put.place;
-        e = put.next;
-        i = next;
     }
-    e
+    Put {
+        inside: true,
+        next: put_line(line, room, at),
+    }
 }
 
-// Good header lines, written.
+// One line of items.
+fn put_next(inside: bool, line: &[u8], room: &mut [u8], at: usize) -> Put
+    requires { ⌜ Fitting (placeOf inside) (now line) at (length (now room)) ⌝ }
+    ensures { λ r. ⌜ PutTo (placeOf inside) (now (line .entry)) (now (room .entry)) (now (room .exit)) at (placeOf (r .inside)) (r .next) ⌝ }
+{
+    if inside {
+        return put_value(line, room, at);
+    }
+    put_item(line, room, at)
+}
+
+// Good header lines: each keeps its bytes.
 pub fn put_headers(s: &[u8], room: &mut [u8], at: usize) -> usize
     requires { ⌜ Room (writtenHeaders (now s)) at (length (now room)) ⌝ }
     ensures { λ r. ⌜ Laid (now (room .entry)) (now (room .exit)) at (textOf (writtenHeaders (now (s .entry)))) r ⌝ }
 {
-    put_part(s, Place::First, room, at)
+    let mut i: usize = 0;
+    let mut e = at;
+    while i < s.len() {
+        let line = line_judged::whole_line(s, i);
+        let end = line.end;
+        e = put_line(&s[i..end], room, e);
+        i = line.next;
+    }
+    e
 }
 
-// Good items, written.
+// Good items: a title, its values up to the blank, and so on.
 pub fn put_items(s: &[u8], room: &mut [u8], at: usize) -> usize
     requires { ⌜ Room (writtenItems (now s)) at (length (now room)) ⌝ }
     ensures { λ r. ⌜ Laid (now (room .entry)) (now (room .exit)) at (textOf (writtenItems (now (s .entry)))) r ⌝ }
 {
-    put_part(s, Place::Items, room, at)
+    let mut inside = false;
+    let mut i: usize = 0;
+    let mut e = at;
+    while i < s.len() {
+        let line = line_judged::whole_line(s, i);
+        let end = line.end;
+        let put = put_next(inside, &s[i..end], room, e);
+        inside = put.inside;
+        e = put.next;
+        i = line.next;
+    }
+    e
 }

@@ -45,6 +45,28 @@ abbrev pub afterHeaders : ℕ → ℕ → PartVerdict Bytes → PartVerdict Byte
 afterHeaders molecule k items (good bs) = afterItems (length bs) molecule k items
 afterHeaders molecule k items (refused e line column) = Written.Refused e line column
 
+-- header lines, molecule, items and the line that ends the record
+unfoldable pub partsSize : ℕ → ℕ → List ℤ → Bytes → Bytes → ℕ
+partsSize n m atoms headers items = length (textOf (writtenHeaders headers)) + bodySize n m atoms + length (textOf (writtenItems items)) + 5
+
+-- header lines and items that were judged good
+pub record GoodParts (hs is : Bytes) : Type 0 where
+  pub headers : writtenHeaders hs ≡ good (textOf (writtenHeaders hs))
+  pub items : writtenItems is ≡ good (textOf (writtenItems is))
+
+-- of these none is refused: what is left is the room
+pub never-refused : (n m : ℕ) (atoms : List ℤ) (hs is : Bytes) (k : ℕ) → GoodParts hs is →
+    afterHeaders (bodySize n m atoms) k (writtenItems is) (writtenHeaders hs) ≡ sized (partsSize n m atoms hs is) k
+unfolding partsSize
+never-refused n m atoms hs is k g = ap₂ (afterHeaders (bodySize n m atoms) k) (g .items) (g .headers)
+
+pub measured-parts : (n m : ℕ) (atoms : List ℤ) (hs is : Bytes) (k a b c : ℕ) (r : Written) → a ≡ length (textOf (writtenHeaders hs)) → b ≡ bodySize n m atoms → c ≡ length (textOf (writtenItems is)) →
+    r ≡ sized (a + b + c + 5) k → r ≡ sized (partsSize n m atoms hs is) k
+unfolding partsSize
+measured-parts n m atoms hs is k a b c r ea eb ec e =
+    let z : a + b + c + 5 ≡ length (textOf (writtenHeaders hs)) + bodySize n m atoms + length (textOf (writtenItems is)) + 5 = omega (arith, ea, eb, ec) in
+    e ∙ ap (λ (i : ℕ). sized i k) z
+
 -- ---- The parts of the text
 
 abbrev pub closeLine : Bytes

@@ -10,7 +10,7 @@ ghost use Rattle.writer_lines.specs.Laid.{Laid};
 ghost use Rattle.writer_molecule.specs.Body.{bodySize};
 ghost use Rattle.judge_parts.specs.Written.{writtenHeaders, writtenItems};
 ghost use Rattle.writer_record.specs.Write.{writeOf};
-ghost use Rattle.writer_record.specs.Measure.{sized, afterItems, afterHeaders, recordText, Ready, closeLine};
+ghost use Rattle.writer_record.specs.Measure.{sized, afterItems, afterHeaders, partsSize, GoodParts, recordText, Ready, closeLine};
 ghost use Rattle.writer_record.specs.Promise.{Promise};
 
 // What is answered: the length of the text, or the first refusal.
@@ -74,8 +74,19 @@ fn judge_tail(atoms: &[i32], n: u32, m: u32, items: &[u8], headers: usize, room:
     }
 }
 
-// Header lines, items, then the room, of tables that can be written: a record that was read is measured so.
-pub fn judge_parts(
+// Header lines, items, then the room, of tables that can be written.
+fn judge_parts(atoms: &[i32], n: u32, m: u32, headers: &[u8], items: &[u8], room: usize) -> Written
+    requires { ⌜ (16 * n ≤ length (now atoms)) × ((n ≤ limit) × (m ≤ limit)) ⌝ }
+    ensures { λ r. ⌜ r ≡ afterHeaders (bodySize n m (now (atoms .entry))) room (writtenItems (now (items .entry))) (writtenHeaders (now (headers .entry))) ⌝ }
+{
+    match writer_parts::judge_headers(headers) {
+        PartJudged::Good { size } => judge_tail(atoms, n, m, items, size, room),
+        PartJudged::Refused { no, line, column } => Written::Refused { no, line, column },
+    }
+}
+
+// Only the room, of a record that was read: its header lines and items were judged then.
+pub fn measure_parts(
     atoms: &[i32],
     n: u32,
     m: u32,
@@ -84,12 +95,15 @@ pub fn judge_parts(
     room: usize,
 ) -> Written
     requires { ⌜ (16 * n ≤ length (now atoms)) × ((n ≤ limit) × (m ≤ limit)) ⌝ }
-    ensures { λ r. ⌜ r ≡ afterHeaders (bodySize n m (now (atoms .entry))) room (writtenItems (now (items .entry))) (writtenHeaders (now (headers .entry))) ⌝ }
+    requires { ⌜ GoodParts (now headers) (now items) ⌝ }
+    ensures { λ r. ⌜ r ≡ sized (partsSize n m (now (atoms .entry)) (now (headers .entry)) (now (items .entry))) room ⌝ }
 {
-    match writer_parts::judge_headers(headers) {
-        PartJudged::Good { size } => judge_tail(atoms, n, m, items, size, room),
-        PartJudged::Refused { no, line, column } => Written::Refused { no, line, column },
-    }
+    measured(
+        room,
+        writer_parts::size_headers(headers),
+        writer_molecule::molecule_size(atoms, n, m),
+        writer_parts::size_items(items),
+    )
 }
 
 // All tests, in their order: tables, header lines, items, room.

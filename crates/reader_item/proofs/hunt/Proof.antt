@@ -5,6 +5,9 @@ use lib.ListN.{length}
 use Rattle.reader_item.specs.Hunting.{Hunting, hunting-laws}
 use Rattle.reader_item.proofs.hunt.Statement.{statement}
 use Rattle.reader_item.proofs.hunt.Tie as tie
+use Rattle.line_judged.proofs.whole_line.Reads as whole-line-reads
+use Rattle.reader_item.proofs.title_line.Reads as title-line-reads
+use Rattle.reader_item.proofs.values_at.Reads as values-at-reads
 
 abbrev Inv-loop : tie.InvT-loop
 Inv-loop s start name at₀ at = Hunting s name at
@@ -15,17 +18,8 @@ abbrev μ-loop : tie.MeasureT-loop
 loop-holds : tie.Need-loop-holds Inv-loop μ-loop
 loop-holds c = search (needs, hunting-laws)
 
-line-at-requires : tie.Need-line-at-requires Inv-loop μ-loop
-line-at-requires c κs = search (needs, hunting-laws)
-
-enum-known-end : tie.Need-enum-known-end Inv-loop μ-loop
-enum-known-end c = search (needs, hunting-laws)
-
-enum-told : tie.Need-enum-told Inv-loop μ-loop
-enum-told c = search (needs, hunting-laws)
-
-returns : tie.Need-returns Inv-loop μ-loop
-returns c = search (needs, hunting-laws)
+whole-line-requires : tie.Need-whole-line-requires Inv-loop μ-loop
+whole-line-requires c κs = search (needs, hunting-laws)
 
 sub-title-line : tie.Need-sub-title-line Inv-loop μ-loop
 sub-title-line c = search (needs, hunting-laws)
@@ -39,17 +33,17 @@ part-title-line-end c = search (needs, hunting-laws)
 title-line-requires : tie.Need-title-line-requires Inv-loop μ-loop
 title-line-requires c κs = search (needs, hunting-laws)
 
-enum-told-2 : tie.Need-enum-told-2 Inv-loop μ-loop
-enum-told-2 c = search (needs, hunting-laws)
+enum-told : tie.Need-enum-told Inv-loop μ-loop
+enum-told c = search (needs, hunting-laws)
 
 values-at-requires : tie.Need-values-at-requires Inv-loop μ-loop
 values-at-requires c κs = search (needs, hunting-laws)
 
-returns-2 : tie.Need-returns-2 Inv-loop μ-loop
-returns-2 c = search (needs, hunting-laws)
+returns : tie.Need-returns Inv-loop μ-loop
+returns c = search (needs, hunting-laws)
 
-enum-told-3 : tie.Need-enum-told-3 Inv-loop μ-loop
-enum-told-3 c = search (needs, hunting-laws)
+enum-told-2 : tie.Need-enum-told-2 Inv-loop μ-loop
+enum-told-2 c = search (needs, hunting-laws)
 
 values-at-requires-2 : tie.Need-values-at-requires-2 Inv-loop μ-loop
 values-at-requires-2 c κs = search (needs, hunting-laws)
@@ -60,11 +54,11 @@ loop-less c = search (needs, hunting-laws)
 loop-again : tie.Need-loop-again Inv-loop μ-loop
 loop-again c = search (needs, hunting-laws)
 
-enum-told-4 : tie.Need-enum-told-4 Inv-loop μ-loop
-enum-told-4 c = search (needs, hunting-laws)
+enum-told-3 : tie.Need-enum-told-3 Inv-loop μ-loop
+enum-told-3 c = search (needs, hunting-laws)
 
-returns-3 : tie.Need-returns-3 Inv-loop μ-loop
-returns-3 c = search (needs, hunting-laws)
+returns-2 : tie.Need-returns-2 Inv-loop μ-loop
+returns-2 c = search (needs, hunting-laws)
 
 pub hunt-spec : {M : Type 1} → statement M
 hunt-spec =
@@ -73,20 +67,17 @@ hunt-spec =
     Inv-loop
     μ-loop
     loop-holds
-    line-at-requires
-    enum-known-end
-    enum-told
-    returns
+    whole-line-requires
     sub-title-line
     part-title-line-start
     part-title-line-end
     title-line-requires
-    enum-told-2
+    enum-told
     values-at-requires
-    returns-2
-    enum-told-3
+    returns
+    enum-told-2
     values-at-requires-2
     loop-less
     loop-again
-    enum-told-4
-    returns-3)
+    enum-told-3
+    returns-2)

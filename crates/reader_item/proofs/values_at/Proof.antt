@@ -5,6 +5,8 @@ use lib.ListN.{length}
 use Rattle.reader_item.specs.Passing.{Passing, passing-laws}
 use Rattle.reader_item.proofs.values_at.Statement.{statement}
 use Rattle.reader_item.proofs.values_at.Tie as tie
+use Rattle.line_judged.proofs.whole_line.Reads as whole-line-reads
+use Rattle.text.proofs.is_blank.Reads as is-blank-reads
 
 abbrev Inv-loop : tie.InvT-loop
 Inv-loop s at from₀ to₀ i₀ from to i = Passing s at from to i
@@ -15,50 +17,29 @@ abbrev μ-loop : tie.MeasureT-loop
 loop-holds : tie.Need-loop-holds Inv-loop μ-loop
 loop-holds c = search (needs, passing-laws)
 
-line-at-requires : tie.Need-line-at-requires Inv-loop μ-loop
-line-at-requires c κs = search (needs, passing-laws)
+whole-line-requires : tie.Need-whole-line-requires Inv-loop μ-loop
+whole-line-requires c κs = search (needs, passing-laws)
 
-enum-known-end : tie.Need-enum-known-end Inv-loop μ-loop
-enum-known-end c = search (needs, passing-laws)
+sub-is-blank : tie.Need-sub-is-blank Inv-loop μ-loop
+sub-is-blank c = search (needs, passing-laws)
 
-enum-told : tie.Need-enum-told Inv-loop μ-loop
-enum-told c = search (needs, passing-laws)
+part-is-blank-start : tie.Need-part-is-blank-start Inv-loop μ-loop
+part-is-blank-start c = search (needs, passing-laws)
+
+part-is-blank-end : tie.Need-part-is-blank-end Inv-loop μ-loop
+part-is-blank-end c = search (needs, passing-laws)
+
+is-blank-requires : tie.Need-is-blank-requires Inv-loop μ-loop
+is-blank-requires c κs = search (needs, passing-laws)
 
 returns : tie.Need-returns Inv-loop μ-loop
 returns c = search (needs, passing-laws)
-
-sub-value-line : tie.Need-sub-value-line Inv-loop μ-loop
-sub-value-line c = search (needs, passing-laws)
-
-part-value-line-start : tie.Need-part-value-line-start Inv-loop μ-loop
-part-value-line-start c = search (needs, passing-laws)
-
-part-value-line-end : tie.Need-part-value-line-end Inv-loop μ-loop
-part-value-line-end c = search (needs, passing-laws)
-
-value-line-requires : tie.Need-value-line-requires Inv-loop μ-loop
-value-line-requires c κs = search (needs, passing-laws)
-
-enum-told-2 : tie.Need-enum-told-2 Inv-loop μ-loop
-enum-told-2 c = search (needs, passing-laws)
 
 loop-less : tie.Need-loop-less Inv-loop μ-loop
 loop-less c = search (needs, passing-laws)
 
 loop-again : tie.Need-loop-again Inv-loop μ-loop
 loop-again c = search (needs, passing-laws)
-
-enum-told-3 : tie.Need-enum-told-3 Inv-loop μ-loop
-enum-told-3 c = search (needs, passing-laws)
-
-returns-2 : tie.Need-returns-2 Inv-loop μ-loop
-returns-2 c = search (needs, passing-laws)
-
-enum-told-4 : tie.Need-enum-told-4 Inv-loop μ-loop
-enum-told-4 c = search (needs, passing-laws)
-
-returns-3 : tie.Need-returns-3 Inv-loop μ-loop
-returns-3 c = search (needs, passing-laws)
 
 pub values-at-spec : {M : Type 1} → statement M
 values-at-spec =
@@ -67,18 +48,11 @@ values-at-spec =
     Inv-loop
     μ-loop
     loop-holds
-    line-at-requires
-    enum-known-end
-    enum-told
+    whole-line-requires
+    sub-is-blank
+    part-is-blank-start
+    part-is-blank-end
+    is-blank-requires
     returns
-    sub-value-line
-    part-value-line-start
-    part-value-line-end
-    value-line-requires
-    enum-told-2
     loop-less
-    loop-again
-    enum-told-3
-    returns-2
-    enum-told-4
-    returns-3)
+    loop-again)

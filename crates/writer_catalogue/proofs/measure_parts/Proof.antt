@@ -4,11 +4,11 @@ use Rattle.writer_catalogue.specs.Sizes.{size-laws}
 use Rattle.writer_catalogue.proofs.measure_parts.Statement.{statement}
 use Rattle.writer_catalogue.proofs.measure_parts.Tie as tie
 
-sub-judge-parts : tie.Need-sub-judge-parts
-sub-judge-parts c = search needs
+sub-measure-parts : tie.Need-sub-measure-parts
+sub-measure-parts c = search needs
 
-judge-parts-requires : tie.Need-judge-parts-requires
-judge-parts-requires c κs = search needs
+measure-parts-requires : tie.Need-measure-parts-requires
+measure-parts-requires c κs = search needs
 
 enum-known-length : tie.Need-enum-known-length
 enum-known-length c = search needs
@@ -32,8 +32,8 @@ pub measure-parts-spec : {M : Type 1} → statement M
 measure-parts-spec =
     tie.close
     (tie.spec
-    sub-judge-parts
-    judge-parts-requires
+    sub-measure-parts
+    measure-parts-requires
     enum-known-length
     add-result
     enum-told

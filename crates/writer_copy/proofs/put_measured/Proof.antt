@@ -1,11 +1,11 @@
 -- `writer_copy::put_measured` meets its contract.
 use borrow.Author.Needs.{needs}
-use Rattle.writer_copy.specs.Copying.{sound-small, sound-ready, sound-done, sound-refused}
+use Rattle.writer_copy.specs.Copying.{sound-small, sound-parts, sound-ready, sound-done, sound-refused}
 use Rattle.writer_copy.proofs.put_measured.Statement.{statement}
 use Rattle.writer_copy.proofs.put_measured.Tie as tie
 
-judge-parts-requires : tie.Need-judge-parts-requires
-judge-parts-requires c κs = search (needs, sound-small)
+measure-parts-requires : tie.Need-measure-parts-requires
+measure-parts-requires c κs = search (needs, sound-small, sound-parts)
 
 enum-told : tie.Need-enum-told
 enum-told c = search needs
@@ -29,7 +29,7 @@ pub put-measured-spec : {M : Type 1} → statement M
 put-measured-spec =
     tie.close
     (tie.spec
-    judge-parts-requires
+    measure-parts-requires
     enum-told
     lay-record-requires
     enum-known-no
