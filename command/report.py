@@ -251,14 +251,16 @@ class Checked:
     def refusal_table(self, several):
         rows = []
         for told in self.refusals.rows:
-            place = "%s:%s" % (told.get("line", ""), told.get("column", ""))
-            what = escaped(told.get("message") or meaning(self.command, told["number"]))
+            stands = code(told["found"]) if told.get("found") is not None else ""
+            if told.get("field"):
+                stands = "%s: %s" % (escaped(told["field"]), stands)
+            may = told.get("allowed") or told.get("expected") or ""
             quoted = marked(told["text"], told.get("column") or 1) if told.get("text") is not None else ""
-            stands = "%s%s" % (escaped(told["field"]) + ": " if told.get("field") else "", code(told["found"]) if told.get("found") is not None else "")
-            rows.append([*([code(told.get("file"))] if several else []), told.get("record", ""), code(told.get("title")), place,
-                         "%d: %s" % (told["number"], what), stands, escaped(told.get("allowed") or ""), quoted])
-        heads = [*(["File"] if several else []), "Record", "Title", "Line", "Refused", "What stands there", "What may stand there"]
-        return table("Refused records", heads, rows, (len(heads) - 6, len(heads) - 4))
+            rows.append([*([code(told.get("file"))] if several else []), told.get("record") or "", code(told.get("title")), "%s:%s" % (told["line"], told["column"]),
+                         "%d: %s" % (told["number"], escaped(told.get("message") or meaning(self.command, told["number"]))), stands, escaped(may),
+                         escaped(told.get("ask") or ""), quoted])
+        heads = [*(["File"] if several else []), "Record", "Title", "Line", "Refused", "What stands there", "What may stand there", "Ask for"]
+        return table("Refused records", heads, rows, (len(heads) - 7, len(heads) - 5))
 
 
 # ---- What changed
