@@ -1,0 +1,5 @@
+-- What the contracts cite
+pub mod Tallies
+-- It is what the flat layer says
+pub mod Same
+pub mod Adding
