@@ -6,3 +6,4 @@ pub mod Same
 pub mod Adding
 pub mod Changing
 pub mod Changed
+pub mod Layers
