@@ -29,7 +29,7 @@ p { margin: .4rem 0; }
 .verdict.bad { border-left-color: var(--bad); border-left-style: double; }
 table { border-collapse: collapse; width: 100%; margin: .4rem 0; font-size: .92rem; }
 th, td { text-align: left; vertical-align: top; padding: .25rem .5rem; border-bottom: 1px solid var(--line); overflow-wrap: anywhere; }
-th { border-bottom: 2px solid var(--ink); }
+th { border-bottom: 2px solid var(--ink); overflow-wrap: normal; }
 td.n, th.n { text-align: right; font-variant-numeric: tabular-nums; white-space: nowrap; }
 code, pre { font-family: ui-monospace, "DejaVu Sans Mono", Consolas, monospace; font-size: .92em; }
 code { background: #f1f1f1; padding: 0 .15em; }
@@ -178,8 +178,8 @@ def folded(title, kept, body):
 def bars(caption, rows):
     """Rows of a label in HTML and a count, each with a bar as wide as its share of the largest."""
     most = max((count for _, count in rows), default=0) or 1
-    body = "".join('<tr><th scope="row">%s</th><td class="n">%s</td><td class="cell"><span class="bar" style="width:%.1f%%"></span></td></tr>\n' % (
-        label, format(count, ","), 100 * count / most) for label, count in rows)
+    body = "".join('<tr><th scope="row">%s</th><td class="n">%s</td><td class="cell">%s</td></tr>\n' % (
+        label, format(count, ","), '<span class="bar" style="width:%.1f%%"></span>' % (100 * count / most) if count else "") for label, count in rows)
     return '<table class="bars"><caption class="mark" style="text-align:left">%s</caption><tbody>\n%s</tbody></table>\n' % (caption, body)
 
 
@@ -354,15 +354,15 @@ class Stock:
         self.verb = Verb(command, "stock", "--json", log, *files)
         self.lots, self.never, self.keyless, self.foot, self.most = Kept(), Kept(), Kept(), {}, 0
         for told in self.verb.objects():
-            if "paper" in told and "lots" not in told:
+            if "lots" in told:
+                self.foot = told
+            elif "paper" in told:
                 self.lots.add(told)
                 self.most = max(self.most, abs(told.get("difference") or 0))
             elif told.get("never_received"):
                 self.never.add(told)
-            elif "no_key" in told and "file" in told:
+            elif "no_key" in told:
                 self.keyless.add(told)
-            elif "lots" in told:
-                self.foot = told
 
     def lot_table(self):
         rows = []
