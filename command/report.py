@@ -49,7 +49,7 @@ summary { cursor: pointer; font-weight: 600; padding: .2rem 0; }
 footer { margin-top: 2.5rem; border-top: 2px solid var(--ink); font-size: .88rem; color: var(--soft); }
 footer code { color: var(--ink); }
 @media (max-width: 40rem) { body { padding: .6rem; font-size: 15px; } .cell { width: 35%; }
-  .stack thead { position: absolute; left: -99rem; } .stack, .stack tbody, .stack tr, .stack td { display: block; width: 100%; }
+  .stack thead { position: absolute; left: -99rem; } .stack, .stack caption, .stack tbody, .stack tr, .stack td { display: block; width: 100%; }
   .stack tr { border-bottom: 1px solid var(--ink); padding: .3rem 0; } .stack tr.facts { border-bottom: 0; } .stack td, .stack td.n { border: 0; text-align: left; padding: .1rem .2rem; white-space: normal; }
   .stack td[data-head]::before { content: attr(data-head) ": "; font-weight: 600; } .stack td:empty { display: none; } }
 @media print { @page { size: A4; margin: 16mm 14mm; } body { max-width: none; padding: 0; font-size: 10.5pt; } details > summary { list-style: none; } details::details-content { content-visibility: visible; block-size: auto; }
