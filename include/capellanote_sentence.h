@@ -30,6 +30,9 @@ static inline const char *capellanote_sentence(capellanote_size number)
     case CAPELLANOTE_SHORT_ROOM: return "the room lent is shorter than the canonical text";
     case CAPELLANOTE_UNWRITABLE: return "the tables hold numbers that cannot be written";
     case CAPELLANOTE_NO_SUCH_ITEM: return "the record is good and no item has that name";
+    case CAPELLANOTE_LONG_SUPPLIER: return "the supplier of a record has more than 24 bytes";
+    case CAPELLANOTE_SUPPLIER_TOO_MANY: return "a record has a 65th supplier, one more than the list holds";
+    case CAPELLANOTE_RECORD_TOO_MANY: return "a 1,000,000th record, one more than the list counts";
     case CAPELLANOTE_UNKNOWN_EVENT: return "an unknown kind of event";
     case CAPELLANOTE_CUT_EVENT: return "the log ends inside an event";
     case CAPELLANOTE_ABOVE_PAPER: return "an issue above the lot's paper figure";
@@ -40,6 +43,10 @@ static inline const char *capellanote_sentence(capellanote_size number)
     case CAPELLANOTE_TOO_MANY_ATOMS: return "the formula has more than 9,999 atoms of an element";
     case CAPELLANOTE_NO_ELEMENT: return "an atom is A, Q, * or LP, so the record cannot be compared with a formula";
     case CAPELLANOTE_SHORT_ROWS: return "the rows lent have room for fewer than a record may have";
+    case CAPELLANOTE_FIRST_NOT_GOOD: return "the first of two files compared is not good";
+    case CAPELLANOTE_SECOND_NOT_GOOD: return "the second of two files compared is not good";
+    case CAPELLANOTE_SHORT_MENDED: return "the room lent is shorter than the mended text";
+    case CAPELLANOTE_SHORT_LIST: return "the list lent is too short for all entries";
     }
     return "no sentence for this number";
 }

@@ -78,7 +78,7 @@ for file in "$room"/no??.mol "$room"/no??.sdf; do
     esac
 done
 
-# Every number from 1 to 22 has a sentence of its own: the command runs with a stand-in for the program, which says this verdict.
+# Every number from 1 to 39 has a sentence of its own: the command runs with a stand-in for the program, which says this verdict.
 stand=$room/kit/on/$(uname -m)/toolchain/lib
 mkdir -p "$stand"
 printf '#!/bin/sh\necho "$VERDICT" >&3\n' >"$stand/ld-linux-x86-64.so.2"
@@ -86,12 +86,12 @@ chmod +x "$stand/ld-linux-x86-64.so.2"
 says() { # VERDICT
     VERDICT=$1 RATTLE_HOME=$room/kit ./capellanote read examples/sample.sdf
 }
-for no in $(seq 1 22); do says "refused $no 7 9"; done 2>&1 | grep -v hint: >"$room/sentences"
-[ "$(grep -c '^examples/sample.sdf:7:9: refused [0-9]*: ' "$room/sentences")" = 22 ] && ok || bad "sentences" "$(cat "$room/sentences")"
-[ "$(sed 's/.*refused [0-9]*: //' "$room/sentences" | sort -u | wc -l)" = 22 ] && ok || bad "sentences" "two are the same"
+for no in $(seq 1 39); do says "refused $no 7 9"; done 2>&1 | grep -v hint: >"$room/sentences"
+[ "$(grep -c '^examples/sample.sdf:7:9: refused [0-9]*: ' "$room/sentences")" = 39 ] && ok || bad "sentences" "$(cat "$room/sentences")"
+[ "$(sed 's/.*refused [0-9]*: //' "$room/sentences" | sort -u | wc -l)" = 39 ] && ok || bad "sentences" "two are the same"
 grep -q "no sentence" "$room/sentences" && bad "sentences" "one is missing" || ok
-got says "refused 23 7 9"
-is "sentence 23" 1 "" "examples/sample.sdf:7:9: refused 23: no sentence for this number"
+got says "refused 99 7 9"
+is "sentence 99" 1 "" "examples/sample.sdf:7:9: refused 99: no sentence for this number"
 got says "refused 2 0 0"
 is "a refusal without a place" 1 "" "examples/sample.sdf: refused 2: the tables lent have room for fewer atoms or bonds than a record may have"
 got says ""

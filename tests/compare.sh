@@ -25,7 +25,7 @@ lot = lambda *values: (b"LOT", list(values))
 plain = record(b"AB-1", two, [(1, 2, 1)], [lot(b"00417")]) + record(b"AB-2", two, [(1, 2, 1)], [lot(b"00418"), (b"NOTE", [b"dry"])])
 put("plain", plain)
 put("crlf", plain.replace(b"\n", b"\r\n"))
-put("unread", plain.replace(b"  0  0  0  0  0999 V2000", b"  7  1  2  3  4  5 V2000").replace(b">  <LOT>", b"> <LOT>  "))
+put("unread", plain.replace(b"  0  0  0  0999 V2000", b"  1  2  3  4  5 V2000").replace(b">  <LOT>", b"> <LOT>  "))
 put("zero", plain.replace(b"00418", b"0418"))
 put("more", plain + record(b"AB-3", [], [], []))
 put("parts", record(b"AB-9", three, [(1, 2, 2), (2, 3, 1)], [(b"BATCH", [b"00417", b"x\"y\\z"])], b"drum 3", 1)
@@ -72,7 +72,7 @@ record 1 AB-1, bonds: 1 -> 2
 record 1 AB-1, chiral: 0 -> 1
 record 1 AB-1, bond 1, type: 1 -> 2
 record 1 AB-1, item 1, name: LOT -> BATCH
-record 1 AB-1, item 1 LOT, line 2, only in the new file: x\"y\\z
+record 1 AB-1, item 1 BATCH, line 2, only in the new file: x\"y\\z
 record 2 AB-2, header line 1: AB-2 -> 
 record 2 AB-2, atom 1, symbol: C -> N
 record 2 AB-2, atom 1, map: 0 -> 1

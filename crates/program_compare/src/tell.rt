@@ -305,7 +305,7 @@ fn put_texts(
     }
 }
 
-// The item is named as the old record names it, where it has it.
+// The item is named as the old record names it; where a text stands in the new one only, as that does.
 fn put_named(
     out: Out,
     room: &mut [u8],
