@@ -1,12 +1,6 @@
 """The scanner log against the catalogue, lot by lot.
 
-Nothing in the library has this yet. Its case would be a log, then the catalogue's files one by one:
-
-    stock PAD LOG_SIZE SIZE                     LOG_SIZE bytes: the log; SIZE bytes: one SDfile
-    stock lots L paper P records R received A never_received B no_key C digest D
-    refused NUMBER line LINE column COLUMN, or refused NUMBER event K
-
-D would be the digest over the lines that `json_lines` gives, which are those of `capellanote stock --json`.
+`json_lines` gives the lines of `capellanote stock --json`, which tests/stock.sh holds against the command's.
 
 The key of a record is the first value line of its first SUPPLIER item and of its first LOT item, filled with the pad byte on the
 right to four and eight bytes; nothing is trimmed. A text that is missing, too long, or ends in the pad byte has no key: then two
