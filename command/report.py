@@ -28,7 +28,8 @@ p { margin: .4rem 0; }
 .verdict { font-size: 1.12rem; border-left: .5rem solid var(--good); padding: .5rem .8rem; background: #f4f4f4; }
 .verdict.bad { border-left-color: var(--bad); border-left-style: double; }
 table { border-collapse: collapse; width: 100%; margin: .4rem 0; font-size: .92rem; }
-th, td { text-align: left; vertical-align: top; padding: .25rem .5rem; border-bottom: 1px solid var(--line); overflow-wrap: anywhere; }
+th, td { text-align: left; vertical-align: top; padding: .25rem .5rem; border-bottom: 1px solid var(--line); overflow-wrap: break-word; }
+td code { overflow-wrap: anywhere; }
 th { border-bottom: 2px solid var(--ink); overflow-wrap: normal; }
 td.n, th.n { text-align: right; font-variant-numeric: tabular-nums; white-space: nowrap; }
 code, pre { font-family: ui-monospace, "DejaVu Sans Mono", Consolas, monospace; font-size: .92em; }
@@ -241,7 +242,8 @@ class Checked:
             parts.append(bars("Refused records by the number of the refusal", rows))
             parts.append(folded("What to ask the supplier for, record by record", self.refusals, self.refusal_table(several)))
         if self.warnings.count:
-            rows = [[*([code(told.get("file"))] if several else []), told.get("record", ""), told.get("line", ""), escaped(told["warning"]), code(told.get("text"))]
+            rows = [[*([code(told.get("file"))] if several else []), told.get("record", ""), told.get("line", ""), escaped(told.get("message") or told["warning"]),
+                     code(told["text"]) if "text" in told else ""]
                     for told in self.warnings.rows]
             heads = [*(["File"] if several else []), "Record", "Line", "Warning", "What stands there"]
             parts.append("<h2>Warnings</h2>\n<p>Warnings change no verdict.</p>\n" + folded(

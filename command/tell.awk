@@ -383,7 +383,7 @@ function warn(what, record, line, text, words) {
     if (names) return
     warned++
     if (json) {
-        print "{\"file\":" quoted_name(name) ",\"warning\":\"" what "\"" (record == "" ? "" : ",\"record\":" record ",\"line\":" line) (text == "" ? "" : ",\"text\":" quoted(text)) "}"
+        print "{\"file\":" quoted_name(name) ",\"warning\":\"" what "\"" (record == "" ? "" : ",\"record\":" record ",\"line\":" line) (text == "" ? "" : ",\"text\":" quoted(text)) ",\"message\":" quoted(words) "}"
         return
     }
     print name (line == "" ? "" : ":" line) ": warning: " words

@@ -103,6 +103,7 @@ shows "records never received" "Records never received: 2"
 
 page_of "an empty file" 0 "$room/report/empty.sdf"
 shows "an empty delivery" "The delivery holds no record"
+shows "a warning in words" "Warning What stands there no records"
 
 page_of "more refusals than a page shows" 1 "$room/report/many.sdf"
 shows "the cut is said" "The first 1,000 of 1,200 are shown"
