@@ -119,7 +119,7 @@ fn put_before(out: &mut [u8], at: usize, minus: bool, k: u32)
         put_digit(out, at, minus, k);
         return;
     }
-    field_numbers::put_sized(out, at, 5, minus, k);
+    field_numbers_put::put_sized(out, at, 5, minus, k);
 }
 
 // k ten-thousandths in ten columns from position `at` on, with a `-` or without.

@@ -33,7 +33,7 @@ pub fn put_number(room: &mut [u8], at: usize, k: u32) -> usize
     requires { ⌜ at + 3 ≤ length (now room) ⌝ }
     ensures { λ r. ⌜ Field (now (room .entry)) (now (room .exit)) at 3 (numberText 3 k) r ⌝ }
 {
-    field_numbers::put_number(room, at, 3, k);
+    field_numbers_put::put_number(room, at, 3, k);
     at + 3
 }
 
@@ -68,7 +68,7 @@ pub fn put_signed(room: &mut [u8], at: usize, width: usize, row: &[i32], k: usiz
     ensures { λ r. ⌜ Field (now (room .entry)) (now (room .exit)) at width (signedText width (getD (now (row .entry)) k (pos 0))) r ⌝ }
 {
     let v = row[k];
-    field_numbers::put_signed(room, at, width, v);
+    field_numbers_put::put_signed(room, at, width, v);
     at + width
 }
 
