@@ -2,9 +2,9 @@
 use borrow.Author.Needs.{needs}
 use native.Mathlib.Omega.{arith}
 use lib.ListN.{length-set}
 use Rattle.field_symbols.proofs.Codes.{letters-below, letters-written}
-use Rattle.field_symbols.proofs.put_symbol.Statement.{statement}
-use Rattle.field_symbols.proofs.put_symbol.Tie as tie
+use Rattle.field_symbols_put.proofs.put_symbol.Statement.{statement}
+use Rattle.field_symbols_put.proofs.put_symbol.Tie as tie
 
 letters-of-requires : tie.Need-letters-of-requires
 letters-of-requires c κs = search needs

@@ -2,9 +2,9 @@
 use native.Mathlib.Omega.{arith}
 use lib.ListN.{length-set}
 use borrow.Author.Needs.{needs}
-use Rattle.field_coordinates.proofs.Texts.{digit-stored}
-use Rattle.field_coordinates.proofs.put_digit.Statement.{statement}
-use Rattle.field_coordinates.proofs.put_digit.Tie as tie
+use Rattle.field_coordinates_put.proofs.Texts.{digit-stored}
+use Rattle.field_coordinates_put.proofs.put_digit.Statement.{statement}
+use Rattle.field_coordinates_put.proofs.put_digit.Tie as tie
 
 sign-column-requires : tie.Need-sign-column-requires
 sign-column-requires c κs = search needs

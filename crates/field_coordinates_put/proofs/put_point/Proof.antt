@@ -1,8 +1,8 @@
 -- `field_coordinates::put_point` meets its contract.
-use Rattle.field_coordinates.proofs.Texts.{both-laid}
+use Rattle.field_coordinates_put.proofs.Texts.{both-laid}
 use borrow.Author.Needs.{needs}
-use Rattle.field_coordinates.proofs.put_point.Statement.{statement}
-use Rattle.field_coordinates.proofs.put_point.Tie as tie
+use Rattle.field_coordinates_put.proofs.put_point.Statement.{statement}
+use Rattle.field_coordinates_put.proofs.put_point.Tie as tie
 
 put-before-requires : tie.Need-put-before-requires
 put-before-requires c κs = search needs

@@ -1,10 +1,10 @@
 -- `field_symbols::word_at` meets its contract: each arm by computing, what is left by one law.
 use Rattle.text.specs.Columns.{columnsFor}
 use Rattle.field_symbols.specs.Codes.{codes}
 use Rattle.field_symbols.specs.Places.{pick, words, wordsFrom, wordOf}
 use Rattle.field_symbols.proofs.Codes.{Others, pick-none}
-use Rattle.field_symbols.proofs.word_at.Statement.{statement}
-use Rattle.field_symbols.proofs.word_at.Tie as tie
+use Rattle.field_symbols_put.proofs.word_at.Statement.{statement}
+use Rattle.field_symbols_put.proofs.word_at.Tie as tie
 
 returns : tie.Need-returns
 unfolding pick words wordsFrom wordOf codes columnsFor

@@ -1,7 +1,7 @@
 -- `field_coordinates::put_before` meets its contract.
 use borrow.Author.Needs.{needs}
-use Rattle.field_coordinates.proofs.put_before.Statement.{statement}
-use Rattle.field_coordinates.proofs.put_before.Tie as tie
+use Rattle.field_coordinates_put.proofs.put_before.Statement.{statement}
+use Rattle.field_coordinates_put.proofs.put_before.Tie as tie
 
 put-digit-requires : tie.Need-put-digit-requires
 put-digit-requires c κs = search needs

@@ -1,8 +1,8 @@
 -- `field_coordinates::put_coordinate` meets its contract.
-use Rattle.field_coordinates.proofs.Texts.{sign-laws}
+use Rattle.field_coordinates_put.proofs.Texts.{sign-laws}
 use borrow.Author.Needs.{needs}
-use Rattle.field_coordinates.proofs.put_coordinate.Statement.{statement}
-use Rattle.field_coordinates.proofs.put_coordinate.Tie as tie
+use Rattle.field_coordinates_put.proofs.put_coordinate.Statement.{statement}
+use Rattle.field_coordinates_put.proofs.put_coordinate.Tie as tie
 
 sub-put-point : tie.Need-sub-put-point
 sub-put-point c = search (needs, sign-laws)

@@ -1,10 +1,10 @@
 -- `field_coordinates::put_after` meets its contract.
 use native.Mathlib.Omega.{arith}
 use lib.ListN.{length-set}
-use Rattle.field_coordinates.proofs.Texts.{after-stored}
+use Rattle.field_coordinates_put.proofs.Texts.{after-stored}
 use borrow.Author.Needs.{needs}
-use Rattle.field_coordinates.proofs.put_after.Statement.{statement}
-use Rattle.field_coordinates.proofs.put_after.Tie as tie
+use Rattle.field_coordinates_put.proofs.put_after.Statement.{statement}
+use Rattle.field_coordinates_put.proofs.put_after.Tie as tie
 
 mul-first : tie.Need-mul-first
 mul-first c = search needs

@@ -1,8 +1,8 @@
 -- `field_coordinates::sign_column` meets its contract.
 use borrow.Author.Needs.{needs}
-use Rattle.field_coordinates.proofs.Texts.{sign-is, sign-not}
-use Rattle.field_coordinates.proofs.sign_column.Statement.{statement}
-use Rattle.field_coordinates.proofs.sign_column.Tie as tie
+use Rattle.field_coordinates_put.proofs.Texts.{sign-is, sign-not}
+use Rattle.field_coordinates_put.proofs.sign_column.Statement.{statement}
+use Rattle.field_coordinates_put.proofs.sign_column.Tie as tie
 
 returns : tie.Need-returns
 returns c = search (needs, sign-is)

@@ -1,8 +1,8 @@
 -- `field_symbols::letters_of` meets its contract.
 use borrow.Author.Needs.{needs}
 use Rattle.field_symbols.proofs.Codes.{letters-told}
-use Rattle.field_symbols.proofs.letters_of.Statement.{statement}
-use Rattle.field_symbols.proofs.letters_of.Tie as tie
+use Rattle.field_symbols_put.proofs.letters_of.Statement.{statement}
+use Rattle.field_symbols_put.proofs.letters_of.Tie as tie
 
 sub-i : tie.Need-sub-i
 sub-i c = search needs
