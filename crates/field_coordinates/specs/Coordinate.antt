@@ -1,7 +1,7 @@
 -- Coordinate fields: which ten columns stand for which signed count of ten-thousandths.
 use Prim.Native.Nat.{ℕ, _+_, _*_}
 use mathlib.Core.Path.{_≡_}
-use mathlib.Core.List.{[], _∷_, _++_}
+use mathlib.Core.List.{_++_}
 use lib.ListN.{length}
 use lib.IntN.{ℤ, pos, negℤ}
 use Rattle.text.specs.Text.{Bytes, bytes}

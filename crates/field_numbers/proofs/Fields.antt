@@ -1,6 +1,6 @@
 -- Laws on the columns of an integer field, from column a up to column e: its spaces, its sign, its digits, the spaces after them.
 use Prim.Native.Nat.{ℕ, zero, suc, _+_, _-_, _*_, _^_, _≤_, _<_, zero-le}
-use native.Mathlib.Nat.{not-suc-le-zero, le-of-suc-le-suc, lt-of-lt-of-le, mul-le-mul-right, mul-assoc, pow-suc, pow-succ', pow-le-pow-right}
+use native.Mathlib.Nat.{lt-of-lt-of-le, mul-le-mul-right, mul-assoc, pow-suc, pow-succ', pow-le-pow-right}
 use native.Mathlib.Numerals.{add-one}
 use native.Mathlib.Omega.{arith}
 use mathlib.Core.Path.{_≡_, refl, sym, ap, _∙_}

@@ -2,8 +2,7 @@
 use Prim.Native.Nat.{ℕ, suc}
 use Prim.Native.String.{String}
 use mathlib.Core.List.{List, [], _∷_}
-use mathlib.Core.Bool.{Bool, true, false, cond, _&&_}
-use lib.Dec.{eqb}
+use mathlib.Core.Bool.{cond}
 use Rattle.text.specs.Text.{Bytes, bytes}
 use Rattle.text.specs.Columns.{columns}
 use Rattle.text.specs.Find.{sameBytes}

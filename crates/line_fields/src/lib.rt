@@ -25,7 +25,7 @@ pub fn number_field(line: &[u8], i: usize, j: usize, least: u32, most: u32) -> F
     requires { ⌜ (1 ≤ i) × ((i ≤ j) × ((j ≤ i + 8) × (j ≤ 1000))) ⌝ }
     ensures { λ r. ⌜ fieldGot r ≡ numberAt (now (line .entry)) i j least most ⌝ }
 {
-    match field_numbers::number(line, i, j, least, most) {
+    match field_numbers_read::number(line, i, j, least, most) {
         NumberRead::Is(k) => Field::Is(k),
         NumberRead::Malformed => Field::Bad { no: 7, column: i },
         NumberRead::Outside => Field::Bad { no: 8, column: i },
@@ -37,7 +37,7 @@ pub fn signed_field(line: &[u8], i: usize, j: usize, below: u32, above: u32) -> 
     requires { ⌜ (1 ≤ i) × ((i ≤ j) × ((j ≤ i + 8) × (j ≤ 1000))) ⌝ }
     ensures { λ r. ⌜ signedFieldGot r ≡ signedAt (now (line .entry)) i j below above ⌝ }
 {
-    match field_numbers::signed_number(line, i, j, below, above) {
+    match field_numbers_read::signed_number(line, i, j, below, above) {
         SignedRead::Is(z) => SignedField::Is(z),
         SignedRead::Malformed => SignedField::Bad { no: 7, column: i },
         SignedRead::Outside => SignedField::Bad { no: 8, column: i },

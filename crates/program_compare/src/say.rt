@@ -134,7 +134,7 @@ fn symbol(text: Text, k: u64) -> Text {
     if k > SYMBOLS as u64 {
         return text;
     }
-    field_symbols::put_symbol(&mut letters, 0, k as u32);
+    field_symbols_put::put_symbol(&mut letters, 0, k as u32);
     let one = text.byte(letters[0]);
     if letters[1] == b' ' {
         return one;

@@ -21,7 +21,7 @@ fn with_symbol(text: Text, element: u32) -> Text {
     if element > ELEMENTS {
         return text;
     }
-    field_symbols::put_symbol(&mut letters, 0, element);
+    field_symbols_put::put_symbol(&mut letters, 0, element);
     let one = text.byte(b'"').byte(letters[0]);
     if letters[1] == b' ' {
         return one.byte(b'"');

@@ -201,7 +201,7 @@ fn put_symbol(room: &mut [u8], at: usize, k: u32) -> usize
     if field_symbols::SYMBOLS < k {
         return at;
     }
-    field_symbols::put_symbol(room, at, k);
+    field_symbols_put::put_symbol(room, at, k);
     behind_symbol(room, at)
 }
 

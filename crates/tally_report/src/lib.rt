@@ -21,7 +21,7 @@ fn put_line(room: &mut [u8], at: usize, count: u32, name: &[u8]) -> usize
     requires { ⌜ at + (8 + length (now name)) ≤ length (now room) ⌝ }
     ensures { λ r. ⌜ Laid (now (room .entry)) (now (room .exit)) at (reportLine count (now (name .entry))) r ⌝ }
 {
-    field_numbers::put_number(room, at, 6, count);
+    field_numbers_put::put_number(room, at, 6, count);
     let a = writer_lines::put_bytes(room, at + 6, b" ");
     let e = writer_lines::put_bytes(room, a, name);
     writer_lines::put_bytes(room, e, b"\n")

@@ -33,7 +33,7 @@ pub fn put_number(room: &mut [u8], at: usize, k: u32) -> usize
     requires { ⌜ at + 3 ≤ length (now room) ⌝ }
     ensures { λ r. ⌜ Field (now (room .entry)) (now (room .exit)) at 3 (numberText 3 k) r ⌝ }
 {
-    field_numbers::put_number(room, at, 3, k);
+    field_numbers_put::put_number(room, at, 3, k);
     at + 3
 }
 
@@ -68,7 +68,7 @@ pub fn put_signed(room: &mut [u8], at: usize, width: usize, row: &[i32], k: usiz
     ensures { λ r. ⌜ Field (now (room .entry)) (now (room .exit)) at width (signedText width (getD (now (row .entry)) k (pos 0))) r ⌝ }
 {
     let v = row[k];
-    field_numbers::put_signed(room, at, width, v);
+    field_numbers_put::put_signed(room, at, width, v);
     at + width
 }
 
@@ -78,7 +78,7 @@ fn put_coordinate(room: &mut [u8], at: usize, row: &[i32], k: usize) -> usize
     ensures { λ r. ⌜ Field (now (room .entry)) (now (room .exit)) at 10 (coordinateText (getD (now (row .entry)) k (pos 0))) r ⌝ }
 {
     let v = row[k];
-    field_coordinates::put_coordinate(room, at, v);
+    field_coordinates_put::put_coordinate(room, at, v);
     at + 10
 }
 
@@ -90,7 +90,7 @@ fn put_symbol(room: &mut [u8], at: usize, row: &[i32]) -> usize
 {
     let v = row[3];
     let k = size_of(v);
-    field_symbols::put_symbol(room, at, k);
+    field_symbols_put::put_symbol(room, at, k);
     at + 3
 }
 

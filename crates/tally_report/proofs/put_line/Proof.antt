@@ -4,7 +4,7 @@ use Rattle.tally_report.proofs.put_line.Statement.{statement}
 use Rattle.tally_report.proofs.put_line.Tie as tie
 use Rattle.tally_report.proofs.put_line.Reads as reads
 use Rattle.tally_report.proofs.put_line.Lts as lts
-use Rattle.field_numbers.proofs.put_number.Reads as put-number-reads
+use Rattle.field_numbers_put.proofs.put_number.Reads as put-number-reads
 use Rattle.writer_lines.proofs.put_bytes.Reads as put-bytes-reads
 
 -- src/lib.rt:24:5
