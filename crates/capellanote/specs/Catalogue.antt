@@ -1,43 +1,24 @@
--- The answer of the writing of a catalogue: what the array holds, and what it tells in the words of the rules.
-use Prim.Native.Nat.{ℕ, zero, suc, _≤_}
+-- The answer of the writing of a catalogue: what the array tells in the words of the rules.
+use Prim.Native.Nat.{ℕ, _≤_}
 use native.Mathlib.Omega.{arith}
 use mathlib.Core.Path.{_≡_, refl, sym, ap, _∙_, subst}
 use mathlib.Core.Logic.{_↔_}
-use mathlib.Core.List.{List, [], _∷_}
+use mathlib.Core.List.{List}
 use lib.ListN.{length}
 use lib.IntN.{ℤ}
 use Rattle.text.specs.Text.{Bytes}
 use Rattle.rules.specs.Record.{Raw, GoodSDfile}
-use Rattle.judge_file.specs.Place.{sdfile}
-use Rattle.reader_walk.specs.Promise.{RefusedAt}
-use Rattle.reader_record.specs.Promise.{Roomy}
-use Rattle.writer_catalogue.specs.declared.Catalogue.{Catalogue}
-use Rattle.writer_catalogue.specs.Catalogue.{catalogueText, catalogueOf}
-use Rattle.writer_catalogue.specs.Promise.{Refusal, Promise}
+use Rattle.reader_answer.specs.Promise.{Roomy}
+use Rattle.writer_answer.specs.declared.Catalogue.{Catalogue}
+use Rattle.writer_answer.specs.Catalogue.{catalogueText, catalogueOf}
+use Rattle.writer_answer.specs.CataloguePromise.{Refusal, Promise}
+use Rattle.capellanote_numbers.specs.Numbers.{catalogueNumbers}
 use Rattle.capellanote.specs.Answer.{number, byFirst, first-refused, zero-exactly}
 use Rattle.capellanote.specs.Check.{at-numbered}
-
--- 0, length, records
-unfoldable pub catalogueNumbers : Catalogue → List ℕ
-catalogueNumbers (Catalogue.Done length records) = 0 ∷ (length ∷ (records ∷ []))
-catalogueNumbers (Catalogue.Refused e i column) = e ∷ (i ∷ (column ∷ []))
 
 -- what an array tells
 unfoldable pub catalogueTold : List ℕ → Catalogue
 catalogueTold a = byFirst (number a 0) (Catalogue.Done (number a 1) (number a 2)) (λ e. Catalogue.Refused e (number a 1) (number a 2))
-
--- ---- The array, of the answer
-
-module _ (x : Catalogue) where
-  pub catalogue-done : (length records : ℕ) → x ≡ Catalogue.Done length records → 0 ∷ (length ∷ (records ∷ [])) ≡ catalogueNumbers x
-  unfolding catalogueNumbers
-  catalogue-done length records h = ap catalogueNumbers (sym h)
-
-  pub catalogue-refused : (e i column : ℕ) → x ≡ Catalogue.Refused e i column → e ∷ (i ∷ (column ∷ [])) ≡ catalogueNumbers x
-  unfolding catalogueNumbers
-  catalogue-refused e i column h = ap catalogueNumbers (sym h)
-
-pub ruleset catalogue-array = (catalogue-done, catalogue-refused)
 
 -- ---- It tells that answer, since no refusal has the number 0
 

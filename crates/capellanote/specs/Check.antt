@@ -1,9 +1,9 @@
--- The answer of the check of a whole file: what the array holds, and what it tells in the words of the rules.
+-- The answer of the check of a whole file: what the array tells in the words of the rules.
 use Prim.Native.Nat.{ℕ, zero, suc, _≤_}
 use native.Mathlib.Omega.{arith}
 use mathlib.Core.Path.{_≡_, refl, sym, ap, _∙_, subst}
 use mathlib.Core.Logic.{_↔_}
-use mathlib.Core.List.{List, [], _∷_}
+use mathlib.Core.List.{List}
 use lib.ListN.{length}
 use Rattle.text.specs.Text.{Bytes}
 use Rattle.rules.specs.Record.{Raw, GoodMolfile, GoodSDfile}
@@ -12,12 +12,8 @@ use Rattle.reader_walk.specs.Promise.{Said, accepted, refused, RefusedAt, Check
 use Rattle.reader_walk.specs.Checking.{checkOf}
 use Rattle.reader_check.specs.declared.Answer.{Answer}
 use Rattle.reader_check.specs.Promised.{numbersOf, Promised}
+use Rattle.capellanote_numbers.specs.Numbers.{checkNumbers}
 use Rattle.capellanote.specs.Answer.{number, byFirst, first-refused, zero-exactly}
-
--- 0, records, 0
-unfoldable pub checkNumbers : Said → List ℕ
-checkNumbers (accepted count) = 0 ∷ (count ∷ (0 ∷ []))
-checkNumbers (refused e i column) = e ∷ (i ∷ (column ∷ []))
 
 -- what an array tells
 unfoldable pub checkTold : List ℕ → Said
@@ -28,19 +24,6 @@ abbrev pub GoodFile : ℕ → Bytes → Type 0
 GoodFile zero s = (x : Raw) × GoodMolfile s x
 GoodFile (suc zero) s = (xs : List Raw) × GoodSDfile s xs
 GoodFile (suc (suc kind)) s = ⊥
-
--- ---- The array, of the answer
-
-module _ (a : Answer) where
-  pub check-accepted : (count : ℕ) → a ≡ Answer.Accepted count → 0 ∷ (count ∷ (0 ∷ [])) ≡ checkNumbers (numbersOf a)
-  unfolding checkNumbers
-  check-accepted count h = ap (λ (x : Answer). checkNumbers (numbersOf x)) (sym h)
-
-  pub check-refused : (e i column : ℕ) → a ≡ Answer.Refused e i column → e ∷ (i ∷ (column ∷ [])) ≡ checkNumbers (numbersOf a)
-  unfolding checkNumbers
-  check-refused e i column h = ap (λ (x : Answer). checkNumbers (numbersOf x)) (sym h)
-
-pub ruleset check-array = (check-accepted, check-refused)
 
 -- ---- It tells that answer, since no refusal has the number 0
 

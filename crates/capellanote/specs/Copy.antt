@@ -1,39 +1,22 @@
--- The answer of the copying of a record: what the array holds, and what it tells in the words of the rules.
-use Prim.Native.Nat.{ℕ, zero, suc, _≤_}
+-- The answer of the copying of a record: what the array tells in the words of the rules.
+use Prim.Native.Nat.{ℕ, _≤_}
 use native.Mathlib.Omega.{arith}
 use mathlib.Core.Path.{_≡_, refl, sym, ap, _∙_, subst}
 use mathlib.Core.Logic.{_↔_}
-use mathlib.Core.List.{List, [], _∷_}
+use mathlib.Core.List.{List}
 use lib.ListN.{length}
 use lib.IntN.{ℤ}
 use Rattle.text.specs.Text.{Bytes}
-use Rattle.writer_copy.specs.declared.Copied.{Copied}
-use Rattle.writer_copy.specs.Copy.{copyOf}
-use Rattle.writer_copy.specs.Promise.{Copies, Refusal, Promise}
+use Rattle.writer_answer.specs.declared.Copied.{Copied}
+use Rattle.writer_answer.specs.Copy.{copyOf}
+use Rattle.writer_answer.specs.CopyPromise.{Copies, Refusal, Promise}
+use Rattle.capellanote_numbers.specs.Numbers.{copiedNumbers}
 use Rattle.capellanote.specs.Answer.{number, byFirst, first-refused, zero-exactly}
 use Rattle.capellanote.specs.Read.{refusal-numbered}
-
--- 0, bytes and lines that the record takes, length of its text
-unfoldable pub copiedNumbers : Copied → List ℕ
-copiedNumbers (Copied.Done taken lines length) = 0 ∷ (taken ∷ (lines ∷ (length ∷ [])))
-copiedNumbers (Copied.Refused e i column) = e ∷ (i ∷ (column ∷ (0 ∷ [])))
 
 -- what an array tells
 unfoldable pub copiedTold : List ℕ → Copied
 copiedTold a = byFirst (number a 0) (Copied.Done (number a 1) (number a 2) (number a 3)) (λ e. Copied.Refused e (number a 1) (number a 2))
-
--- ---- The array, of the answer
-
-module _ (x : Copied) where
-  pub copied-done : (taken lines length : ℕ) → x ≡ Copied.Done taken lines length → 0 ∷ (taken ∷ (lines ∷ (length ∷ []))) ≡ copiedNumbers x
-  unfolding copiedNumbers
-  copied-done taken lines length h = ap copiedNumbers (sym h)
-
-  pub copied-refused : (e i column : ℕ) → x ≡ Copied.Refused e i column → e ∷ (i ∷ (column ∷ (0 ∷ []))) ≡ copiedNumbers x
-  unfolding copiedNumbers
-  copied-refused e i column h = ap copiedNumbers (sym h)
-
-pub ruleset copied-array = (copied-done, copied-refused)
 
 -- ---- It tells that answer, since no refusal has the number 0
 

@@ -1,10 +1,10 @@
--- The answer of the counter to a part: what the array holds, and what the last array of a sequence of calls tells in the words of the rules.
+-- The answer of the counter to a part: what the last array of a sequence of calls tells in the words of the rules.
 use Prim.Native.Nat.{ℕ, zero, suc, _+_, _<_, _^_}
 use native.Mathlib.Omega.{arith}
 use mathlib.Core.Path.{_≡_, refl, sym, ap, _∙_}
 use mathlib.Core.Logic.{_↔_, _⊎_, inl, inr}
-use mathlib.Core.Bool.{Bool, true, false}
-use mathlib.Core.List.{List, [], _∷_}
+use mathlib.Core.Bool.{Bool}
+use mathlib.Core.List.{List}
 use lib.ListN.{length}
 use Rattle.text.specs.Text.{Bytes}
 use Rattle.rules.specs.Record.{Raw, GoodSDfile}
@@ -16,20 +16,9 @@ use Rattle.reader_feed.specs.Says.{Told, accepted, refused, too-long}
 use Rattle.reader_feed.specs.TooLong.{TooLong}
 use Rattle.reader_feed.specs.Calls.{fedAs, Feeds}
 use Rattle.reader_feed.specs.Promise.{Writes, counter-writes}
+use Rattle.capellanote_numbers.specs.Numbers.{truth, fedNumbers}
 use Rattle.capellanote.specs.Answer.{number, byFirst, first-refused, zero-exactly}
 use Rattle.capellanote.specs.Check.{at-numbered}
-
--- a byte of C as a truth value
-abbrev pub truth : ℕ → Bool
-truth zero = false
-truth (suc n) = true
-
--- 0, and 0 where more is asked for: records, lines, bytes used; 1 where the input is accepted: records; 2 where a record is too long: which
-unfoldable pub fedNumbers : Fed → List ℕ
-fedNumbers (Fed.More c used) = 0 ∷ (0 ∷ (c .records ∷ (c .lines ∷ (used ∷ []))))
-fedNumbers (Fed.Accepted n) = 0 ∷ (1 ∷ (n ∷ (0 ∷ (0 ∷ []))))
-fedNumbers (Fed.Refused e i column) = e ∷ (i ∷ (column ∷ (0 ∷ (0 ∷ []))))
-fedNumbers (Fed.TooLong k) = 0 ∷ (2 ∷ (k ∷ (0 ∷ (0 ∷ []))))
 
 -- what an array tells
 abbrev pub goodTold : ℕ → List ℕ → Fed
@@ -47,37 +36,6 @@ Good room t = ((xs : List Raw) × GoodSDfile t xs) ⊎ ((k : ℕ) × TooLong roo
 -- where a call answers as the last of a sequence over an input, its array tells what is to be said of that input
 pub record FeedPromise (c : Counter) (part : Bytes) (ended : Bool) (room : ℕ) (a : List ℕ) : Type 0 where
   pub last : (t : Bytes) (x : Told) → length t + 1 < 2 ^ 64 → Feeds room begun t x → fedOf c part ended room ≡ fedAs x → (fedTold a ≡ fedAs x) × Writes room t x
-
--- ---- The array, of the answer
-
-module _ (x : Fed) where
-  pub fed-more : (c : Counter) (used : ℕ) → x ≡ Fed.More c used → 0 ∷ (0 ∷ (c .records ∷ (c .lines ∷ (used ∷ [])))) ≡ fedNumbers x
-  unfolding fedNumbers
-  fed-more c used h = ap fedNumbers (sym h)
-
-  pub fed-accepted : (n : ℕ) → x ≡ Fed.Accepted n → 0 ∷ (1 ∷ (n ∷ (0 ∷ (0 ∷ [])))) ≡ fedNumbers x
-  unfolding fedNumbers
-  fed-accepted n h = ap fedNumbers (sym h)
-
-  pub fed-refusal : (e i column : ℕ) → x ≡ Fed.Refused e i column → e ∷ (i ∷ (column ∷ (0 ∷ (0 ∷ [])))) ≡ fedNumbers x
-  unfolding fedNumbers
-  fed-refusal e i column h = ap fedNumbers (sym h)
-
-  pub fed-long : (k : ℕ) → x ≡ Fed.TooLong k → 0 ∷ (2 ∷ (k ∷ (0 ∷ (0 ∷ [])))) ≡ fedNumbers x
-  unfolding fedNumbers
-  fed-long k h = ap fedNumbers (sym h)
-
-pub ruleset fed-array = (fed-more, fed-accepted, fed-refusal, fed-long)
-
-pub truth-none : (b : ℕ) → b ≡ 0 → false ≡ truth b
-truth-none zero h = refl
-truth-none (suc n) h = absurd (omega (arith, h))
-
-pub truth-some : (b : ℕ) → (b ≡ 0 → ⊥) → true ≡ truth b
-truth-some zero h = absurd (h refl)
-truth-some (suc n) h = refl
-
-pub ruleset truth-laws = (truth-none, truth-some)
 
 -- ---- The last array tells what is to be said, since no refusal has the number 0
 

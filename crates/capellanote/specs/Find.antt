@@ -1,37 +1,19 @@
--- The answer of a fetch: what the array holds, and what it tells in the words of the rules.
-use Prim.Native.Nat.{ℕ, zero, suc, _≤_}
+-- The answer of a fetch: what the array tells in the words of the rules.
+use Prim.Native.Nat.{ℕ, _≤_}
 use native.Mathlib.Omega.{arith}
 use mathlib.Core.Path.{_≡_, refl, sym, ap, _∙_, subst}
 use mathlib.Core.Logic.{_↔_}
-use mathlib.Core.List.{List, [], _∷_}
+use mathlib.Core.List.{List}
 use Rattle.text.specs.Text.{Bytes}
-use Rattle.reader_item.specs.declared.Found.{Found}
-use Rattle.reader_item.specs.Find.{Said, item, refused, numbersOf, foundOf}
+use Rattle.reader_item.specs.Find.{Said, item, refused, foundOf}
 use Rattle.reader_item.specs.Promise.{FoundAt, RefusedAt, Fetched, Promised}
+use Rattle.capellanote_numbers.specs.Numbers.{foundNumbers}
 use Rattle.capellanote.specs.Answer.{number, byFirst, first-refused, zero-exactly}
 use Rattle.capellanote.specs.Read.{none-numbered}
-
--- 0, start and end of the values
-unfoldable pub foundNumbers : Said → List ℕ
-foundNumbers (item from to) = 0 ∷ (from ∷ (to ∷ []))
-foundNumbers (refused e i column) = e ∷ (i ∷ (column ∷ []))
 
 -- what an array tells
 unfoldable pub foundTold : List ℕ → Said
 foundTold a = byFirst (number a 0) (item (number a 1) (number a 2)) (λ e. refused e (number a 1) (number a 2))
-
--- ---- The array, of the answer
-
-module _ (x : Found) where
-  pub found-item : (from to : ℕ) → x ≡ Found.Item from to → 0 ∷ (from ∷ (to ∷ [])) ≡ foundNumbers (numbersOf x)
-  unfolding foundNumbers
-  found-item from to h = ap (λ (y : Found). foundNumbers (numbersOf y)) (sym h)
-
-  pub found-refused : (e i column : ℕ) → x ≡ Found.Refused e i column → e ∷ (i ∷ (column ∷ [])) ≡ foundNumbers (numbersOf x)
-  unfolding foundNumbers
-  found-refused e i column h = ap (λ (y : Found). foundNumbers (numbersOf y)) (sym h)
-
-pub ruleset found-array = (found-item, found-refused)
 
 -- ---- It tells that answer, since no refusal has the number 0
 

@@ -1,10 +1,10 @@
--- The answer of a cursor over a file: what the array holds, and what it tells in the words of the rules.
+-- The answer of a cursor over a file: what the array tells in the words of the rules.
 use Prim.Native.Nat.{ℕ, zero, suc, _+_, _≤_}
 use native.Mathlib.Omega.{arith}
 use mathlib.Core.Path.{_≡_, refl, sym, ap, _∙_, subst}
 use mathlib.Core.Logic.{_↔_}
 use mathlib.Core.Bool.{Bool, true, false}
-use mathlib.Core.List.{List, [], _∷_}
+use mathlib.Core.List.{List}
 use lib.Dec.{ltb, leb}
 use lib.ListN.{length, drop}
 use lib.IntN.{ℤ}
@@ -12,22 +12,16 @@ use borrow.Author.Tests.{ltb-true, ltb-false, leb-true, leb-false}
 use Rattle.text.specs.Text.{Bytes}
 use Rattle.rules.specs.Record.{Raw}
 use Rattle.judge_file.specs.Place.{sdfile}
-use Rattle.reader_record.specs.Promise.{Begins, Roomy, Reads}
-use Rattle.reader_record.specs.Promise as P
-use Rattle.reader_record.specs.Told.{replyOf, begins-told}
+use Rattle.reader_answer.specs.Promise.{Begins, Roomy, Reads}
+use Rattle.reader_answer.specs.Promise as P
+use Rattle.reader_answer.specs.Told.{replyOf, begins-told}
 use Rattle.reader_cursor.specs.declared.Cursor.{Cursor}
 use Rattle.reader_file.specs.declared.Next.{Next}
 use Rattle.reader_file.specs.Next.{Within}
 use Rattle.reader_file.specs.Promise.{Said, found, end, refused, numbersOf, fromHere, NextPromise}
+use Rattle.capellanote_numbers.specs.Numbers.{nextNumbers}
 use Rattle.capellanote.specs.Answer.{number, byFirst, first-refused, zero-exactly}
 use Rattle.capellanote.specs.Read.{by-room, none-numbered}
-
--- 0, then of a record its eight numbers as a reading tells them, the cursor past it, and 1; at the end and after a refusal the cursor is the one handed in
-unfoldable pub nextNumbers : Cursor → Next → List ℕ
-nextNumbers c (Next.Record n m chiral bytes lines h a b d) =
-    0 ∷ (n ∷ (m ∷ (chiral ∷ (bytes ∷ (lines ∷ (h ∷ (a ∷ (b ∷ (d .at ∷ (d .lines ∷ (d .records ∷ (1 ∷ []))))))))))))
-nextNumbers c Next.End = 0 ∷ (0 ∷ (0 ∷ (0 ∷ (0 ∷ (0 ∷ (0 ∷ (0 ∷ (0 ∷ (c .at ∷ (c .lines ∷ (c .records ∷ (0 ∷ []))))))))))))
-nextNumbers c (Next.Refused e i column) = e ∷ (i ∷ (column ∷ (0 ∷ (0 ∷ (0 ∷ (0 ∷ (0 ∷ (0 ∷ (c .at ∷ (c .lines ∷ (c .records ∷ (0 ∷ []))))))))))))
 
 -- what an array tells: the last number says whether there is a record
 abbrev pub cursorTold : List ℕ → Cursor
@@ -41,25 +35,6 @@ foundTold a = byFirst (number a 12) Next.End (λ e. recordTold a)
 
 unfoldable pub nextTold : List ℕ → Next
 nextTold a = byFirst (number a 0) (foundTold a) (λ e. Next.Refused e (number a 1) (number a 2))
-
--- ---- The array, of the answer
-
-module _ (c : Cursor) (x : Next) where
-  pub next-record : (n m chiral bytes lines h a b : ℕ) (d : Cursor) → x ≡ Next.Record n m chiral bytes lines h a b d →
-      0 ∷ (n ∷ (m ∷ (chiral ∷ (bytes ∷ (lines ∷ (h ∷ (a ∷ (b ∷ (d .at ∷ (d .lines ∷ (d .records ∷ (1 ∷ [])))))))))))) ≡ nextNumbers c x
-  unfolding nextNumbers
-  next-record n m chiral bytes lines h a b d e = ap (nextNumbers c) (sym e)
-
-  pub next-end : x ≡ Next.End → 0 ∷ (0 ∷ (0 ∷ (0 ∷ (0 ∷ (0 ∷ (0 ∷ (0 ∷ (0 ∷ (c .at ∷ (c .lines ∷ (c .records ∷ (0 ∷ [])))))))))))) ≡ nextNumbers c x
-  unfolding nextNumbers
-  next-end e = ap (nextNumbers c) (sym e)
-
-  pub next-refused : (e i column : ℕ) → x ≡ Next.Refused e i column →
-      e ∷ (i ∷ (column ∷ (0 ∷ (0 ∷ (0 ∷ (0 ∷ (0 ∷ (0 ∷ (c .at ∷ (c .lines ∷ (c .records ∷ (0 ∷ [])))))))))))) ≡ nextNumbers c x
-  unfolding nextNumbers
-  next-refused e i column h = ap (nextNumbers c) (sym h)
-
-pub ruleset next-array = (next-record, next-end, next-refused)
 
 -- ---- It tells that answer, since no refusal has the number 0
 

@@ -5,8 +5,8 @@ use mathlib.Core.Path.{_≡_, refl, sym, ap, _∙_, subst}
 use mathlib.Core.List.{List, [], _∷_}
 use lib.IntN.{ℤ}
 use Rattle.text.specs.Text.{Bytes}
-use Rattle.reader_record.specs.declared.RecordRead.{RecordRead}
-use Rattle.reader_record.specs.Promise.{ReadPromise}
+use Rattle.reader_answer.specs.declared.RecordRead.{RecordRead}
+use Rattle.reader_answer.specs.Promise.{ReadPromise}
 use Rattle.piece_record.specs.declared.RecordSplit.{RecordSplit}
 use Rattle.piece_record.specs.Promise.{Lists, SplitPromise}
 use Rattle.piece_record.specs.Promised.{found}

@@ -1,10 +1,10 @@
--- The answer of the reading of a record: what the array holds, and what it tells in the words of the rules.
+-- The answer of the reading of a record: what the array tells in the words of the rules.
 use Prim.Native.Nat.{ℕ, zero, suc, _≤_, _<_}
 use native.Mathlib.Omega.{arith}
 use mathlib.Core.Path.{_≡_, refl, sym, ap, _∙_, subst}
 use mathlib.Core.Logic.{_↔_}
 use mathlib.Core.Bool.{Bool, true, false}
-use mathlib.Core.List.{List, [], _∷_}
+use mathlib.Core.List.{List}
 use lib.Dec.{ltb}
 use lib.ListN.{length}
 use lib.IntN.{ℤ}
@@ -13,20 +13,16 @@ use Rattle.text.specs.Text.{Bytes}
 use Rattle.rules.specs.Record.{Raw, atomPlaces, bondPlaces}
 use Rattle.judge_file.specs.Place.{FileKind, molfile, sdfile}
 use Rattle.judge_refusals.specs.NoRecord.{NoRecord}
-use Rattle.reader_record.specs.declared.RecordRead.{RecordRead}
-use Rattle.reader_record.specs.Promise.{Begins, Roomy, Reads, Refusal, kindNumber, numbersOf, accepted, ReadPromise}
-use Rattle.reader_record.specs.Promise as R
+use Rattle.reader_answer.specs.declared.RecordRead.{RecordRead}
+use Rattle.reader_answer.specs.Promise.{Begins, Roomy, Refusal, kindNumber, numbersOf, accepted, ReadPromise}
+use Rattle.reader_answer.specs.Promise as R
 use Rattle.reader_rows.specs.Says.{rowPlaces}
-use Rattle.reader_record.specs.declared.Counted.{Counted}
-use Rattle.reader_record.specs.Rowed.{After, after, rowedOf, RowedPromise}
-use Rattle.reader_record.specs.Told.{replyOf, begins-told}
+use Rattle.reader_answer.specs.declared.Counted.{Counted}
+use Rattle.reader_answer.specs.Rowed.{After, after, rowedOf, RowedPromise}
+use Rattle.reader_answer.specs.Told.{replyOf, begins-told}
+use Rattle.capellanote_numbers.specs.Numbers.{readNumbers}
 use Rattle.capellanote.specs.Answer.{number, byFirst, first-refused, zero-exactly}
 use Rattle.capellanote.specs.Check.{at-numbered}
-
--- 0, n, m, chiral, length, lines, end of the header lines, start and end of the items; last, also after a refusal, the rows asked
-unfoldable pub readNumbers : RecordRead → ℕ → List ℕ
-readNumbers (RecordRead.Read n m chiral length lines h a b) q = 0 ∷ (n ∷ (m ∷ (chiral ∷ (length ∷ (lines ∷ (h ∷ (a ∷ (b ∷ (q ∷ [])))))))))
-readNumbers (RecordRead.Refused e i column) q = e ∷ (i ∷ (column ∷ (0 ∷ (0 ∷ (0 ∷ (0 ∷ (0 ∷ (0 ∷ (q ∷ [])))))))))
 
 -- what an array tells
 abbrev pub recordTold : List ℕ → RecordRead
@@ -42,20 +38,6 @@ rowedTold a ta tb ws = record { read = readTold a; asked = number a 9; atoms = t
 -- by the rules a record begins the text, and tables and rows have room
 abbrev pub GoodRecord : ℕ → Bytes → List ℤ → List ℤ → List ℕ → Type 0
 GoodRecord kind s ta tb ws = (k : FileKind) × (kind ≡ kindNumber k) × Roomy ta tb × (rowPlaces ≤ length ws) × ((x : Raw) × Begins k s x)
-
--- ---- The array, of the answer
-
-module _ (x : RecordRead) (q : ℕ) where
-  pub read-accepted : (n m chiral length lines h a b : ℕ) → x ≡ RecordRead.Read n m chiral length lines h a b →
-      0 ∷ (n ∷ (m ∷ (chiral ∷ (length ∷ (lines ∷ (h ∷ (a ∷ (b ∷ (q ∷ []))))))))) ≡ readNumbers x q
-  unfolding readNumbers
-  read-accepted n m chiral length lines h a b e = ap (λ (y : RecordRead). readNumbers y q) (sym e)
-
-  pub read-refused : (e i column : ℕ) → x ≡ RecordRead.Refused e i column → e ∷ (i ∷ (column ∷ (0 ∷ (0 ∷ (0 ∷ (0 ∷ (0 ∷ (0 ∷ (q ∷ []))))))))) ≡ readNumbers x q
-  unfolding readNumbers
-  read-refused e i column h = ap (λ (y : RecordRead). readNumbers y q) (sym h)
-
-pub ruleset read-array = (read-accepted, read-refused)
 
 -- ---- Kind and room
 

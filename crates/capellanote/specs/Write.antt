@@ -1,9 +1,9 @@
--- The answer of the writing of a record: what the array holds, and what it tells in the words of the rules.
-use Prim.Native.Nat.{ℕ, zero, suc, _≤_}
+-- The answer of the writing of a record: what the array tells in the words of the rules.
+use Prim.Native.Nat.{ℕ, _≤_}
 use native.Mathlib.Omega.{arith}
 use mathlib.Core.Path.{_≡_, refl, sym, ap, _∙_, subst}
 use mathlib.Core.Logic.{_↔_}
-use mathlib.Core.List.{List, [], _∷_}
+use mathlib.Core.List.{List}
 use lib.ListN.{length}
 use Rattle.text.specs.Text.{Bytes, Line}
 use Rattle.rules.specs.Meaning.{Reading}
@@ -11,29 +11,12 @@ use Rattle.judge_parts.specs.AnyPart.{PartRefusal}
 use Rattle.writer_record.specs.declared.Written.{Written}
 use Rattle.writer_record.specs.Write.{Given, canonText, writeOf}
 use Rattle.writer_record.specs.Promise.{Accepted, Refusal, Promise}
+use Rattle.capellanote_numbers.specs.Numbers.{writtenNumbers}
 use Rattle.capellanote.specs.Answer.{number, byFirst, first-refused, zero-exactly}
-
--- 0, length, 0
-unfoldable pub writtenNumbers : Written → List ℕ
-writtenNumbers (Written.Done length) = 0 ∷ (length ∷ (0 ∷ []))
-writtenNumbers (Written.Refused e i column) = e ∷ (i ∷ (column ∷ []))
 
 -- what an array tells
 unfoldable pub writtenTold : List ℕ → Written
 writtenTold a = byFirst (number a 0) (Written.Done (number a 1)) (λ e. Written.Refused e (number a 1) (number a 2))
-
--- ---- The array, of the answer
-
-module _ (x : Written) where
-  pub written-done : (length : ℕ) → x ≡ Written.Done length → 0 ∷ (length ∷ (0 ∷ [])) ≡ writtenNumbers x
-  unfolding writtenNumbers
-  written-done length h = ap writtenNumbers (sym h)
-
-  pub written-refused : (e i column : ℕ) → x ≡ Written.Refused e i column → e ∷ (i ∷ (column ∷ [])) ≡ writtenNumbers x
-  unfolding writtenNumbers
-  written-refused e i column h = ap writtenNumbers (sym h)
-
-pub ruleset written-array = (written-done, written-refused)
 
 -- ---- It tells that answer, since no refusal has the number 0
 

@@ -1,7 +1,7 @@
 // A record's formula held against its atoms, for C.
 ghost use mathlib.Core.Path.{_≡_};
 ghost use lib.ListN.{length};
-ghost use Rattle.reader_record.specs.Read.{atomsAfter, bondsAfter};
+ghost use Rattle.reader_answer.specs.Read.{atomsAfter, bondsAfter};
 ghost use Rattle.formula_record.specs.Said.{answerOf, foundAfter};
 ghost use Rattle.formula_record.specs.Promise.{ComparePromise};
 ghost use Rattle.capellanote.specs.Formula.{comparedNumbers, comparedTold};

@@ -9,223 +9,31 @@ mod tally;
 
 ghost use mathlib.Core.Path.{_≡_};
 ghost use lib.ListN.{length};
-ghost use Rattle.reader_check.specs.Promised.{numbersOf};
 ghost use Rattle.reader_walk.specs.Checking.{checkOf};
 ghost use Rattle.reader_walk.specs.Promise.{CheckedAs};
-ghost use Rattle.reader_record.specs.Rowed.{rowedOf, RowedPromise};
+ghost use Rattle.reader_answer.specs.Rowed.{rowedOf, RowedPromise};
 ghost use Rattle.reader_item.specs.Find.{foundOf};
-ghost use Rattle.reader_item.specs.Find.{numbersOf as itemOf};
 ghost use Rattle.reader_item.specs.Promise.{Fetched};
 ghost use Rattle.reader_file.specs.Next.{nextOf, atomsNext, bondsNext};
 ghost use Rattle.reader_file.specs.Promise.{NextPromise};
 ghost use Rattle.reader_feed.specs.Fed.{fedOf};
 ghost use Rattle.writer_record.specs.Write.{writeOf, roomAfter};
 ghost use Rattle.writer_record.specs.Promise.{Promise as WritePromise};
-ghost use Rattle.writer_copy.specs.Copy.{copyOf};
-ghost use Rattle.writer_copy.specs.Promise.{Promise as CopyPromise};
-ghost use Rattle.writer_catalogue.specs.Catalogue.{catalogueOf};
-ghost use Rattle.writer_catalogue.specs.Promise.{Promise as CataloguePromise};
-ghost use Rattle.capellanote.specs.Check.{checkNumbers, checkTold};
-ghost use Rattle.capellanote.specs.Read.{readNumbers, rowedTold};
-ghost use Rattle.capellanote.specs.Find.{foundNumbers, foundTold};
-ghost use Rattle.capellanote.specs.Next.{nextNumbers, nextTold};
-ghost use Rattle.capellanote.specs.Feed.{truth, fedNumbers, FeedPromise};
-ghost use Rattle.capellanote.specs.Write.{writtenNumbers, writtenTold};
-ghost use Rattle.capellanote.specs.Copy.{copiedNumbers, copiedTold};
-ghost use Rattle.capellanote.specs.Catalogue.{catalogueNumbers, catalogueTold};
-use reader_check::Answer;
+ghost use Rattle.writer_answer.specs.Copy.{copyOf};
+ghost use Rattle.writer_answer.specs.CopyPromise.{Promise as CopyPromise};
+ghost use Rattle.writer_answer.specs.Catalogue.{catalogueOf};
+ghost use Rattle.writer_answer.specs.CataloguePromise.{Promise as CataloguePromise};
+ghost use Rattle.capellanote_numbers.specs.Numbers.{checkNumbers, readNumbers, foundNumbers, nextNumbers, truth, fedNumbers, writtenNumbers, copiedNumbers, catalogueNumbers};
+ghost use Rattle.capellanote.specs.Check.{checkTold};
+ghost use Rattle.capellanote.specs.Read.{rowedTold};
+ghost use Rattle.capellanote.specs.Find.{foundTold};
+ghost use Rattle.capellanote.specs.Next.{nextTold};
+ghost use Rattle.capellanote.specs.Feed.{FeedPromise};
+ghost use Rattle.capellanote.specs.Write.{writtenTold};
+ghost use Rattle.capellanote.specs.Copy.{copiedTold};
+ghost use Rattle.capellanote.specs.Catalogue.{catalogueTold};
 use reader_cursor::Cursor;
 use reader_feed::Counter;
-use reader_feed::Fed;
-use reader_file::Next;
-use reader_item::Found;
-use reader_record::Counted;
-use reader_record::RecordRead;
-use writer_catalogue::Catalogue;
-use writer_copy::Copied;
-use writer_record::Written;
-
-fn of_check(a: Answer) -> [u64; 3]
-    ensures { λ r. ⌜ r ≡ checkNumbers (numbersOf a) ⌝ }
-{
-    match a {
-        Answer::Accepted { records } => [0, records as u64, 0],
-        Answer::Refused { no, line, column } => [no as u64, line as u64, column as u64],
-    }
-}
-
-fn of_reading(r: Counted) -> [u64; 10]
-    ensures { λ a. ⌜ a ≡ readNumbers (r .read) (r .asked) ⌝ }
-{
-    let asked = r.asked as u64;
-    let read = r.read;
-    match read {
-        RecordRead::Read {
-            n,
-            m,
-            chiral,
-            length,
-            lines,
-            header_end,
-            items_start,
-            items_end,
-        } => [
-            0,
-            n as u64,
-            m as u64,
-            chiral as u64,
-            length as u64,
-            lines as u64,
-            header_end as u64,
-            items_start as u64,
-            items_end as u64,
-            asked,
-        ],
-        RecordRead::Refused { no, line, column } => [
-            no as u64,
-            line as u64,
-            column as u64,
-            0,
-            0,
-            0,
-            0,
-            0,
-            0,
-            asked,
-        ],
-    }
-}
-
-fn of_found(f: Found) -> [u64; 3]
-    ensures { λ r. ⌜ r ≡ foundNumbers (itemOf f) ⌝ }
-{
-    match f {
-        Found::Item { from, to } => [0, from as u64, to as u64],
-        Found::Refused { no, line, column } => [no as u64, line as u64, column as u64],
-    }
-}
-
-fn of_written(w: Written) -> [u64; 3]
-    ensures { λ r. ⌜ r ≡ writtenNumbers w ⌝ }
-{
-    match w {
-        Written::Done { length } => [0, length as u64, 0],
-        Written::Refused { no, line, column } => [no as u64, line as u64, column as u64],
-    }
-}
-
-fn of_catalogue(c: Catalogue) -> [u64; 3]
-    ensures { λ r. ⌜ r ≡ catalogueNumbers c ⌝ }
-{
-    match c {
-        Catalogue::Done { length, records } => [0, length as u64, records as u64],
-        Catalogue::Refused { no, line, column } => [no as u64, line as u64, column as u64],
-    }
-}
-
-fn of_copied(c: Copied) -> [u64; 4]
-    ensures { λ r. ⌜ r ≡ copiedNumbers c ⌝ }
-{
-    match c {
-        Copied::Done {
-            taken,
-            lines,
-            length,
-        } => [0, taken as u64, lines as u64, length as u64],
-        Copied::Refused { no, line, column } => [no as u64, line as u64, column as u64, 0],
-    }
-}
-
-// The cursor that was handed in stays where there is no record.
-fn of_next(x: Next, c: Cursor) -> [u64; 13]
-    ensures { λ r. ⌜ r ≡ nextNumbers c x ⌝ }
-{
-    match x {
-        Next::Record {
-            n,
-            m,
-            chiral,
-            length,
-            lines,
-            header_end,
-            items_start,
-            items_end,
-            cursor,
-        } => [
-            0,
-            n as u64,
-            m as u64,
-            chiral as u64,
-            length as u64,
-            lines as u64,
-            header_end as u64,
-            items_start as u64,
-            items_end as u64,
-            cursor.at as u64,
-            cursor.lines as u64,
-            cursor.records as u64,
-            1,
-        ],
-        Next::End => [
-            0,
-            0,
-            0,
-            0,
-            0,
-            0,
-            0,
-            0,
-            0,
-            c.at as u64,
-            c.lines as u64,
-            c.records as u64,
-            0,
-        ],
-        Next::Refused { no, line, column } => [
-            no as u64,
-            line as u64,
-            column as u64,
-            0,
-            0,
-            0,
-            0,
-            0,
-            0,
-            c.at as u64,
-            c.lines as u64,
-            c.records as u64,
-            0,
-        ],
-    }
-}
-
-// A byte of C as a truth value.
-fn truth_of(b: u8) -> bool
-    ensures { λ r. ⌜ r ≡ truth b ⌝ }
-{
-    if b == 0 {
-        return false;
-    }
-    true
-}
-
-// The second number tells more from accepted from too long.
-fn of_fed(f: Fed) -> [u64; 5]
-    ensures { λ r. ⌜ r ≡ fedNumbers f ⌝ }
-{
-    match f {
-        Fed::More { counter, used } => [
-            0,
-            0,
-            counter.records as u64,
-            counter.lines as u64,
-            used as u64,
-        ],
-        Fed::Accepted { records } => [0, 1, records as u64, 0, 0],
-        Fed::Refused { no, line, column } => [no as u64, line as u64, column as u64, 0, 0],
-        Fed::TooLong { record } => [0, 2, record as u64, 0, 0],
-    }
-}
 
 // A whole file: kind 0 is a molfile, kind 1 an SDfile.
 #[no_mangle]
@@ -233,7 +41,7 @@ pub extern "C" fn capellanote_check(kind: u8, s: &[u8], answer: &mut [u64; 3])
     ensures { λ _. ⌜ now (answer .exit) ≡ checkNumbers (checkOf kind (now (s .entry))) ⌝ }
     ensures { λ _. ⌜ CheckedAs kind (now (s .entry)) (checkTold (now (answer .exit))) ⌝ }
 {
-    *answer = of_check(reader_check::check(kind, s));
+    *answer = capellanote_numbers::of_check(reader_check::check(kind, s));
 }
 
 // One record from the front of a text, into the tables, its pairs into the rows.
@@ -250,7 +58,13 @@ pub extern "C" fn capellanote_read(
     ensures { λ _. ⌜ rowedTold (now (answer .exit)) (now (atoms .exit)) (now (bonds .exit)) (now (rows .exit)) ≡ rowedOf kind (now (s .entry)) (now (atoms .entry)) (now (bonds .entry)) (now (rows .entry)) ⌝ }
     ensures { λ _. ⌜ RowedPromise kind (now (s .entry)) (now (atoms .entry)) (now (bonds .entry)) (now (rows .entry)) (rowedTold (now (answer .exit)) (now (atoms .exit)) (now (bonds .exit)) (now (rows .exit))) ⌝ }
 {
-    *answer = of_reading(reader_record::read_record(kind, s, atoms, bonds, rows));
+    *answer = capellanote_numbers::of_reading(reader_record::read_record(
+        kind,
+        s,
+        atoms,
+        bonds,
+        rows,
+    ));
 }
 
 // The record of a file that a cursor stands before, into the tables.
@@ -270,7 +84,10 @@ pub extern "C" fn capellanote_next(
     ensures { λ _. ⌜ NextPromise (record { at = at; lines = lines; records = records }) (now (s .entry)) (now (atoms .entry)) (now (bonds .entry)) (nextTold (now (answer .exit))) (now (atoms .exit)) (now (bonds .exit)) ⌝ }
 {
     let cursor = Cursor { at, lines, records };
-    *answer = of_next(reader_file::next_record(cursor, s, atoms, bonds), cursor);
+    *answer = capellanote_numbers::of_next(
+        reader_file::next_record(cursor, s, atoms, bonds),
+        cursor,
+    );
 }
 
 // The values of a record's first item of a name.
@@ -279,7 +96,7 @@ pub extern "C" fn capellanote_find(s: &[u8], name: &[u8], answer: &mut [u64; 3])
     ensures { λ _. ⌜ now (answer .exit) ≡ foundNumbers (foundOf (now (s .entry)) (now (name .entry))) ⌝ }
     ensures { λ _. ⌜ Fetched (now (s .entry)) (now (name .entry)) (foundTold (now (answer .exit))) ⌝ }
 {
-    *answer = of_found(reader_item::find_item(s, name));
+    *answer = capellanote_numbers::of_found(reader_item::find_item(s, name));
 }
 
 // The records of an SDfile that comes in parts, counted; any byte but 0 says that nothing follows the part.
@@ -296,7 +113,11 @@ pub extern "C" fn capellanote_feed(
     ensures { λ _. ⌜ FeedPromise (record { records = records; lines = lines }) (now (part .entry)) (truth ended) room (now (answer .exit)) ⌝ }
 {
     let counter = Counter { records, lines };
-    *answer = of_fed(counter.take(part, truth_of(ended), room));
+    *answer = capellanote_numbers::of_fed(counter.take(
+        part,
+        capellanote_numbers::truth_of(ended),
+        room,
+    ));
 }
 
 // The canonical text of a record, at the front of the room.
@@ -315,7 +136,7 @@ pub extern "C" fn capellanote_write_record(
     ensures { λ _. ⌜ now (answer .exit) ≡ writtenNumbers (writeOf (record { atoms = now (atoms .entry); bonds = now (bonds .entry); n = n; m = m; chiral = chiral; headers = now (headers .entry); items = now (items .entry) }) (length (now (room .entry)))) ⌝ }
     ensures { λ _. ⌜ WritePromise (record { atoms = now (atoms .entry); bonds = now (bonds .entry); n = n; m = m; chiral = chiral; headers = now (headers .entry); items = now (items .entry) }) (now (room .entry)) (writtenTold (now (answer .exit))) (now (room .exit)) ⌝ }
 {
-    *answer = of_written(writer_record::write_record(
+    *answer = capellanote_numbers::of_written(writer_record::write_record(
         atoms,
         bonds,
         n,
@@ -340,7 +161,7 @@ pub extern "C" fn capellanote_copy(
     ensures { λ _. ⌜ now (answer .exit) ≡ copiedNumbers (copyOf kind (length (now (atoms .entry))) (length (now (bonds .entry))) (now (s .entry)) (length (now (room .entry)))) ⌝ }
     ensures { λ _. ⌜ CopyPromise kind (now (s .entry)) (now (atoms .entry)) (now (bonds .entry)) (now (room .entry)) (copiedTold (now (answer .exit))) (now (atoms .exit)) (now (bonds .exit)) (now (room .exit)) ⌝ }
 {
-    *answer = of_copied(writer_copy::copy_record(kind, s, atoms, bonds, room));
+    *answer = capellanote_numbers::of_copied(writer_copy::copy_record(kind, s, atoms, bonds, room));
 }
 
 // The canonical text of a whole SDfile, at the front of the room.
@@ -355,5 +176,10 @@ pub extern "C" fn capellanote_write_catalogue(
     ensures { λ _. ⌜ now (answer .exit) ≡ catalogueNumbers (catalogueOf (now (atoms .entry)) (now (bonds .entry)) (now (s .entry)) (length (now (room .entry)))) ⌝ }
     ensures { λ _. ⌜ CataloguePromise (now (s .entry)) (now (atoms .entry)) (now (bonds .entry)) (now (room .entry)) (catalogueTold (now (answer .exit))) (now (atoms .exit)) (now (bonds .exit)) (now (room .exit)) ⌝ }
 {
-    *answer = of_catalogue(writer_catalogue::write_catalogue(s, atoms, bonds, room));
+    *answer = capellanote_numbers::of_catalogue(writer_catalogue::write_catalogue(
+        s,
+        atoms,
+        bonds,
+        room,
+    ));
 }

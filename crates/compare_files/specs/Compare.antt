@@ -9,7 +9,7 @@ use Rattle.text.specs.Text.{Bytes}
 use Rattle.rules.specs.Record.{Raw, limit, atomPlaces, bondPlaces}
 use Rattle.judge_file.specs.Place.{sdfile}
 use Rattle.judge_file.specs.Verdict.{Verdict, verdict}
-use Rattle.reader_record.specs.Read.{rowsIn}
+use Rattle.reader_answer.specs.Read.{rowsIn}
 use Rattle.compare_rules.specs.Differences.{Difference}
 use Rattle.compare_rules.specs.Files.{filesApart}
 use Rattle.compare_rules.specs.Listed.{flat}

@@ -16,7 +16,7 @@ use Rattle.judge_file.specs.Verdict.{Verdict, verdict}
 use Rattle.reader_tables.specs.Filled.{cleared}
 use Rattle.reader_tables.specs.Cleared.{refused-filled}
 use Rattle.reader_walk.specs.Walked.{Beside}
-use Rattle.reader_record.specs.Read.{zeroed, rowsIn}
+use Rattle.reader_answer.specs.Read.{zeroed, rowsIn}
 use Rattle.compare_rules.specs.declared.Count.{Count}
 use Rattle.compare_rules.specs.Differences.{Difference, row}
 use Rattle.compare_rules.specs.Files.{filesApart}

@@ -13,10 +13,10 @@ use Rattle.judge_file.specs.Place.{sdfile}
 use Rattle.judge_file.specs.WalkText.{afterLines}
 use Rattle.reader_walk.specs.Outcome.{Outcome, whole, refused, outcomeOf}
 use Rattle.reader_walk.specs.Walked.{walkOf, Beside}
-use Rattle.reader_record.specs.declared.RecordRead.{RecordRead}
-use Rattle.reader_record.specs.Read.{answered, readAs, RowsLeft}
-use Rattle.reader_record.specs.Reading.{enough}
-use Rattle.reader_record.specs.Rows.{RowsPromise}
+use Rattle.reader_answer.specs.declared.RecordRead.{RecordRead}
+use Rattle.reader_answer.specs.Read.{answered, readAs, RowsLeft}
+use Rattle.reader_answer.specs.Reading.{enough}
+use Rattle.reader_answer.specs.Rows.{RowsPromise}
 use Rattle.writer_record.specs.Write.{Given, handed}
 use Rattle.writer_record.specs.Promise.{Accepted}
 use Rattle.writer_copy.specs.Bridge.{givenOf, Front, front, walked-refused}

@@ -19,7 +19,7 @@ use Rattle.judge_file.specs.Promise.{accepted-sd, refusal-bad}
 use Rattle.judge_file.specs.Promise as J
 use Rattle.reader_walk.specs.Promise as W
 use Rattle.reader_walk.specs.Promise.{RefusedAt, saidBy, verdict-checked, same-refusal}
-use Rattle.reader_record.specs.Promise.{Roomy}
+use Rattle.reader_answer.specs.Promise.{Roomy}
 use Rattle.compare_rules.specs.Differences.{Difference, exchanged}
 use Rattle.compare_rules.specs.Files.{filesApart, none-same-files, exchange-files}
 use Rattle.compare_rules.specs.Listed.{flat}

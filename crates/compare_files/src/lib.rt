@@ -13,7 +13,7 @@ ghost use lib.ListN.{length};
 ghost use Rattle.rules.specs.Record.{limit, atomPlaces, bondPlaces};
 ghost use Rattle.judge_file.specs.Place.{sdfile};
 ghost use Rattle.judge_file.specs.Verdict.{verdict};
-ghost use Rattle.reader_record.specs.Read.{zeroed};
+ghost use Rattle.reader_answer.specs.Read.{zeroed};
 ghost use Rattle.reader_walk.specs.Walked.{Beside};
 ghost use Rattle.compare_rules.specs.Log.{log, noted, seen};
 ghost use Rattle.compare_files.specs.Compare.{Work, roomy, filesFor, answerBy, listBy};

@@ -20,9 +20,9 @@ use Rattle.reader_item.specs.Find.{Spot, spotOf, saidBy, foundBy, foundOf}
 use Rattle.reader_item.specs.Promise.{NoneNamed, RefusedAt}
 use Rattle.reader_item.specs.Beyond.{FirstNamed}
 use Rattle.reader_item.specs.Agree.{refused-is}
-use Rattle.reader_record.specs.declared.RecordRead.{RecordRead}
-use Rattle.reader_record.specs.Promise.{Begins, Roomy, ReadPromise}
-use Rattle.reader_record.specs.Told.{begins-outcome, outcome-begins, outcome-refused}
+use Rattle.reader_answer.specs.declared.RecordRead.{RecordRead}
+use Rattle.reader_answer.specs.Promise.{Begins, Roomy, ReadPromise}
+use Rattle.reader_answer.specs.Told.{begins-outcome, outcome-begins, outcome-refused}
 use Rattle.reader_walk.specs.Stands.{moleculeLines}
 use Rattle.formula_rules.specs.Formula.{Trees}
 use Rattle.formula_rules.specs.Total.{countTrees}

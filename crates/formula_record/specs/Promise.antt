@@ -9,8 +9,8 @@ use Rattle.judge_file.specs.Place.{sdfile}
 use Rattle.judge_refusals.specs.NoRecord.{NoRecord}
 use Rattle.reader_item.specs.Promise.{NoneNamed}
 use Rattle.reader_item.specs.Beyond.{FirstNamed}
-use Rattle.reader_record.specs.declared.RecordRead.{RecordRead}
-use Rattle.reader_record.specs.Promise.{Begins, Roomy, ReadPromise}
+use Rattle.reader_answer.specs.declared.RecordRead.{RecordRead}
+use Rattle.reader_answer.specs.Promise.{Begins, Roomy, ReadPromise}
 use Rattle.formula_rules.specs.Formula.{elements, Trees}
 use Rattle.formula_rules.specs.Total.{countTrees}
 use Rattle.formula_rules.specs.Verdict.{counts, Judged, differences}

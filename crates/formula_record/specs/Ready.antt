@@ -14,9 +14,9 @@ use Rattle.rules.specs.Meaning.{meaning, atomsFrom}
 use Rattle.rules.specs.Rewritten.{record-good}
 use Rattle.reader_tables.specs.Row.{flat}
 use Rattle.judge_file.specs.Place.{sdfile}
-use Rattle.reader_record.specs.declared.RecordRead.{RecordRead}
-use Rattle.reader_record.specs.Read.{rowsIn}
-use Rattle.reader_record.specs.Promise.{Reply, accepted, refused, numbersOf, Begins, Told, Roomy, ReadPromise, kindNumber}
+use Rattle.reader_answer.specs.declared.RecordRead.{RecordRead}
+use Rattle.reader_answer.specs.Read.{rowsIn}
+use Rattle.reader_answer.specs.Promise.{Reply, accepted, refused, numbersOf, Begins, Told, Roomy, ReadPromise, kindNumber}
 use Rattle.formula_drawn.specs.Drawn.{plain, symbolAt, symbolsFrom}
 use Rattle.formula_record.specs.Said.{symbols, room}
 use Rattle.formula_record.specs.Agree.{has-room, with-room}

@@ -19,10 +19,10 @@ use Rattle.reader_item.specs.Find.{Spot, spotOf, saidBy, foundBy, foundOf}
 use Rattle.reader_item.specs.Promise.{NoneNamed, RefusedAt}
 use Rattle.reader_item.specs.Agree.{refused-is}
 use Rattle.reader_item.specs.Beyond.{FirstNamed}
-use Rattle.reader_record.specs.declared.RecordRead.{RecordRead}
-use Rattle.reader_record.specs.Promise.{Reply, accepted, numbersOf, Begins, Roomy, ReadPromise}
-use Rattle.reader_record.specs.Promise as P
-use Rattle.reader_record.specs.Told.{begins-outcome, begins-one}
+use Rattle.reader_answer.specs.declared.RecordRead.{RecordRead}
+use Rattle.reader_answer.specs.Promise.{Reply, accepted, numbersOf, Begins, Roomy, ReadPromise}
+use Rattle.reader_answer.specs.Promise as P
+use Rattle.reader_answer.specs.Told.{begins-outcome, begins-one}
 use Rattle.reader_first_line.specs.declared.FirstLine.{FirstLine}
 use Rattle.reader_first_line.specs.Promise.{FirstAt, FirstPromise}
 use Rattle.formula_rules.specs.Formula.{Element, elements, Trees, Formula}

@@ -4,7 +4,7 @@ ghost use mathlib.Core.Bool.{cond};
 ghost use Prim.Native.Nat.{_*_, _≤_};
 ghost use lib.Dec.{eqb};
 ghost use lib.ListN.{length};
-ghost use Rattle.reader_record.specs.Read.{atomsAfter, bondsAfter};
+ghost use Rattle.reader_answer.specs.Read.{atomsAfter, bondsAfter};
 ghost use Rattle.formula_rules.specs.Judged.{verdictOf};
 ghost use Rattle.formula_drawn.specs.Drawn.{symbolsFrom};
 ghost use Rattle.formula_record.specs.Said.{zeros, byVerdict, saidOf, toldOf, foundIn, answerOf, foundAfter};

@@ -12,8 +12,8 @@ use Rattle.rules.specs.Forms.{Bond}
 use Rattle.rules.specs.Record.{Raw, limit}
 use Rattle.piece_rules.specs.Pieces.{Split}
 use Rattle.judge_file.specs.Place.{FileKind}
-use Rattle.reader_record.specs.declared.RecordRead.{RecordRead}
-use Rattle.reader_record.specs.Promise.{Begins, Roomy, ReadPromise, kindNumber}
+use Rattle.reader_answer.specs.declared.RecordRead.{RecordRead}
+use Rattle.reader_answer.specs.Promise.{Begins, Roomy, ReadPromise, kindNumber}
 use Rattle.piece_record.specs.declared.RecordSplit.{RecordSplit}
 
 -- the three lists lent: each atom's lowest, the pieces' lowest atoms, their sizes

@@ -14,11 +14,11 @@ use Rattle.rules.specs.Record.{Raw, limit, Molfile, Record}
 use Rattle.rules.specs.Meaning.{meaning, bondNumbers}
 use Rattle.reader_tables.specs.Row.{flat}
 use Rattle.judge_file.specs.Place.{FileKind, molfile, sdfile}
-use Rattle.reader_record.specs.declared.RecordRead.{RecordRead}
-use Rattle.reader_record.specs.Read.{rowsIn}
-use Rattle.reader_record.specs.Promise.{Said, accepted, refused, Reply, numbersOf, Begins, Roomy, ReadPromise, kindNumber}
-use Rattle.reader_record.specs.Told.{begins-told, replyOf}
-use Rattle.reader_record.specs.Promised.{read-one}
+use Rattle.reader_answer.specs.declared.RecordRead.{RecordRead}
+use Rattle.reader_answer.specs.Read.{rowsIn}
+use Rattle.reader_answer.specs.Promise.{Said, accepted, refused, Reply, numbersOf, Begins, Roomy, ReadPromise, kindNumber}
+use Rattle.reader_answer.specs.Told.{begins-told, replyOf}
+use Rattle.reader_answer.specs.Promised.{read-one}
 use Rattle.piece_rules.specs.Inside.{Joined, joined}
 use Rattle.piece_rules.specs.One.{one-labels, one-count, one-heads, one-sizes}
 use Rattle.piece_labels.specs.Table.{BondTable, bondsIn}

@@ -11,7 +11,7 @@ use Rattle.line_counts_bonds.specs.declared.Counts.{Counts}
 use Rattle.judge_file.specs.Place.{molfile, sdfile}
 use Rattle.judge_file.specs.Verdict.{Verdict, verdict}
 use Rattle.judge_file.specs.Promise.{accepted-mol}
-use Rattle.reader_walk.specs.declared.Walked.{Walked}
+use Rattle.reader_end.specs.declared.Walked.{Walked}
 use Rattle.reader_walk.specs.Outcome.{ofVerdict, outcomeOf}
 use Rattle.reader_walk.specs.Walked.{walkedBy, walkOf}
 use Rattle.reader_walk.specs.Promise.{accepted, saidBy}

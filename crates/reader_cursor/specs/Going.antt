@@ -14,7 +14,7 @@ use Rattle.line_property.specs.Listed.{places}
 use Rattle.line_counts_bonds.specs.declared.Counts.{Counts}
 use Rattle.judge_file.specs.Place.{sdfile}
 use Rattle.judge_file.specs.WalkText.{afterLines}
-use Rattle.reader_walk.specs.declared.Walked.{Walked}
+use Rattle.reader_end.specs.declared.Walked.{Walked}
 use Rattle.reader_walk.specs.Outcome.{Outcome, whole, refused, outcomeOf}
 use Rattle.reader_walk.specs.Walked.{walkedBy, walkOf, Left}
 use Rattle.reader_cursor.specs.declared.Cursor.{Cursor}

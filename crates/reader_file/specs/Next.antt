@@ -8,8 +8,8 @@ use lib.IntN.{ℤ}
 use Rattle.text.specs.Text.{Bytes}
 use Rattle.reader_cursor.specs.declared.Cursor.{Cursor}
 use Rattle.reader_cursor.specs.Walk.{past}
-use Rattle.reader_record.specs.declared.RecordRead.{RecordRead}
-use Rattle.reader_record.specs.Read.{byRoom, readOf, atomsAfter, bondsAfter}
+use Rattle.reader_answer.specs.declared.RecordRead.{RecordRead}
+use Rattle.reader_answer.specs.Read.{byRoom, readOf, atomsAfter, bondsAfter}
 use Rattle.reader_file.specs.declared.Next.{Next}
 
 -- ---- Where a record may start

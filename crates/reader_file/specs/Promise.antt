@@ -13,11 +13,11 @@ use Rattle.rules.specs.Record.{limit, atomPlaces, bondPlaces}
 use Rattle.judge_file.specs.Place.{sdfile}
 use Rattle.reader_cursor.specs.declared.Cursor.{Cursor}
 use Rattle.reader_cursor.specs.Walk.{past}
-use Rattle.reader_record.specs.declared.RecordRead.{RecordRead}
-use Rattle.reader_record.specs.Read.{readOf, atomsAfter, bondsAfter}
-use Rattle.reader_record.specs.Promise as P
-use Rattle.reader_record.specs.Promise.{Reply, Roomy, Reads}
-use Rattle.reader_record.specs.Promised.{promise}
+use Rattle.reader_answer.specs.declared.RecordRead.{RecordRead}
+use Rattle.reader_answer.specs.Read.{readOf, atomsAfter, bondsAfter}
+use Rattle.reader_answer.specs.Promise as P
+use Rattle.reader_answer.specs.Promise.{Reply, Roomy, Reads}
+use Rattle.reader_answer.specs.Promised.{promise}
 use Rattle.reader_file.specs.declared.Next.{Next}
 use Rattle.reader_file.specs.Next.{Within, nextBy, nextAt, atomsAt, bondsAt, nextOn, atomsOn, bondsOn, nextOf, atomsNext, bondsNext}
 use Rattle.reader_file.specs.Stepping.{outside, read-there, atoms-there, bonds-there, end-next, end-atoms, end-bonds}

@@ -17,8 +17,8 @@ use Rattle.reader_walk.specs.Walked.{walkedBy, walkOf}
 use Rattle.reader_cursor.specs.declared.Cursor.{Cursor}
 use Rattle.reader_cursor.specs.Walk.{past, Countable}
 use Rattle.reader_cursor.specs.After.{tail-is, outcome-size, outcome-line}
-use Rattle.reader_record.specs.declared.RecordRead.{RecordRead}
-use Rattle.reader_record.specs.Read.{answered, readAs, readOf, atomsAfter, bondsAfter}
+use Rattle.reader_answer.specs.declared.RecordRead.{RecordRead}
+use Rattle.reader_answer.specs.Read.{answered, readAs, readOf, atomsAfter, bondsAfter}
 use Rattle.reader_file.specs.declared.Next.{Next}
 use Rattle.reader_file.specs.Next.{Within, within, nextBy, nextAt, atomsAt, bondsAt, nextOn, atomsOn, bondsOn, nextOf, atomsNext, bondsNext}
 

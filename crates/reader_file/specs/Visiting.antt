@@ -21,12 +21,12 @@ use Rattle.reader_walk.specs.Checking.{saidOf}
 use Rattle.reader_cursor.specs.declared.Cursor.{Cursor}
 use Rattle.reader_cursor.specs.Walk.{fresh, past}
 use Rattle.reader_cursor.specs.After.{After, after-start, after-good, after-verdict, after-all}
-use Rattle.reader_record.specs.declared.RecordRead.{RecordRead}
-use Rattle.reader_record.specs.Read.{rowsIn, answered, atomsBy, bondsBy, readOf, atomsAfter, bondsAfter}
-use Rattle.reader_record.specs.Reading as R
-use Rattle.reader_record.specs.Promise.{Begins}
-use Rattle.reader_record.specs.Told.{linesOf, replyOf, begins-told, begins-outcome, outcome-begins, begins-one, told-begins}
-use Rattle.reader_record.specs.Promised.{readBack, begins-said, same-read}
+use Rattle.reader_answer.specs.declared.RecordRead.{RecordRead}
+use Rattle.reader_answer.specs.Read.{rowsIn, answered, atomsBy, bondsBy, readOf, atomsAfter, bondsAfter}
+use Rattle.reader_answer.specs.Reading as R
+use Rattle.reader_answer.specs.Promise.{Begins}
+use Rattle.reader_answer.specs.Told.{linesOf, replyOf, begins-told, begins-outcome, outcome-begins, begins-one, told-begins}
+use Rattle.reader_answer.specs.Promised.{readBack, begins-said, same-read}
 use Rattle.reader_file.specs.declared.Next.{Next}
 use Rattle.reader_file.specs.Next.{Within, nextBy, nextAt, atomsAt, bondsAt, nextOf}
 use Rattle.reader_file.specs.Stepping.{not-left, end-next, read-there, atoms-there, bonds-there, enough, atoms-enough, bonds-enough}

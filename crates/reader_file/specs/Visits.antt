@@ -13,8 +13,8 @@ use Rattle.reader_walk.specs.Promise as W
 use Rattle.reader_walk.specs.Checking.{saidOf}
 use Rattle.reader_cursor.specs.declared.Cursor.{Cursor}
 use Rattle.reader_cursor.specs.Walk.{fresh, past}
-use Rattle.reader_record.specs.Read.{rowsIn}
-use Rattle.reader_record.specs.Promise.{Reply, Told}
+use Rattle.reader_answer.specs.Read.{rowsIn}
+use Rattle.reader_answer.specs.Promise.{Reply, Told}
 use Rattle.reader_file.specs.Next.{nextOf, atomsNext, bondsNext}
 use Rattle.reader_file.specs.Promise.{Said, found, end, refused, numbersOf}
 

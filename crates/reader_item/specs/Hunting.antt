@@ -23,7 +23,7 @@ use Rattle.reader_walk.specs.Stands.{moleculeLines}
 use Rattle.reader_walk.specs.Walked.{walkedBy, walkOf}
 use Rattle.reader_walk.specs.Walking.{after-more}
 use Rattle.reader_walk.specs.Checking.{left-length, left-length-2}
-use Rattle.reader_walk.specs.declared.Walked.{Walked}
+use Rattle.reader_end.specs.declared.Walked.{Walked}
 use Rattle.line_counts_bonds.specs.declared.Counts.{Counts}
 use Rattle.reader_item.specs.declared.Found.{Found}
 use Rattle.reader_item.specs.declared.Part.{Part}

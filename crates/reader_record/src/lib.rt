@@ -1,132 +1,24 @@
 // A record read into lent tables.
 ghost use mathlib.Core.Path.{_≡_};
-ghost use Prim.Native.Nat.{_*_, _≤_};
+ghost use Prim.Native.Nat.{_≤_};
 ghost use lib.ListN.{length};
-ghost use Rattle.rules.specs.Record.{limit, atomPlaces, bondPlaces};
+ghost use Rattle.rules.specs.Record.{atomPlaces, bondPlaces};
 ghost use Rattle.reader_rows.specs.Rowed.{Lent};
-ghost use Rattle.reader_rows.specs.Says.{rowPlaces};
 ghost use Rattle.reader_walk.specs.Asked.{rowsAsked};
 ghost use Rattle.reader_walk.specs.Stands.{kindOf};
 ghost use Rattle.reader_walk.specs.Walked.{walkOf, RowsMarked};
 ghost use Rattle.reader_walk.specs.Outcome.{outcomeOf};
-ghost use Rattle.reader_record.specs.Promise.{ReadPromise};
-ghost use Rattle.reader_record.specs.Read.{zeroed, answered, atomsBy, bondsBy, readAs, atomsAs, bondsAs, readOf, atomsAfter, bondsAfter, atomsRead, bondsRead, RowsLeft, Clearing};
-ghost use Rattle.reader_record.specs.Rows.{RowsPromise};
-ghost use Rattle.reader_record.specs.Rowed.{after, settled, rowedAs, rowedOf, RowedPromise};
+ghost use Rattle.reader_answer.specs.Promise.{ReadPromise};
+ghost use Rattle.reader_answer.specs.Read.{answered, atomsBy, bondsBy, readAs, atomsAs, bondsAs, readOf, atomsAfter, bondsAfter, RowsLeft};
+ghost use Rattle.reader_answer.specs.Rows.{RowsPromise};
+ghost use Rattle.reader_answer.specs.Rowed.{after, rowedAs, rowedOf, RowedPromise};
+pub use reader_answer::Counted;
+pub use reader_answer::RecordRead;
 use reader_rows::ROWS;
 use reader_walk::Walked;
 use rules::ATOMS;
 use rules::BONDS;
 use rules::LISTED;
-
-// What a reading answers; the rows stand in the tables.
-pub enum RecordRead {
-    Read {
-        n: u32,
-        m: u32,
-        chiral: u32,
-        length: usize,
-        lines: usize,
-        header_end: usize,
-        items_start: usize,
-        items_end: usize,
-    },
-    Refused {
-        no: u8,
-        line: usize,
-        column: usize,
-    },
-}
-
-// The same, and how many rows were asked: one for each bond line that came to the check for repeated pairs.
-pub struct Counted {
-    pub read: RecordRead,
-    pub asked: usize,
-}
-
-// A refusal before any line is looked at.
-fn unread(no: u8) -> Counted
-    ensures { λ r. ⌜ r .read ≡ RecordRead.Refused no 0 0 ⌝ }
-    ensures { λ r. ⌜ r .asked ≡ 0 ⌝ }
-{
-    Counted {
-        read: RecordRead::Refused {
-            no,
-            line: 0,
-            column: 0,
-        },
-        asked: 0,
-    }
-}
-
-// Zeros from place `from` to before place `to`.
-fn zero_rows(table: &mut [i32], from: usize, to: usize)
-    requires { ⌜ (from ≤ to) × (to ≤ length (now table)) ⌝ }
-    ensures { λ r. ⌜ now (table .exit) ≡ zeroed (now (table .entry)) from to ⌝ }
-{
-    reader_tables::clear(table, from, to);
-}
-
-// Zeros behind n rows of atoms and m rows of bonds, up to the limit.
-fn clear_rest(n: u32, m: u32, atoms: &mut [i32], bonds: &mut [i32])
-    requires { ⌜ (n ≤ limit) × (m ≤ limit) × (atomPlaces ≤ length (now atoms)) × (bondPlaces ≤ length (now bonds)) ⌝ }
-    ensures { λ r. ⌜ now (atoms .exit) ≡ zeroed (now (atoms .entry)) (16 * n) atomPlaces ⌝ }
-    ensures { λ r. ⌜ now (bonds .exit) ≡ zeroed (now (bonds .entry)) (6 * m) bondPlaces ⌝ }
-{
-    let n = n as usize;
-    let m = m as usize;
-    zero_rows(atoms, 16 * n, ATOMS);
-    zero_rows(bonds, 6 * m, BONDS);
-}
-
-// Zeros behind the rows that were read; after a refusal no row is left.
-fn clear_after(got: RecordRead, atoms: &mut [i32], bonds: &mut [i32])
-    requires { ⌜ Clearing got (now atoms) (now bonds) ⌝ }
-    ensures { λ r. ⌜ now (atoms .exit) ≡ zeroed (now (atoms .entry)) (16 * atomsRead got) atomPlaces ⌝ }
-    ensures { λ r. ⌜ now (bonds .exit) ≡ zeroed (now (bonds .entry)) (6 * bondsRead got) bondPlaces ⌝ }
-{
-    match got {
-        RecordRead::Read {
-            n,
-            m,
-            chiral: _,
-            length: _,
-            lines: _,
-            header_end: _,
-            items_start: _,
-            items_end: _,
-        } => clear_rest(n, m, atoms, bonds),
-        RecordRead::Refused {
-            no: _,
-            line: _,
-            column: _,
-        } => clear_rest(0, 0, atoms, bonds),
-    }
-}
-
-// Rows that say nothing after a refusal.
-fn clear_refused(got: RecordRead, rows: &mut [u64])
-    requires { ⌜ rowPlaces ≤ length (now rows) ⌝ }
-    ensures { λ r. ⌜ now (rows .exit) ≡ settled got (now (rows .entry)) ⌝ }
-{
-    match got {
-        RecordRead::Read {
-            n: _,
-            m: _,
-            chiral: _,
-            length: _,
-            lines: _,
-            header_end: _,
-            items_start: _,
-            items_end: _,
-        } => {}
-        RecordRead::Refused {
-            no: _,
-            line: _,
-            column: _,
-        } => reader_rows::clear(rows),
-    }
-}
 
 // The plain reading: one record from the front of a text, its rows at the front of tables that have room. What stands behind the rows is not cleared.
 fn read_front(sd: bool, s: &[u8], atoms: &mut [i32], bonds: &mut [i32], rows: &mut [u64]) -> Counted
@@ -140,34 +32,24 @@ fn read_front(sd: bool, s: &[u8], atoms: &mut [i32], bonds: &mut [i32], rows: &m
     let counted = reader_walk::walk_rows(sd, s, atoms, bonds, &mut listed, rows);
     let asked = counted.asked;
     let walked = counted.walked;
+    let got = reader_answer::told(walked, asked);
     match walked {
         Walked::Whole {
             counts,
-            length,
-            lines,
-            header_end,
-            items_start,
-            items_end,
+            length: _,
+            lines: _,
+            header_end: _,
+            items_start: _,
+            items_end: _,
         } => {
             reader_tables::mean(atoms, counts.atoms, &listed);
-            Counted {
-                read: RecordRead::Read {
-                    n: counts.atoms,
-                    m: counts.bonds,
-                    chiral: counts.chiral,
-                    length,
-                    lines,
-                    header_end,
-                    items_start,
-                    items_end,
-                },
-                asked,
-            }
+            got
         }
-        Walked::Refused { no, line, column } => Counted {
-            read: RecordRead::Refused { no, line, column },
-            asked,
-        },
+        Walked::Refused {
+            no: _,
+            line: _,
+            column: _,
+        } => got,
     }
 }
 
@@ -212,7 +94,7 @@ fn read_cleared(
 {
     let got = read_front(sd, s, atoms, bonds, rows);
     let read = got.read;
-    clear_after(read, atoms, bonds);
+    reader_clear::clear_after(read, atoms, bonds);
     got
 }
 
@@ -266,18 +148,18 @@ fn read_rowed(sd: bool, s: &[u8], atoms: &mut [i32], bonds: &mut [i32], rows: &m
     ensures { λ r. ⌜ after r (now (atoms .exit)) (now (bonds .exit)) (now (rows .exit)) ≡ rowedAs (kindOf sd) (now (s .entry)) (now (atoms .entry)) (now (bonds .entry)) (now (rows .entry)) ⌝ }
 {
     if atoms.len() < ATOMS {
-        return unread(2);
+        return reader_answer::unread(2);
     }
     if bonds.len() < BONDS {
-        return unread(2);
+        return reader_answer::unread(2);
     }
     if rows.len() < ROWS {
-        return unread(35);
+        return reader_answer::unread(35);
     }
     reader_rows::clear(rows);
     let got = read_cleared(sd, s, atoms, bonds, rows);
     let read = got.read;
-    clear_refused(read, rows);
+    reader_clear::clear_refused(read, rows);
     got
 }
 
@@ -298,5 +180,5 @@ pub fn read_record(
     if kind == 1 {
         return read_rowed(true, s, atoms, bonds, rows);
     }
-    unread(1)
+    reader_answer::unread(1)
 }

@@ -5,7 +5,7 @@ use mathlib.Core.Bool.{Bool, cond, _&&_}
 use lib.Dec.{eqb, ltb}
 use lib.ListN.{length}
 use Rattle.text.specs.Text.{Bytes, LF}
-use Rattle.reader_walk.specs.declared.Walked.{Walked}
+use Rattle.reader_end.specs.declared.Walked.{Walked}
 use Rattle.reader_walk.specs.Stands.{kindOf}
 use Rattle.reader_walk.specs.Walked.{walkOf}
 use Rattle.reader_feed.specs.declared.Counter.{Counter}

@@ -12,7 +12,7 @@ use lib.Seq.{drop-cons}
 use borrow.Author.Tests.{eq-eqb, ne-eqb, lt-ltb, le-ltb}
 use Rattle.text.specs.Text.{Bytes, LF}
 use Rattle.line_counts_bonds.specs.declared.Counts.{Counts}
-use Rattle.reader_walk.specs.declared.Walked.{Walked}
+use Rattle.reader_end.specs.declared.Walked.{Walked}
 use Rattle.reader_walk.specs.Stands.{kindOf}
 use Rattle.reader_walk.specs.Walked.{walkOf, Left}
 use Rattle.reader_walk.specs.Outcome.{Outcome}

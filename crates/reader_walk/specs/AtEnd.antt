@@ -3,8 +3,7 @@ use Prim.Native.Nat.{ℕ, suc, _-_}
 use native.Mathlib.Omega.{arith}
 use mathlib.Core.Path.{_≡_, refl, sym, ap, _∙_, subst}
 use mathlib.Core.List.{List, [], _∷_}
-use mathlib.Core.Bool.{Bool, true, false, cond}
-use lib.Dec.{eqb}
+use mathlib.Core.Bool.{Bool, true, false}
 use lib.ListN.{length, drop, length-drop}
 use lib.IntN.{ℤ}
 use borrow.Author.Tests.{ne-eqb}
@@ -25,22 +24,14 @@ use Rattle.reader_places.specs.declared.Place.{Place}
 use Rattle.reader_state.specs.Parts.{finished}
 use Rattle.reader_places.specs.Places.{finishedAt}
 use Rattle.reader_line.specs.declared.Notes.{Notes}
-use Rattle.reader_walk.specs.declared.Walked.{Walked}
+use Rattle.reader_end.specs.declared.Walked.{Walked}
+use Rattle.reader_end.specs.Ending.{lastOf, endWalked}
 use Rattle.reader_walk.specs.Outcome.{Outcome, outcomeOf, endAt, recordFrom}
 use Rattle.reader_walk.specs.Asked.{askedFrom, rowsAsked, end-bonds}
 use Rattle.reader_line.specs.Took.{countsBack}
 use Rattle.reader_walk.specs.Stands.{kindOf, placeOf, Rows, Counted, Marks, atomsIn, bondsIn, moleculeLines}
 use Rattle.reader_walk.specs.Walked.{walkedBy, walkOf, HeldBy, Left, RowsMarked}
 use Rattle.reader_walk.specs.Walking.{Walking, read-asked, rows-by}
-
--- before line i, at position `at`, with so many bytes left: after a molfile's `M  END`
-unfoldable pub lastOf : ℕ → Counts → Notes → ℕ → ℕ → Walked
-lastOf left c m at i = cond (eqb left 0) (Walked.Whole c at (i - 1) (m .«header_end») (m .«items_start») (m .«items_start»)) (Walked.Refused 19 i 1)
-
--- and anywhere, by what the state says of an end there
-abbrev pub endWalked : ℕ → Reader → Notes → ℕ → ℕ → Finish → Walked
-endWalked left r m at i Finish.MayEnd = lastOf left (r .counts) m at i
-endWalked left r m at i Finish.Owes = Walked.Refused 19 i 1
 
 -- at every place of an SDfile lines are owed
 sd-owes : (p : J.Place) → Sound sdfile limit p → finishedAt (placeOf p) ≡ Finish.Owes

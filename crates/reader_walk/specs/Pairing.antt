@@ -21,7 +21,7 @@ use Rattle.reader_tables.specs.Held.{drop-sets}
 use Rattle.reader_state.specs.declared.Reader.{Reader}
 use Rattle.reader_line.specs.declared.Notes.{Notes}
 use Rattle.reader_line.specs.declared.Taken.{Taken}
-use Rattle.reader_walk.specs.declared.Walked.{Walked}
+use Rattle.reader_end.specs.declared.Walked.{Walked}
 use Rattle.reader_pairs.specs.Keys.{pairKey, Searching, searching-next, searching-found, searching-end, searching-first}
 use Rattle.reader_rows.specs.Marked.{withKey, PairKey}
 use Rattle.reader_rows.specs.Rowed.{Rowed, Asking, Fitting, rowed-size, rowed-past, rowed-asks}

@@ -10,7 +10,7 @@ use Rattle.line_property.specs.Listed.{places}
 use Rattle.reader_tables.specs.Row.{rawRows, bondRows, Holds}
 use Rattle.judge_file.specs.Place.{FileKind, molfile, sdfile}
 use Rattle.judge_file.specs.WalkText.{afterLines}
-use Rattle.reader_walk.specs.declared.Walked.{Walked}
+use Rattle.reader_end.specs.declared.Walked.{Walked}
 use Rattle.reader_walk.specs.Outcome.{Outcome, whole, refused, outcomeOf}
 use Rattle.reader_rows.specs.Says.{rowPlaces}
 use Rattle.reader_rows.specs.Marked.{marked}

@@ -40,7 +40,7 @@ use Rattle.reader_places.specs.Places.{longestIn, bondsOwed}
 use Rattle.reader_places.specs.declared.Place.{Place}
 use Rattle.reader_line.specs.declared.Notes.{Notes}
 use Rattle.reader_line.specs.declared.Taken.{Taken}
-use Rattle.reader_walk.specs.declared.Walked.{Walked}
+use Rattle.reader_end.specs.declared.Walked.{Walked}
 use Rattle.reader_pairs.specs.Keys.{keyOf, keysOf, SmallEnds, AllSmall, taken-keys}
 use Rattle.reader_rows.specs.Says.{rowPlaces, Says}
 use Rattle.reader_rows.specs.Marked.{withKey, PairKey, marked, key-pair}

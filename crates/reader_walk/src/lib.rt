@@ -1,149 +1,23 @@
 // One record from the front of a text.
 ghost use mathlib.Core.Path.{_≡_};
-ghost use Prim.Native.Nat.{_*_, _≤_, _<_};
+ghost use Prim.Native.Nat.{_*_, _≤_};
 ghost use lib.ListN.{length};
 ghost use Rattle.rules.specs.Record.{limit, atomPlaces, bondPlaces};
 ghost use Rattle.line_property.specs.Listed.{places};
-ghost use Rattle.reader_state.specs.Parts.{finished};
 ghost use Rattle.reader_walk.specs.Outcome.{outcomeOf};
 ghost use Rattle.reader_rows.specs.Rowed.{Lent};
 ghost use Rattle.reader_walk.specs.Asked.{rowsAsked};
 ghost use Rattle.reader_walk.specs.Stands.{kindOf};
 ghost use Rattle.reader_walk.specs.Walked.{walkOf, Left, RowsMarked};
-ghost use Rattle.reader_walk.specs.AtEnd.{lastOf, endWalked};
-use line_counts_bonds::Counts;
+pub use reader_end::Counted;
+use reader_end::Repeat;
+pub use reader_end::Walked;
 use reader_line::Notes;
 use reader_line::Taken;
 use reader_pairs::KEYS;
-use reader_places::Finish;
 use reader_state::Reader;
 use rules::LISTED;
 use text::LineAt;
-
-// A bond that joins the same pair as an earlier one, and the line it stands in. Bonds count from 1.
-pub struct Repeat {
-    pub earlier: usize,
-    pub later: usize,
-    pub line: usize,
-}
-
-// One record: its counts, its bytes and lines, where its header lines end, and where its items begin and end.
-pub enum Walked {
-    Whole {
-        counts: Counts,
-        length: usize,
-        lines: usize,
-        header_end: usize,
-        items_start: usize,
-        items_end: usize,
-    },
-    Refused {
-        no: u8,
-        line: usize,
-        column: usize,
-    },
-}
-
-// The same, and how many bond lines came to the check for repeated pairs: a row is asked for each.
-pub struct Counted {
-    pub walked: Walked,
-    pub asked: usize,
-}
-
-// A line refused for another reason than its pair.
-fn stopped(notes: Notes, no: u8, line: usize, column: usize) -> Counted
-    ensures { λ r. ⌜ r .walked ≡ Walked.Refused no line column ⌝ }
-    ensures { λ r. ⌜ r .asked ≡ notes .bonds ⌝ }
-{
-    Counted {
-        walked: Walked::Refused { no, line, column },
-        asked: notes.bonds,
-    }
-}
-
-// A bond that repeats a pair came to the check too.
-fn repeated(repeat: Repeat) -> Counted
-    requires { ⌜ (1 ≤ repeat .earlier) × (repeat .earlier < repeat .later) ⌝ }
-    ensures { λ r. ⌜ r .walked ≡ Walked.Refused 11 (repeat .line) 1 ⌝ }
-    ensures { λ r. ⌜ r .asked ≡ repeat .later ⌝ }
-{
-    Counted {
-        walked: Walked::Refused {
-            no: 11,
-            line: repeat.line,
-            column: 1,
-        },
-        asked: repeat.later,
-    }
-}
-
-// A record whose `$$$$` line starts at `at`.
-fn closed(reader: Reader, notes: Notes, at: usize, line: usize, next: usize) -> Counted
-    ensures { λ r. ⌜ r .walked ≡ Walked.Whole (reader .counts) next line (notes .«header_end») (notes .«items_start») at ⌝ }
-    ensures { λ r. ⌜ r .asked ≡ notes .bonds ⌝ }
-{
-    let counts = reader.counts;
-    Counted {
-        walked: Walked::Whole {
-            counts,
-            length: next,
-            lines: line,
-            header_end: notes.header_end,
-            items_start: notes.items_start,
-            items_end: at,
-        },
-        asked: notes.bonds,
-    }
-}
-
-// After a molfile's `M  END`, with so many bytes left.
-fn at_end(left: usize, counts: Counts, notes: Notes, at: usize, line: usize) -> Walked
-    requires { ⌜ 1 ≤ line ⌝ }
-    ensures { λ r. ⌜ r ≡ lastOf left counts notes at line ⌝ }
-{
-    if left == 0 {
-        return Walked::Whole {
-            counts,
-            length: at,
-            lines: line - 1,
-            header_end: notes.header_end,
-            items_start: notes.items_start,
-            items_end: notes.items_start,
-        };
-    }
-    Walked::Refused {
-        no: 19,
-        line,
-        column: 1,
-    }
-}
-
-// The end of the lines, with so many bytes left. Whether a record may end there the state says.
-fn end_walk(left: usize, reader: Reader, notes: Notes, at: usize, line: usize) -> Walked
-    requires { ⌜ 1 ≤ line ⌝ }
-    ensures { λ r. ⌜ r ≡ endWalked left reader notes at line (finished reader) ⌝ }
-{
-    let counts = reader.counts;
-    match reader.finish() {
-        Finish::MayEnd => at_end(left, counts, notes, at, line),
-        Finish::Owes => Walked::Refused {
-            no: 19,
-            line,
-            column: 1,
-        },
-    }
-}
-
-// The same, with the bond lines before it.
-fn ended(left: usize, reader: Reader, notes: Notes, at: usize, line: usize) -> Counted
-    requires { ⌜ 1 ≤ line ⌝ }
-    ensures { λ r. ⌜ r .walked ≡ endWalked left reader notes at line (finished reader) ⌝ }
-    ensures { λ r. ⌜ r .asked ≡ notes .bonds ⌝ }
-{
-    let asked = notes.bonds;
-    let walked = end_walk(left, reader, notes, at, line);
-    Counted { walked, asked }
-}
 
 // The lines of one record. The walk over them is left by its label where a bond joins a pair that an earlier bond joins:
 // the list is searched for it, but for pairs that lent rows do not say.
@@ -169,7 +43,7 @@ fn walk_lines(
     let mut line: usize = 1;
     let repeat = 'walk: loop {
         let LineAt::Line { end, next } = text::line_at(s, at) else {
-            return ended(s.len() - at, reader, notes, at, line);
+            return reader_end::ended(s.len() - at, reader, notes, at, line);
         };
         match reader_line::take_line(reader, notes, &s[at..end], next, atoms, listed) {
             Taken::Next(r, m) => {
@@ -199,14 +73,14 @@ fn walk_lines(
                 line += 1;
             }
             Taken::Done => {
-                return closed(reader, notes, at, line, next);
+                return reader_end::closed(reader, notes, at, line, next);
             }
             Taken::Refused { no, column } => {
-                return stopped(notes, no, line, column);
+                return reader_end::stopped(notes, no, line, column);
             }
         }
     };
-    repeated(repeat)
+    reader_end::repeated(repeat)
 }
 
 // One record from the front of a text: for an SDfile up to its `$$$$` line, whatever follows; for a molfile the whole text.

@@ -9,8 +9,8 @@ use Rattle.rules.specs.Meaning.{Reading, meaning}
 use Rattle.judge_file.specs.Place.{sdfile}
 use Rattle.reader_walk.specs.Promise.{accepted}
 use Rattle.reader_walk.specs.Checking.{saidOf}
-use Rattle.writer_catalogue.specs.Catalogue.{catalogueText}
-use Rattle.writer_catalogue.specs.Promise.{text-stands}
+use Rattle.writer_answer.specs.Catalogue.{catalogueText}
+use Rattle.writer_answer.specs.CataloguePromise.{text-stands}
 use Rattle.reader_cursor.specs.declared.Cursor.{Cursor}
 use Rattle.reader_cursor.specs.Walk.{fresh}
 use Rattle.reader_file.specs.Promise.{end}

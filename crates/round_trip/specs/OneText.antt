@@ -14,10 +14,10 @@ use Rattle.rules.specs.Record.{Raw, GoodSDfile}
 use Rattle.rules.specs.Meaning.{Reading, meaning}
 use Rattle.rules.specs.Canon.{canonFile}
 use Rattle.rules.specs.Unique.{one-sdfile}
-use Rattle.reader_record.specs.Promise.{Roomy}
-use Rattle.writer_catalogue.specs.declared.Catalogue.{Catalogue}
-use Rattle.writer_catalogue.specs.Catalogue.{catalogueText}
-use Rattle.writer_catalogue.specs.Promise.{Promise, numbersOf, written, text-stands, text-only, text-again}
+use Rattle.reader_answer.specs.Promise.{Roomy}
+use Rattle.writer_answer.specs.declared.Catalogue.{Catalogue}
+use Rattle.writer_answer.specs.Catalogue.{catalogueText}
+use Rattle.writer_answer.specs.CataloguePromise.{Promise, numbersOf, written, text-stands, text-only, text-again}
 
 -- what a file's records mean, one after the other
 abbrev pub readingOf : List Raw → List Reading

@@ -11,11 +11,11 @@ use Rattle.rules.specs.Record.{Raw, SDfile, GoodSDfile, limit, atomPlaces, bond
 use Rattle.rules.specs.Meaning.{Reading, meaning}
 use Rattle.reader_tables.specs.Row.{flat}
 use Rattle.judge_file.specs.Place.{sdfile}
-use Rattle.reader_record.specs.Read.{rowsIn, readOf, atomsAfter, bondsAfter}
-use Rattle.reader_record.specs.Promise.{Reply, numbersOf, Begins, Told, Roomy, Reads}
-use Rattle.reader_record.specs.Promised.{readBack, promise, same-read}
-use Rattle.reader_record.specs.Told.{replyOf, told-reply, begins-told}
-use Rattle.reader_record.specs.Follows.{Alike, after-record}
+use Rattle.reader_answer.specs.Read.{rowsIn, readOf, atomsAfter, bondsAfter}
+use Rattle.reader_answer.specs.Promise.{Reply, numbersOf, Begins, Told, Roomy, Reads}
+use Rattle.reader_answer.specs.Promised.{readBack, promise, same-read}
+use Rattle.reader_answer.specs.Told.{replyOf, told-reply, begins-told}
+use Rattle.reader_answer.specs.Follows.{Alike, after-record}
 use Rattle.writer_record.specs.Write.{Given, canonText}
 use Rattle.writer_record.specs.Promise.{Accepted, text-stands}
 use Rattle.reader_cursor.specs.declared.Cursor.{Cursor}

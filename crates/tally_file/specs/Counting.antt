@@ -14,7 +14,7 @@ use Rattle.line_counts_bonds.specs.declared.Counts.{Counts}
 use Rattle.judge_file.specs.Place.{sdfile}
 use Rattle.judge_file.specs.Verdict.{Verdict, verdict}
 use Rattle.judge_file.specs.WalkText.{afterLines}
-use Rattle.reader_walk.specs.declared.Walked.{Walked}
+use Rattle.reader_end.specs.declared.Walked.{Walked}
 use Rattle.reader_walk.specs.Outcome as O
 use Rattle.reader_walk.specs.Outcome.{outcomeOf}
 use Rattle.reader_walk.specs.Walked.{walkedBy, walkOf}

@@ -17,8 +17,8 @@ use Rattle.reader_walk.specs.Stands.{moleculeLines}
 use Rattle.reader_item.specs.Find.{Spot, spotOf, saidBy, foundBy, foundOf, lineEnd}
 use Rattle.reader_item.specs.Promise.{NoneNamed}
 use Rattle.reader_item.specs.Beyond.{FirstNamed}
-use Rattle.reader_record.specs.Promise.{Begins}
-use Rattle.reader_record.specs.Told.{begins-outcome}
+use Rattle.reader_answer.specs.Promise.{Begins}
+use Rattle.reader_answer.specs.Told.{begins-outcome}
 use Rattle.reader_first_line.specs.declared.FirstLine.{FirstLine}
 use Rattle.reader_first_line.specs.First.{lineFrom, firstBy, firstOf}
 use Rattle.reader_first_line.specs.Promise.{FirstAt, FirstPromise}

@@ -24,11 +24,11 @@ use Rattle.reader_cursor.specs.Walk.{fresh, past, Countable}
 use Rattle.reader_cursor.specs.After.{After, after-start, after-good, after-next, after-less, after-fits, good-more, good-whole, tail-is}
 use Rattle.writer_lines.specs.Laid.{Laid, laid-none, laid-join}
 use Rattle.judge_parts.specs.Part.{PartVerdict, good}
-use Rattle.reader_record.specs.Read.{zeroed, rowsIn}
+use Rattle.reader_answer.specs.Read.{zeroed, rowsIn}
 use Rattle.writer_record.specs.Write.{canonText, demand}
-use Rattle.writer_catalogue.specs.declared.Catalogue.{Catalogue}
+use Rattle.writer_answer.specs.declared.Catalogue.{Catalogue}
 use Rattle.writer_catalogue.specs.declared.Wrote.{Wrote}
-use Rattle.writer_catalogue.specs.Catalogue.{catalogueText, ofFile, fitting, fileFor, answerBy, roomBy}
+use Rattle.writer_answer.specs.Catalogue.{catalogueText, ofFile, fitting, fileFor, answerBy, roomBy}
 use Rattle.writer_catalogue.specs.Sizes.{text-none, text-join, text-last}
 use Rattle.writer_catalogue.specs.Measuring.{beside-same, beside-join}
 use Rattle.writer_catalogue.specs.Writing.{Next, WroteNext}

@@ -1,7 +1,3 @@
--- What the contracts cite
-pub mod Catalogue
-pub mod Promise
--- Laws for the proofs
 pub mod Reading
 pub mod Sizes
 pub mod Measuring

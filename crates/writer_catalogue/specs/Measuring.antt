@@ -21,9 +21,9 @@ use Rattle.reader_cursor.specs.Walk.{fresh, past, Countable}
 use Rattle.reader_cursor.specs.After.{After, after-start, after-good, after-next, after-less, after-fits, after-line, after-verdict, tail-is}
 use Rattle.judge_parts.specs.Part.{good}
 use Rattle.writer_record.specs.Write.{canonText, demand}
-use Rattle.writer_catalogue.specs.declared.Catalogue.{Catalogue}
+use Rattle.writer_answer.specs.declared.Catalogue.{Catalogue}
 use Rattle.writer_catalogue.specs.declared.Measured.{Measured}
-use Rattle.writer_catalogue.specs.Catalogue.{catalogueText, ofFile, fitting, fileFor, answerBy, upTo}
+use Rattle.writer_answer.specs.Catalogue.{catalogueText, ofFile, fitting, fileFor, answerBy, upTo}
 use Rattle.writer_catalogue.specs.Sizes.{up-in, up-over, up-more, text-none, text-last, measuredBy}
 
 -- ---- The end of a good file

@@ -9,10 +9,10 @@ use Rattle.rules.specs.Record.{atomPlaces, bondPlaces}
 use Rattle.judge_file.specs.Place.{sdfile}
 use Rattle.reader_walk.specs.Outcome.{refused, outcomeOf}
 use Rattle.reader_walk.specs.Walked.{walkOf, Beside}
-use Rattle.reader_record.specs.declared.RecordRead.{RecordRead}
-use Rattle.reader_record.specs.Read.{answered, readAs, RowsLeft}
-use Rattle.reader_record.specs.Reading.{enough}
-use Rattle.reader_record.specs.Rows.{RowsPromise}
+use Rattle.reader_answer.specs.declared.RecordRead.{RecordRead}
+use Rattle.reader_answer.specs.Read.{answered, readAs, RowsLeft}
+use Rattle.reader_answer.specs.Reading.{enough}
+use Rattle.reader_answer.specs.Rows.{RowsPromise}
 use Rattle.writer_copy.specs.Bridge as B
 use Rattle.writer_copy.specs.Bridge.{Front, walked-refused}
 

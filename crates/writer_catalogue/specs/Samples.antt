@@ -29,10 +29,10 @@ use Rattle.judge_line.specs.Judge.{spaced, arrowed, headerOf, itemOf, valueOf}
 use Rattle.judge_file.specs.Place.{toBonds, toAtoms, lineOf, turnOf}
 use Rattle.judge_file.specs.Verdict.{run, verdict}
 use Rattle.judge_file.specs.Samples.{lines, drum}
-use Rattle.reader_record.specs.Read.{rowsIn}
+use Rattle.reader_answer.specs.Read.{rowsIn}
 use Rattle.writer_record.specs.Write.{roomy}
-use Rattle.writer_catalogue.specs.declared.Catalogue.{Catalogue}
-use Rattle.writer_catalogue.specs.Catalogue.{catalogueText, fileFor, catalogueFor, catalogueOf, roomAfter, atomsAfter, bondsAfter}
+use Rattle.writer_answer.specs.declared.Catalogue.{Catalogue}
+use Rattle.writer_answer.specs.Catalogue.{catalogueText, fileFor, catalogueFor, catalogueOf, roomAfter, atomsAfter, bondsAfter}
 
 pub record Sample : Type 0 where
   pub file : Bytes

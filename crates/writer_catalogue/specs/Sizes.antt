@@ -19,16 +19,16 @@ use Rattle.rules.specs.Canon.{canonLines, canonFile}
 use Rattle.judge_file.specs.Place.{sdfile}
 use Rattle.judge_file.specs.WalkText.{afterLines}
 use Rattle.reader_walk.specs.Outcome.{Outcome, whole, refused, outcomeOf}
-use Rattle.reader_record.specs.declared.RecordRead.{RecordRead}
-use Rattle.reader_record.specs.Read.{readAs}
-use Rattle.reader_record.specs.Rows.{RowsPromise}
+use Rattle.reader_answer.specs.declared.RecordRead.{RecordRead}
+use Rattle.reader_answer.specs.Read.{readAs}
+use Rattle.reader_answer.specs.Rows.{RowsPromise}
 use Rattle.writer_record.specs.declared.Written.{Written}
 use Rattle.writer_record.specs.Write.{Given, canonText}
 use Rattle.writer_record.specs.Measure.{sized, partsSize, GoodParts, text-length}
 use Rattle.writer_copy.specs.Bridge.{givenOf, Front}
 use Rattle.writer_copy.specs.NeverRefused.{headers-are, items-are, front-parts}
 use Rattle.writer_catalogue.specs.declared.Measured.{Measured}
-use Rattle.writer_catalogue.specs.Catalogue.{catalogueText, upTo}
+use Rattle.writer_answer.specs.Catalogue.{catalogueText, upTo}
 use Rattle.writer_catalogue.specs.Reading.{front, read-refused}
 
 -- ---- Lengths as far as the room goes

@@ -17,9 +17,9 @@ use Rattle.judge_file.specs.WalkText.{afterLines}
 use Rattle.reader_walk.specs.Outcome.{Outcome, whole, refused, outcomeOf}
 use Rattle.reader_walk.specs.Walked.{Beside}
 use Rattle.writer_lines.specs.Laid.{Laid}
-use Rattle.reader_record.specs.declared.RecordRead.{RecordRead}
-use Rattle.reader_record.specs.Read.{readAs}
-use Rattle.reader_record.specs.Rows.{RowsPromise}
+use Rattle.reader_answer.specs.declared.RecordRead.{RecordRead}
+use Rattle.reader_answer.specs.Read.{readAs}
+use Rattle.reader_answer.specs.Rows.{RowsPromise}
 use Rattle.writer_record.specs.declared.Written.{Written}
 use Rattle.writer_record.specs.Write.{Given, canonText}
 use Rattle.writer_record.specs.Measure.{recordText, Ready}

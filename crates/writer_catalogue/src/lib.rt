@@ -3,6 +3,7 @@ use reader_cursor::Cursor;
 use reader_record::RecordRead;
 use rules::ATOMS;
 use rules::BONDS;
+pub use writer_answer::Catalogue;
 use writer_record::Written;
 ghost use mathlib.Core.Path.{_≡_};
 ghost use mathlib.Core.List.{[]};
@@ -13,20 +14,14 @@ ghost use Rattle.writer_lines.specs.Laid.{Laid};
 ghost use Rattle.reader_walk.specs.Outcome.{outcomeOf};
 ghost use Rattle.reader_walk.specs.Walked.{Beside};
 ghost use Rattle.judge_file.specs.Place.{sdfile};
-ghost use Rattle.reader_record.specs.Read.{zeroed, rowsIn};
-ghost use Rattle.writer_catalogue.specs.Catalogue.{fileFor, answerBy, roomBy, upTo};
+ghost use Rattle.reader_answer.specs.Read.{zeroed, rowsIn};
+ghost use Rattle.writer_answer.specs.Catalogue.{fileFor, answerBy, roomBy, upTo};
 ghost use Rattle.writer_record.specs.Measure.{partsSize};
 ghost use Rattle.writer_catalogue.specs.Sizes.{Measurable, measuredBy};
 ghost use Rattle.writer_catalogue.specs.Measuring.{concludeBy};
 ghost use Rattle.writer_catalogue.specs.Writing.{Handed, Put, Known, ReadAgain, Next, WroteNext};
 ghost use Rattle.writer_catalogue.specs.Filling.{FileFits, textIn};
-ghost use Rattle.writer_catalogue.specs.Promise.{Promise};
-
-// What is answered: the length of the text and the number of its records, or the first refusal.
-pub enum Catalogue {
-    Done { length: usize, records: usize },
-    Refused { no: u8, line: usize, column: usize },
-}
+ghost use Rattle.writer_answer.specs.CataloguePromise.{Promise};
 
 // A record at the front of a text: its bytes and lines, and how long the text of all records up to it is. What is longer than the room counts as one more
 // than the room.

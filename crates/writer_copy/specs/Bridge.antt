@@ -7,27 +7,24 @@ use lib.ListN.{length, take, drop, take-append-drop}
 use lib.Seq.{take-at, drop-at}
 use lib.IntN.{ℤ}
 use Rattle.text.specs.Text.{Bytes, Line}
-use Rattle.rules.specs.Record.{Raw, Molecule, Parts1to5, Record, limit}
+use Rattle.rules.specs.Record.{Raw, Molecule, Parts1to5, limit}
 use Rattle.rules.specs.Meaning.{meaning}
-use Rattle.rules.specs.Canon.{Rows, Good, HeaderPart}
-use Rattle.rules.specs.Handed.{closed-items}
-use Rattle.rules.specs.Rewritten.{record-good}
+use Rattle.rules.specs.Canon.{Rows, HeaderPart}
 use Rattle.rules.specs.Rows.{rowsOf}
 use Rattle.reader_tables.specs.Row.{flat, Holds}
 use Rattle.judge_file.specs.Place.{FileKind}
-use Rattle.judge_file.specs.Front.{parts-front}
-use Rattle.judge_file.specs.Witness.{record-end}
 use Rattle.judge_file.specs.WalkText.{afterLines}
 use Rattle.reader_walk.specs.Outcome as O
 use Rattle.reader_walk.specs.Outcome.{Outcome, whole, outcomeOf}
 use Rattle.reader_walk.specs.Walked.{walkedBy, walkOf}
-use Rattle.reader_record.specs.declared.RecordRead.{RecordRead}
-use Rattle.reader_record.specs.Read.{answered, atomRows, bondRowsOf, RowsLeft}
-use Rattle.reader_record.specs.Promise.{Reply, numbersOf, Begins, Told}
-use Rattle.reader_record.specs.Promised.{reads}
-use Rattle.reader_record.specs.Told.{linesOf, told-reply, begins-told, begins-outcome}
+use Rattle.reader_answer.specs.declared.RecordRead.{RecordRead}
+use Rattle.reader_answer.specs.Read.{answered, atomRows, bondRowsOf, RowsLeft}
+use Rattle.reader_answer.specs.Promise.{Reply, numbersOf, Begins, Told}
+use Rattle.reader_answer.specs.Promised.{reads}
+use Rattle.reader_answer.specs.Told.{linesOf, told-reply, begins-outcome}
 use Rattle.writer_record.specs.Write.{Given}
 use Rattle.writer_record.specs.Promise.{Accepted}
+use Rattle.writer_answer.specs.CopyPromise.{told-good}
 
 -- ---- The tables
 
@@ -55,13 +52,6 @@ rows-held width n P rows t r e h =
 header-part : {ls rest : List Line} {m : Molecule} → Parts1to5 limit ls m rest →
     HeaderPart (m .headers .first ∷ m .headers .second ∷ m .headers .third ∷ []) (m .headers)
 header-part (Parts1to5.parts f g h l a b w q o) = HeaderPart.three f g h
-
-module _ {f : FileKind} {s : Bytes} {x : Raw} {w : Reply} (d : Told f s x w) where
-  told-good : Good limit (meaning x)
-  told-good = record-good (Record.record-of {r = []} (parts-front (d .molecule .2) .any (d .items .0 ++ (_ ∷ []))) (closed-items (d .items .2) record-end))
-
-pub begins-good : (f : FileKind) (s : Bytes) (x : Raw) → Begins f s x → Good limit (meaning x)
-begins-good f s x b = told-good (begins-told f s x b)
 
 -- ---- A reading that was refused
 

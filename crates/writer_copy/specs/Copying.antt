@@ -16,11 +16,11 @@ use Rattle.reader_walk.specs.Outcome.{Outcome, whole, refused, outcomeOf}
 use Rattle.reader_walk.specs.Walked.{walkedBy, walkOf}
 use Rattle.writer_lines.specs.Laid.{Laid}
 use Rattle.judge_parts.specs.Part.{good}
-use Rattle.reader_record.specs.declared.RecordRead.{RecordRead}
-use Rattle.reader_record.specs.Read.{answered, readAs, readOf, atomsAfter, bondsAfter, RowsLeft}
-use Rattle.reader_record.specs.Promise.{Roomy, kindNumber}
-use Rattle.reader_record.specs.Rows.{RowsPromise}
-use Rattle.reader_record.specs.Promised.{after-left}
+use Rattle.reader_answer.specs.declared.RecordRead.{RecordRead}
+use Rattle.reader_answer.specs.Read.{answered, readAs, readOf, atomsAfter, bondsAfter, RowsLeft}
+use Rattle.reader_answer.specs.Promise.{Roomy, kindNumber}
+use Rattle.reader_answer.specs.Rows.{RowsPromise}
+use Rattle.reader_answer.specs.Promised.{after-left}
 use Rattle.writer_tables.specs.Tables.{writableTables}
 use Rattle.writer_record.specs.declared.Written.{Written}
 use Rattle.writer_record.specs.Write as W
@@ -28,9 +28,9 @@ use Rattle.writer_record.specs.Write.{Given, canonText, demand, textFor, writeO
 use Rattle.writer_record.specs.Measure.{sized, partsSize, GoodParts, never-refused, tables-agree, judged-parts, recordText, Ready, ready-by}
 use Rattle.writer_record.specs.Promise as WP
 use Rattle.writer_record.specs.Promise.{Accepted, record-agrees, promise-done, promise-refused, accepted-ready, accepted-laid}
-use Rattle.writer_copy.specs.declared.Copied.{Copied}
-use Rattle.writer_copy.specs.Copy.{textOf, fitting, answerBy, roomBy, copyOf, roomAfter}
-use Rattle.writer_copy.specs.Promise.{Promise, Seen, seen, promise}
+use Rattle.writer_answer.specs.declared.Copied.{Copied}
+use Rattle.writer_answer.specs.Copy.{textOf, fitting, answerBy, roomBy, copyOf, roomAfter}
+use Rattle.writer_answer.specs.CopyPromise.{Promise, Seen, seen, promise}
 use Rattle.writer_copy.specs.Most.{copy-most, surely, surely-enough}
 use Rattle.writer_copy.specs.Bridge.{walked-refused, givenOf, Front, front}
 use Rattle.writer_copy.specs.NeverRefused.{good-parts}

@@ -1,26 +1,13 @@
 // A record read into lent tables and written in its canonical form. What was read can be written, so it is laid, and not judged again.
 use reader_record::RecordRead;
 use rules::LIMIT;
+pub use writer_answer::Copied;
 use writer_record::Written;
 ghost use mathlib.Core.Path.{_≡_};
 ghost use Rattle.reader_walk.specs.Stands.{kindOf};
 ghost use Rattle.writer_copy.specs.Most.{surely};
 ghost use Rattle.writer_copy.specs.Copying.{Sound, PutRead, Readable, PutGot, RowsCopied};
-ghost use Rattle.writer_copy.specs.Promise.{Promise};
-
-// What is answered: the bytes and lines that the record takes and the length of its text, or the first refusal.
-pub enum Copied {
-    Done {
-        taken: usize,
-        lines: usize,
-        length: usize,
-    },
-    Refused {
-        no: u8,
-        line: usize,
-        column: usize,
-    },
-}
+ghost use Rattle.writer_answer.specs.CopyPromise.{Promise};
 
 // The most bytes that the entries of one kind take: eight to a line.
 const ENTRIES: usize = 10 * ((LIMIT + 7) / 8) + 8 * LIMIT;

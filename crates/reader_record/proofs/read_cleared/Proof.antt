@@ -1,5 +1,5 @@
 -- `reader_record::read_cleared` meets its contract.
-use Rattle.reader_record.specs.Rows.{cleared-laws}
+use Rattle.reader_answer.specs.Rows.{cleared-laws}
 use borrow.Author.Needs.{needs}
 use Rattle.reader_record.proofs.read_cleared.Statement.{statement}
 use Rattle.reader_record.proofs.read_cleared.Tie as tie

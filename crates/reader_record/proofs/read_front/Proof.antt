@@ -1,5 +1,5 @@
 -- `reader_record::read_front` meets its contract.
-use Rattle.reader_record.specs.Rows.{walked-laws}
+use Rattle.reader_answer.specs.Rows.{walked-laws}
 use borrow.Author.Needs.{needs}
 use Rattle.reader_record.proofs.read_front.Statement.{statement}
 use Rattle.reader_record.proofs.read_front.Tie as tie
@@ -7,14 +7,17 @@ use Rattle.reader_record.proofs.read_front.Tie as tie
 walk-rows-requires : tie.Need-walk-rows-requires
 walk-rows-requires c κs = search needs
 
+told-requires : tie.Need-told-requires
+told-requires c κs = search needs
+
 enum-known-walked : tie.Need-enum-known-walked
 enum-known-walked c = search needs
 
 mean-requires : tie.Need-mean-requires
 mean-requires c κs = search (needs, walked-laws)
 
-enum-known-walked-2 : tie.Need-enum-known-walked-2
-enum-known-walked-2 c = search needs
+enum-told : tie.Need-enum-told
+enum-told c = search needs
 
 same-length : tie.Need-same-length
 same-length c = search needs
@@ -45,9 +48,10 @@ read-front-spec =
     tie.close
     (tie.spec
     walk-rows-requires
+    told-requires
     enum-known-walked
     mean-requires
-    enum-known-walked-2
+    enum-told
     same-length
     same-length-2
     same-length-3

@@ -1,5 +1,5 @@
 -- `reader_record::read_record` meets its contract.
-use Rattle.reader_record.specs.RowedHolds.{rowed-kind-laws}
+use Rattle.reader_answer.specs.RowedHolds.{rowed-kind-laws}
 use borrow.Author.Needs.{needs}
 use Rattle.reader_record.proofs.read_record.Statement.{statement}
 use Rattle.reader_record.proofs.read_record.Tie as tie

@@ -1,5 +1,5 @@
 -- `reader_record::read_rowed` meets its contract.
-use Rattle.reader_record.specs.RowedHolds.{rowed-room-laws, lent-cleared}
+use Rattle.reader_answer.specs.RowedHolds.{rowed-room-laws, lent-cleared}
 use borrow.Author.Needs.{needs}
 use Rattle.reader_record.proofs.read_rowed.Statement.{statement}
 use Rattle.reader_record.proofs.read_rowed.Tie as tie

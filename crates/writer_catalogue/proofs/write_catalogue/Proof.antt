@@ -1,6 +1,6 @@
 -- `writer_catalogue::write_catalogue` meets its contract.
 use borrow.Author.Needs.{needs}
-use Rattle.writer_catalogue.specs.Promise.{promise-laws}
+use Rattle.writer_answer.specs.CataloguePromise.{promise-laws}
 use Rattle.writer_catalogue.proofs.write_catalogue.Statement.{statement}
 use Rattle.writer_catalogue.proofs.write_catalogue.Tie as tie
 

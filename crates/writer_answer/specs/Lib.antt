@@ -1,0 +1,4 @@
+pub mod Copy
+pub mod CopyPromise
+pub mod Catalogue
+pub mod CataloguePromise
