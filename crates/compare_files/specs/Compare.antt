@@ -8,33 +8,29 @@ use lib.IntN.{ℤ}
 use Rattle.text.specs.Text.{Bytes}
 use Rattle.rules.specs.Record.{Raw, limit, atomPlaces, bondPlaces}
 use Rattle.judge_file.specs.Place.{sdfile}
-use Rattle.judge_file.specs.Verdict.{Verdict, verdict}
+use Rattle.judge_file.specs.Verdict.{Verdict, accepted, refused, verdict}
 use Rattle.reader_answer.specs.Read.{rowsIn}
 use Rattle.compare_rules.specs.Differences.{Difference}
 use Rattle.compare_rules.specs.Files.{filesApart}
 use Rattle.compare_rules.specs.Listed.{flat}
 use Rattle.compare_files.specs.declared.Compared.{Compared}
 
-pub data Result : Type 0 where
-  listed : List Difference → Result
-  refused : ℕ → ℕ → ℕ → Result  -- number, line, column
-
 -- ---- One test after the other
 
 -- seven numbers a difference, in a list of k numbers
-abbrev pub within : ℕ → List Difference → Result
-within k ds = cond (leb (7 * length ds) k) (listed ds) (refused 39 0 0)
+abbrev pub within : ℕ → List Difference → Verdict (List Difference)
+within k ds = cond (leb (7 * length ds) k) (accepted ds) (refused 39 0 0)
 
 -- the first file has the records xs
-abbrev pub second : ℕ → List Raw → Verdict → Result
-second k xs (Verdict.accepted ys) = within k (filesApart xs ys)
-second k xs (Verdict.refused e line column) = refused 37 line column
+abbrev pub second : ℕ → List Raw → Verdict (List Raw) → Verdict (List Difference)
+second k xs (accepted ys) = within k (filesApart xs ys)
+second k xs (refused e line column) = refused 37 line column
 
-abbrev pub first : ℕ → Verdict → Verdict → Result
-first k (Verdict.accepted xs) v = second k xs v
-first k (Verdict.refused e line column) v = refused 36 line column
+abbrev pub first : ℕ → Verdict (List Raw) → Verdict (List Raw) → Verdict (List Difference)
+first k (accepted xs) v = second k xs v
+first k (refused e line column) v = refused 36 line column
 
-unfoldable pub filesFor : Bytes → Bytes → ℕ → Result
+unfoldable pub filesFor : Bytes → Bytes → ℕ → Verdict (List Difference)
 filesFor a b k = first k (verdict sdfile limit a) (verdict sdfile limit b)
 
 -- the four work tables: atoms and bonds of either file
@@ -50,18 +46,18 @@ roomy w =
     && (leb atomPlaces (length (w .new-atoms)) && leb bondPlaces (length (w .new-bonds))))
 
 -- before all else the work tables
-unfoldable pub comparedFor : Work → Bytes → Bytes → ℕ → Result
+unfoldable pub comparedFor : Work → Bytes → Bytes → ℕ → Verdict (List Difference)
 comparedFor w a b k = cond (roomy w) (filesFor a b k) (refused 2 0 0)
 
 -- ---- The answer, the list, the work tables
 
-abbrev pub answerBy : Result → Compared
-answerBy (listed ds) = Compared.Done (length ds)
+abbrev pub answerBy : Verdict (List Difference) → Compared
+answerBy (accepted ds) = Compared.Done (length ds)
 answerBy (refused e line column) = Compared.Refused e line column
 
 -- the differences at the front and all else as it was; after a refusal, all as it was
-abbrev pub listBy : List ℤ → Result → List ℤ
-listBy l (listed ds) = flat ds ++ drop (7 * length ds) l
+abbrev pub listBy : List ℤ → Verdict (List Difference) → List ℤ
+listBy l (accepted ds) = flat ds ++ drop (7 * length ds) l
 listBy l (refused e line column) = l
 
 -- no row is left, and memory beyond the limit is as it was

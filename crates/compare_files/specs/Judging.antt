@@ -1,7 +1,6 @@
 -- Both files judged one after the other; work tables without room: laws for the code.
 use Prim.Native.Nat.{ℕ, _≤_, _<_}
-use native.Mathlib.Omega.{arith}
-use mathlib.Core.Path.{_≡_, refl, sym, ap, _∙_, subst}
+use mathlib.Core.Path.{_≡_, refl, sym, ap, _∙_}
 use mathlib.Core.List.{List}
 use mathlib.Core.Bool.{Bool, true, false, cond}
 use lib.Dec.{ltb}
@@ -10,38 +9,37 @@ use borrow.Author.Tests.{lt-ltb, le-ltb, ltb-true, ltb-false}
 use Rattle.text.specs.Text.{Bytes}
 use Rattle.rules.specs.Record.{Raw, limit, atomPlaces, bondPlaces}
 use Rattle.judge_file.specs.Place.{sdfile}
-use Rattle.judge_file.specs.Verdict.{Verdict, verdict}
-use Rattle.reader_walk.specs.Promise.{Said, saidBy}
+use Rattle.judge_file.specs.Verdict.{Verdict, accepted, refused, verdict}
+use Rattle.judge_file.specs.SameVerdict.{accepted-refused, same-accepted, same-reason}
+use Rattle.reader_walk.specs.Promise.{saidBy}
 use Rattle.reader_check.specs.declared.Answer.{Answer}
 use Rattle.reader_check.specs.Promised.{numbersOf, Promised}
 use Rattle.compare_files.specs.declared.Judged.{Judged}
 
 -- the second, where the first has n records
-abbrev pub secondBy : ℕ → Verdict → Judged
-secondBy n (Verdict.accepted ys) = Judged.Good n (length ys)
-secondBy n (Verdict.refused e line column) = Judged.Bad 37 line column
+abbrev pub secondBy : ℕ → Verdict (List Raw) → Judged
+secondBy n (accepted ys) = Judged.Good n (length ys)
+secondBy n (refused e line column) = Judged.Bad 37 line column
 
-abbrev pub judgedBy : Verdict → Verdict → Judged
-judgedBy (Verdict.accepted xs) v = secondBy (length xs) v
-judgedBy (Verdict.refused e line column) v = Judged.Bad 36 line column
+abbrev pub judgedBy : Verdict (List Raw) → Verdict (List Raw) → Judged
+judgedBy (accepted xs) v = secondBy (length xs) v
+judgedBy (refused e line column) v = Judged.Bad 36 line column
 
 -- what the check's answer says of the judge's verdict
 module _ (s : Bytes) (r : Answer) (p : Promised 1 s r) where
-  pub accepted-is : (n : ℕ) → r ≡ Answer.Accepted n → (xs : List Raw) × (verdict sdfile limit s ≡ Verdict.accepted xs) × (n ≡ length xs)
+  pub accepted-is : (n : ℕ) → r ≡ Answer.Accepted n → (xs : List Raw) × (verdict sdfile limit s ≡ accepted xs) × (n ≡ length xs)
   accepted-is n q = go (verdict sdfile limit s) refl (sym (ap numbersOf q) ∙ p .judged)
     where
-      go : (v : Verdict) → verdict sdfile limit s ≡ v → Said.accepted n ≡ saidBy v → (xs : List Raw) × (verdict sdfile limit s ≡ Verdict.accepted xs) × (n ≡ length xs)
-      go (Verdict.accepted xs) e h = (xs, e, cc)
-      go (Verdict.refused k i c) e h = absurd (let z : _≡_ {A = ℕ} 0 1 = cc in omega arith)
+      go : (v : Verdict (List Raw)) → verdict sdfile limit s ≡ v → accepted n ≡ saidBy v → (xs : List Raw) × (verdict sdfile limit s ≡ accepted xs) × (n ≡ length xs)
+      go (accepted xs) e h = (xs, e, same-accepted h)
+      go (refused k i c) e h = accepted-refused h
 
-  pub refused-is : (e i c : ℕ) → r ≡ Answer.Refused e i c → verdict sdfile limit s ≡ Verdict.refused e i c
+  pub refused-is : (e i c : ℕ) → r ≡ Answer.Refused e i c → verdict sdfile limit s ≡ refused e i c
   refused-is e i c q = go (verdict sdfile limit s) refl (sym (ap numbersOf q) ∙ p .judged)
     where
-      go : (v : Verdict) → verdict sdfile limit s ≡ v → Said.refused e i c ≡ saidBy v → verdict sdfile limit s ≡ Verdict.refused e i c
-      go (Verdict.accepted xs) o h = absurd (let z : _≡_ {A = ℕ} 0 1 = cc in omega arith)
-      go (Verdict.refused k j d) o h =
-          let z : Verdict.refused k j d ≡ Verdict.refused e i c = cc in
-          o ∙ z
+      go : (v : Verdict (List Raw)) → verdict sdfile limit s ≡ v → refused e i c ≡ saidBy v → verdict sdfile limit s ≡ refused e i c
+      go (accepted xs) o h = accepted-refused (sym h)
+      go (refused k j d) o h = same-reason (λ (n l b : ℕ). verdict sdfile limit s ≡ refused n l b) (sym h) o
 
   pub second-good : (k n : ℕ) → r ≡ Answer.Accepted n → Judged.Good k n ≡ secondBy k (verdict sdfile limit s)
   second-good k n q = let a = accepted-is n q in ap (Judged.Good k) (a .2) ∙ sym (ap (secondBy k) (a .1))
@@ -49,11 +47,11 @@ module _ (s : Bytes) (r : Answer) (p : Promised 1 s r) where
   pub second-bad : (k e i c : ℕ) → r ≡ Answer.Refused e i c → Judged.Bad 37 i c ≡ secondBy k (verdict sdfile limit s)
   second-bad k e i c q = sym (ap (secondBy k) (refused-is e i c q))
 
-  pub first-good : (n : ℕ) (v : Verdict) (j : Judged) → r ≡ Answer.Accepted n → j ≡ secondBy n v → j ≡ judgedBy (verdict sdfile limit s) v
-  first-good n v j q h = let a = accepted-is n q in h ∙ ap (λ (k : ℕ). secondBy k v) (a .2) ∙ sym (ap (λ (w : Verdict). judgedBy w v) (a .1))
+  pub first-good : (n : ℕ) (v : Verdict (List Raw)) (j : Judged) → r ≡ Answer.Accepted n → j ≡ secondBy n v → j ≡ judgedBy (verdict sdfile limit s) v
+  first-good n v j q h = let a = accepted-is n q in h ∙ ap (λ (k : ℕ). secondBy k v) (a .2) ∙ sym (ap (λ (w : Verdict (List Raw)). judgedBy w v) (a .1))
 
-  pub first-bad : (e i c : ℕ) (v : Verdict) → r ≡ Answer.Refused e i c → Judged.Bad 36 i c ≡ judgedBy (verdict sdfile limit s) v
-  first-bad e i c v q = sym (ap (λ (w : Verdict). judgedBy w v) (refused-is e i c q))
+  pub first-bad : (e i c : ℕ) (v : Verdict (List Raw)) → r ≡ Answer.Refused e i c → Judged.Bad 36 i c ≡ judgedBy (verdict sdfile limit s) v
+  first-bad e i c v q = sym (ap (λ (w : Verdict (List Raw)). judgedBy w v) (refused-is e i c q))
 
 pub ruleset judge-laws = (second-good, second-bad, first-good, first-bad)
 

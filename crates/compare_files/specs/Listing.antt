@@ -12,7 +12,7 @@ use borrow.Author.Tests.{leb-true, leb-false, le-leb, lt-leb, le-ltb, ltb-true, 
 use Rattle.text.specs.Text.{Bytes}
 use Rattle.rules.specs.Record.{Raw, limit, atomPlaces, bondPlaces}
 use Rattle.judge_file.specs.Place.{sdfile}
-use Rattle.judge_file.specs.Verdict.{Verdict, verdict}
+use Rattle.judge_file.specs.Verdict.{Verdict, accepted, refused, verdict}
 use Rattle.reader_tables.specs.Filled.{cleared}
 use Rattle.reader_tables.specs.Cleared.{refused-filled}
 use Rattle.reader_walk.specs.Walked.{Beside}
@@ -24,7 +24,7 @@ use Rattle.compare_rules.specs.Log.{Log, log, seen, noted}
 use Rattle.compare_rules.specs.Listed.{flat, stored-exact, room-told}
 use Rattle.compare_files.specs.declared.Compared.{Compared}
 use Rattle.compare_files.specs.declared.Judged.{Judged}
-use Rattle.compare_files.specs.Compare.{listed, refused, within, first, filesFor, Work, answerBy, listBy, emptied}
+use Rattle.compare_files.specs.Compare.{within, first, filesFor, Work, answerBy, listBy, emptied}
 use Rattle.compare_files.specs.Judging.{secondBy, judgedBy, shortBy}
 use Rattle.compare_files.specs.Walking.{GoodFiles, Apart, work, beside-join}
 use Rattle.compare_files.specs.Promise.{Rooms, Promise, promise-short, promise-long}
@@ -69,7 +69,7 @@ module _ (a : Bytes) (n : ℕ) (b : Bytes) (m : ℕ) (w : Work) (g : GoodFiles a
     short : filesFor a b (length l) ≡ refused 39 0 0
     short =
         let h : length l < 7 * length ds = not-less (λ e. less (room-told none l ds (omega (arith, small)) .1 e)) in
-        file-is ∙ ap (λ (t : Bool). cond t (listed ds) (refused 39 0 0)) (lt-leb (7 * length ds) (length l) h)
+        file-is ∙ ap (λ (t : Bool). cond t (accepted ds) (refused 39 0 0)) (lt-leb (7 * length ds) (length l) h)
       where
         less : 7 * noted (log none (seen 0)) ds .count .seen ≤ length l → ⊥
         less e = omega (arith, count-is)
@@ -91,8 +91,8 @@ module _ (a : Bytes) (n : ℕ) (b : Bytes) (m : ℕ) (w : Work) (g : GoodFiles a
     fits : 7 * length ds ≤ length l
     fits = room-told none l ds (omega (arith, small)) .0 (omega (arith, count-is))
 
-    long : filesFor a b (length l) ≡ listed ds
-    long = file-is ∙ ap (λ (t : Bool). cond t (listed ds) (refused 39 0 0)) (le-leb (7 * length ds) (length l) fits)
+    long : filesFor a b (length l) ≡ accepted ds
+    long = file-is ∙ ap (λ (t : Bool). cond t (accepted ds) (refused 39 0 0)) (le-leb (7 * length ds) (length l) fits)
 
     all : log l′ r′ ≡ log (sets l 0 (flat ds)) (seen (length ds))
     all =
@@ -117,25 +117,25 @@ module _ (a b : Bytes) (j : Judged) (ej : j ≡ judgedBy (verdict sdfile limit a
       j ≡ Judged.Good n m → GoodFiles a n b m (work ta tb ua ub)
   judged-good ta tb ua ub n m oa ob na nb q = go (verdict sdfile limit a) refl (verdict sdfile limit b) refl (sym ej ∙ q)
     where
-      go : (u : Verdict) → verdict sdfile limit a ≡ u → (v : Verdict) → verdict sdfile limit b ≡ v → judgedBy u v ≡ Judged.Good n m → GoodFiles a n b m (work ta tb ua ub)
-      go (Verdict.accepted xs) e (Verdict.accepted ys) f z =
+      go : (u : Verdict (List Raw)) → verdict sdfile limit a ≡ u → (v : Verdict (List Raw)) → verdict sdfile limit b ≡ v → judgedBy u v ≡ Judged.Good n m → GoodFiles a n b m (work ta tb ua ub)
+      go (accepted xs) e (accepted ys) f z =
           record { xs = xs; ys = ys; left = e; right = f; n-is = cc; m-is = cc; old-atoms = oa; old-bonds = ob; new-atoms = na; new-bonds = nb }
-      go (Verdict.accepted xs) e (Verdict.refused k i c) f z = absurd (let z : _≡_ {A = ℕ} 0 1 = cc in omega arith)
-      go (Verdict.refused k i c) e v f z = absurd (let z : _≡_ {A = ℕ} 0 1 = cc in omega arith)
+      go (accepted xs) e (refused k i c) f z = absurd (let z : _≡_ {A = ℕ} 0 1 = cc in omega arith)
+      go (refused k i c) e v f z = absurd (let z : _≡_ {A = ℕ} 0 1 = cc in omega arith)
 
   module _ (e i c : ℕ) (q : j ≡ Judged.Bad e i c) (l : List ℤ) where
     stopped : filesFor a b (length l) ≡ refused e i c
     unfolding filesFor
     stopped = go (verdict sdfile limit a) (verdict sdfile limit b) (sym ej ∙ q)
       where
-        go : (u v : Verdict) → judgedBy u v ≡ Judged.Bad e i c → first (length l) u v ≡ refused e i c
-        go (Verdict.accepted xs) (Verdict.accepted ys) z = absurd (let z : _≡_ {A = ℕ} 0 1 = cc in omega arith)
-        go (Verdict.accepted xs) (Verdict.refused n k d) z =
+        go : (u v : Verdict (List Raw)) → judgedBy u v ≡ Judged.Bad e i c → first (length l) u v ≡ refused e i c
+        go (accepted xs) (accepted ys) z = absurd (let z : _≡_ {A = ℕ} 0 1 = cc in omega arith)
+        go (accepted xs) (refused n k d) z =
             let o : 37 ≡ e = cc in
             let s : k ≡ i = cc in
             let t : d ≡ c = cc in
             rw (o, s, t)
-        go (Verdict.refused n k d) v z =
+        go (refused n k d) v z =
             let o : 36 ≡ e = cc in
             let s : k ≡ i = cc in
             let t : d ≡ c = cc in

@@ -404,7 +404,7 @@ module _ (a : Bytes) (n : ℕ) (b : Bytes) (m k : ℕ) (w₀ : Work) (g₀ : Log
     pub walking-end : (g₁ g₂ : Log) → g₁ ≡ noted (log l e) (aloneRecords 1 k (n - k)) → g₂ ≡ noted g₁ (aloneRecords 2 k (m - k)) → Apart a b g₀ g₂
     walking-end g₁ g₂ p q = record { same = λ xs ys ex ey. all ∙ ap₂ (λ (u v : List Raw). noted g₀ (filesApart u v)) (one-list (g .files .left) ex) (one-list (g .files .right) ey) }
       where
-        one-list : {v : Verdict} {xs ys : List Raw} → v ≡ Verdict.accepted xs → v ≡ Verdict.accepted ys → xs ≡ ys
+        one-list : {v : Verdict (List Raw)} {xs ys : List Raw} → v ≡ Verdict.accepted xs → v ≡ Verdict.accepted ys → xs ≡ ys
         one-list {v} {xs} {ys} i j = let z : Verdict.accepted xs ≡ Verdict.accepted ys = sym i ∙ j in cc
 
         here : c .records ≡ k

@@ -19,7 +19,7 @@ use Rattle.judge_file.specs.Runs.{End}
 abbrev pub Whole : FileKind → Place → Bytes → Type 0
 Whole kind p rest = (zs : List Raw) × End kind p zs × (rest ≡ [])
 
-pub data Ending : FileKind → Place → List Raw → Bytes → ℕ → Verdict → Type 0 where
+pub data Ending : FileKind → Place → List Raw → Bytes → ℕ → Verdict (List Raw) → Type 0 where
   good-sd : {xs : List Raw} {i : ℕ} → Ending sdfile first xs [] i (accepted xs)
   good-mol : {m : Molecule} {xs : List Raw} {i : ℕ} → Ending molfile (over m) xs [] i (accepted (alone m ∷ []))
   short : {kind : FileKind} {p : Place} {xs : List Raw} {rest : Bytes} {i : ℕ} → ¬ Whole kind p rest → Ending kind p xs rest i (refused 19 i 1)
@@ -92,7 +92,7 @@ ending sdfile p xs (b ∷ bs) i = unfinished b bs
 -- ---- The verdict on a text
 
 -- what was found of the text's lines where the verdict is v
-pub data Judged (limit : ℕ) (s : Bytes) : FileKind → Verdict → Type 0 where
+pub data Judged (limit : ℕ) (s : Bytes) : FileKind → Verdict (List Raw) → Type 0 where
   good-sd : {ls : List Line} {xs : List Raw} → Lines s ls [] → run sdfile limit first [] 1 ls ≡ at first xs → Judged limit s sdfile (accepted xs)
   good-mol : {ls : List Line} {m : Molecule} {xs : List Raw} →
       Lines s ls [] → run molfile limit first [] 1 ls ≡ at (over m) xs → Judged limit s molfile (accepted (alone m ∷ []))
@@ -101,7 +101,7 @@ pub data Judged (limit : ℕ) (s : Bytes) : FileKind → Verdict → Type 0 wher
   stop : {kind : FileKind} {ls : List Line} {rest : Bytes} {e i c : ℕ} →
       Lines s ls rest → run kind limit first [] 1 ls ≡ stopped e i c → Judged limit s kind (refused e i c)
 
-at-the-end : (limit : ℕ) (s : Bytes) {kind : FileKind} {ls : List Line} {rest : Bytes} {p : Place} {xs : List Raw} {i : ℕ} {v : Verdict} →
+at-the-end : (limit : ℕ) (s : Bytes) {kind : FileKind} {ls : List Line} {rest : Bytes} {p : Place} {xs : List Raw} {i : ℕ} {v : Verdict (List Raw)} →
     Lines s ls rest → run kind limit first [] 1 ls ≡ at p xs → i ≡ suc (length ls) → Ending kind p xs rest i v → Judged limit s kind v
 at-the-end limit s h r e Ending.good-sd = Judged.good-sd h r
 at-the-end limit s h r e Ending.good-mol = Judged.good-mol h r

@@ -1,5 +1,6 @@
 pub mod Place
 pub mod Verdict
+pub mod SameVerdict
 pub mod From
 pub mod Twice
 pub mod Takes

@@ -49,7 +49,7 @@ pub record Sample : Type 0 where
   pub look : List Raw → List ℤ
   pub is : Shown
 
-abbrev pub show : (List Raw → List ℤ) → Verdict → Shown
+abbrev pub show : (List Raw → List ℤ) → Verdict (List Raw) → Shown
 show look (accepted xs) = shows (look xs)
 show look (refused e i column) = stops e i column
 

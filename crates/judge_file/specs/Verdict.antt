@@ -1,4 +1,4 @@
--- The judge's verdict on a whole text: its records, or the first refusal with number, line and column.
+-- A verdict, of whatever is judged line by line; and the judge's verdict on a whole text: its records, or the first refusal with number, line and column.
 use Prim.Native.Nat.{ℕ, suc}
 use mathlib.Core.List.{List, [], _∷_, _++_}
 use lib.ListN.{length}
@@ -22,12 +22,18 @@ run kind limit p xs i (l ∷ ls) = elim (turnOf kind limit p l) [
   | bad e column ↦ stopped e i column
 ]
 
-pub data Verdict : Type 0 where
-  accepted : List Raw → Verdict
-  refused : ℕ → ℕ → ℕ → Verdict
+-- what a text or a part of one is found to stand for; or the first refusal
+pub data Verdict (A : Type 0) : Type 0 where
+  accepted : A → Verdict A
+  refused : (number line column : ℕ) → Verdict A
+
+-- what stands for something stands for a function of it
+abbrev pub mapped : {A B : Type 0} → (A → B) → Verdict A → Verdict B
+mapped f (accepted a) = accepted (f a)
+mapped f (refused e i column) = refused e i column
 
 -- an SDfile may end where a record may begin; the next line would be line i
-abbrev pub endSDfile : Place → List Raw → ℕ → Verdict
+abbrev pub endSDfile : Place → List Raw → ℕ → Verdict (List Raw)
 endSDfile first xs i = accepted xs
 endSDfile (second h₁) xs i = refused 19 i 1
 endSDfile (third h₁ h₂) xs i = refused 19 i 1
@@ -40,7 +46,7 @@ endSDfile (items m is) xs i = refused 19 i 1
 endSDfile (values m is name vs) xs i = refused 19 i 1
 
 -- a molfile may end after its `M  END`
-abbrev pub endMolfile : Place → ℕ → Verdict
+abbrev pub endMolfile : Place → ℕ → Verdict (List Raw)
 endMolfile first i = refused 19 i 1
 endMolfile (second h₁) i = refused 19 i 1
 endMolfile (third h₁ h₂) i = refused 19 i 1
@@ -53,15 +59,15 @@ endMolfile (items m is) i = refused 19 i 1
 endMolfile (values m is name vs) i = refused 19 i 1
 
 -- at the end of the complete lines, with what is unfinished after them
-abbrev pub finish : FileKind → Place → List Raw → Bytes → ℕ → Verdict
+abbrev pub finish : FileKind → Place → List Raw → Bytes → ℕ → Verdict (List Raw)
 finish molfile p xs [] i = endMolfile p i
 finish molfile p xs (b ∷ bs) i = refused 19 i 1
 finish sdfile p xs [] i = endSDfile p xs i
 finish sdfile p xs (b ∷ bs) i = refused 19 i 1
 
-abbrev pub conclude : FileKind → Run → Bytes → ℕ → Verdict
+abbrev pub conclude : FileKind → Run → Bytes → ℕ → Verdict (List Raw)
 conclude kind (at p xs) rest i = finish kind p xs rest i
 conclude kind (stopped e i column) rest j = refused e i column
 
-unfoldable pub verdict : FileKind → ℕ → Bytes → Verdict
+unfoldable pub verdict : FileKind → ℕ → Bytes → Verdict (List Raw)
 verdict kind limit s = conclude kind (run kind limit first [] 1 (cut s .lines)) (cut s .rest) (suc (length (cut s .lines)))

@@ -15,7 +15,7 @@ use Rattle.judge_file.specs.One.{One, whole, refused, short, oneRecord}
 use Rattle.judge_file.specs.OneRun.{Same, same, grows-more}
 
 -- the verdict from here: complete lines and what follows them, with records finished before, and line i first
-unfoldable pub fileFrom : ℕ → List Raw → ℕ → List Line → Bytes → Verdict
+unfoldable pub fileFrom : ℕ → List Raw → ℕ → List Line → Bytes → Verdict (List Raw)
 fileFrom limit xs i ls rest = conclude sdfile (run sdfile limit first xs i ls) rest (i + length ls)
 
 pub verdict-from : (limit : ℕ) (s : Bytes) → verdict sdfile limit s ≡ fileFrom limit [] 1 (cut s .lines) (cut s .rest)
@@ -66,7 +66,7 @@ module _ (limit : ℕ) (xs : List Raw) (i : ℕ) (ls : List Line) (rest : Bytes)
       empty [] g = refl
       empty (l ∷ t) g = absurd (omega (arith, grows-more limit first xs i l t xs g))
 
-      go : {p : Place} {ys : List Raw} {b : Bytes} {j : ℕ} {v : Verdict} → Ending sdfile p ys b j v → ys ≡ xs → run sdfile limit first xs i ls ≡ at p xs →
+      go : {p : Place} {ys : List Raw} {b : Bytes} {j : ℕ} {v : Verdict (List Raw)} → Ending sdfile p ys b j v → ys ≡ xs → run sdfile limit first xs i ls ≡ at p xs →
           0 < length ls + length b → v ≡ Verdict.refused 19 j 1
       go Ending.good-sd e g some = absurd (omega (arith, empty ls g))
       go (Ending.short w) e g some = refl

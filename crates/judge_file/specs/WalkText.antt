@@ -70,7 +70,7 @@ after-cut s at (suc k) some = go (λ n some. after-cut s n k some) (lineAt s at)
 -- ---- The walk
 
 -- the verdict on the text from here, with records finished before, and line i first
-unfoldable pub fileText : ℕ → List Raw → ℕ → Bytes → Verdict
+unfoldable pub fileText : ℕ → List Raw → ℕ → Bytes → Verdict (List Raw)
 fileText limit xs i t = fileFrom limit xs i (cut t .lines) (cut t .rest)
 
 pub verdict-text : (limit : ℕ) (s : Bytes) → verdict sdfile limit s ≡ fileText limit [] 1 s

@@ -11,29 +11,22 @@ use Rattle.text.specs.Cut.{cut, cut-is, lines-cut, lines-same}
 use Rattle.rules.specs.Viable.{Viable, Dead, FirstDead, first-dead}
 use Rattle.judge_line.specs.Got.{Got, got, bad}
 use Rattle.judge_file.specs.Marked.{Marked, marked-bad}
-use Rattle.judge_parts.specs.Part.{PartVerdict, good, refused, Run, run, conclude, verdictFrom}
+use Rattle.judge_file.specs.Verdict.{Verdict, accepted, refused}
+use Rattle.judge_file.specs.SameVerdict.{accepted-refused, same-numbers}
+use Rattle.judge_parts.specs.Part.{Run, run, conclude, verdictFrom}
 use Rattle.judge_parts.specs.Runs.{at-place, at-stopped, run-next, run-stop, run-append, stop}
 
-pub good-refused : {A X : Type 0} {a : A} {e i c : ℕ} → _≡_ {A = PartVerdict A} (good a) (refused e i c) → X
-good-refused h = let z : _≡_ {A = ℕ} 0 1 = cc in absurd (omega arith)
-
-pub good-inj : {A : Type 0} {a b : A} → _≡_ {A = PartVerdict A} (good a) (good b) → a ≡ b
-good-inj h = cc
-
-refused-inj : {A : Type 0} {e i c f j d : ℕ} → _≡_ {A = PartVerdict A} (refused e i c) (refused f j d) → (e ≡ f) × (i ≡ j) × (c ≡ d)
-refused-inj h = (cc, cc, cc)
-
 -- a part may end at the place and then stands for a value, or it is cut short there
-pub data Ends {P A : Type 0} (end : P → ℕ → PartVerdict A) (p : P) : Type 0 where
-  whole : (a : A) → ((i : ℕ) → end p i ≡ good a) → Ends end p
+pub data Ends {P A : Type 0} (end : P → ℕ → Verdict A) (p : P) : Type 0 where
+  whole : (a : A) → ((i : ℕ) → end p i ≡ accepted a) → Ends end p
   short : ((i : ℕ) → end p i ≡ refused 19 i 1) → Ends end p
 
 -- `From p t a`: the lines t may follow the place, and the part then stands for a
-pub record Fitting {P A : Type 0} (turn : P → Line → Got P) (end : P → ℕ → PartVerdict A) (From : P → List Line → A → Type 0) : Type 0 where
+pub record Fitting {P A : Type 0} (turn : P → Line → Got P) (end : P → ℕ → Verdict A) (From : P → List Line → A → Type 0) : Type 0 where
   pub onward : (p : P) (l : Line) (t : List Line) (a : A) → From p (l ∷ t) a → (q : P) × (turn p l ≡ got q) × From q t a
   pub backward : (p : P) (l : Line) (q : P) → turn p l ≡ got q → (t : List Line) (a : A) → From q t a → From p (l ∷ t) a
-  pub at-end : (p : P) (a : A) → From p [] a → (i : ℕ) → end p i ≡ good a
-  pub from-end : (p : P) (a : A) (i : ℕ) → end p i ≡ good a → From p [] a
+  pub at-end : (p : P) (a : A) → From p [] a → (i : ℕ) → end p i ≡ accepted a
+  pub from-end : (p : P) (a : A) (i : ℕ) → end p i ≡ accepted a → From p [] a
   pub ends : (p : P) → Ends end p
   pub ahead : (p : P) → (t : List Line) × (a : A) × From p t a
   pub marked : (p : P) (l : Line) → Marked (turn p l)
@@ -49,13 +42,13 @@ pub data PartRefusal (L : List Line → Type 0) (Why : List Line → ℕ → ℕ
       PartRefusal L Why s e i column
   cut-short : {ls : List Line} {rest : Bytes} → Lines s ls rest → Viable L ls → ¬ Good L s → PartRefusal L Why s 19 (suc (length ls)) 1
 
-module _ {P A : Type 0} (turn : P → Line → Got P) (end : P → ℕ → PartVerdict A) (From : P → List Line → A → Type 0) (fit : Fitting turn end From) where
+module _ {P A : Type 0} (turn : P → Line → Got P) (end : P → ℕ → Verdict A) (From : P → List Line → A → Type 0) (fit : Fitting turn end From) where
   -- ---- Runs
 
   record Complete (p : P) (i : ℕ) (t : List Line) (a : A) : Type 0 where
     q : P
     is : run turn p i t ≡ Run.at q
-    ended : (j : ℕ) → end q j ≡ good a
+    ended : (j : ℕ) → end q j ≡ accepted a
 
   complete : (p : P) (i : ℕ) (t : List Line) (a : A) → From p t a → Complete p i t a
   unfolding run
@@ -80,19 +73,19 @@ module _ {P A : Type 0} (turn : P → Line → Got P) (end : P → ℕ → PartV
 
     -- ---- Good texts
 
-    pub accepted : (a : A) → (verdictFrom turn end start s ≡ good a) ↔ ((ls : List Line) × Lines s ls [] × R ls a)
+    pub good-part : (a : A) → (verdictFrom turn end start s ≡ accepted a) ↔ ((ls : List Line) × Lines s ls [] × R ls a)
     unfolding verdictFrom
-    accepted a = (λ h. to (run turn start 1 (cut s .lines)) refl (cut s .rest) (cut-is s) h, back)
+    good-part a = (λ h. to (run turn start 1 (cut s .lines)) refl (cut s .rest) (cut-is s) h, back)
       where
         to : (r : Run P) → run turn start 1 (cut s .lines) ≡ r → (rest : Bytes) → Lines s (cut s .lines) rest →
-            conclude end r rest (suc (length (cut s .lines))) ≡ good a → (ls : List Line) × Lines s ls [] × R ls a
+            conclude end r rest (suc (length (cut s .lines))) ≡ accepted a → (ls : List Line) × Lines s ls [] × R ls a
         to (Run.at q) e [] c h =
             let f = rewind start 1 (cut s .lines) q e [] a (fit .from-end q a (suc (length (cut s .lines))) h) in
             (cut s .lines, c, is (cut s .lines) a .0 (subst (λ (t : List Line). From start t a) (append-nil (cut s .lines)) f))
-        to (Run.at q) e (b ∷ rest) c h = good-refused (sym h)
-        to (Run.stopped m i d) e rest c h = good-refused (sym h)
+        to (Run.at q) e (b ∷ rest) c h = accepted-refused (sym h)
+        to (Run.stopped m i d) e rest c h = accepted-refused (sym h)
 
-        back : ((ls : List Line) × Lines s ls [] × R ls a) → conclude end (run turn start 1 (cut s .lines)) (cut s .rest) (suc (length (cut s .lines))) ≡ good a
+        back : ((ls : List Line) × Lines s ls [] × R ls a) → conclude end (run turn start 1 (cut s .lines)) (cut s .rest) (suc (length (cut s .lines))) ≡ accepted a
         back g =
             let c = complete start 1 (g .0) a (is (g .0) a .1 (g .2)) in
             rw (lines-cut (g .1), c .is) (c .ended (suc (length (g .0))))
@@ -126,7 +119,7 @@ module _ {P A : Type 0} (turn : P → Line → Got P) (end : P → ℕ → PartV
         }
 
     -- a good text ends where a part may end
-    good-ends : (q : P) → run turn start 1 (cut s .lines) ≡ Run.at q → Good L s → (a : A) × (cut s .rest ≡ []) × ((j : ℕ) → end q j ≡ good a)
+    good-ends : (q : P) → run turn start 1 (cut s .lines) ≡ Run.at q → Good L s → (a : A) × (cut s .rest ≡ []) × ((j : ℕ) → end q j ≡ accepted a)
     good-ends q h g =
         let same = lines-same (g .1) (cut-is s) in
         let c = complete start 1 (g .0) (g .2 .0) (is (g .0) (g .2 .0) .1 (g .2 .1)) in
@@ -134,7 +127,7 @@ module _ {P A : Type 0} (turn : P → Line → Got P) (end : P → ℕ → PartV
         (g .2 .0, sym (same .1), λ j. sym (ap (λ (x : P). end x j) e) ∙ c .ended j)
 
     -- where a part may end, the lines are one
-    ends-good : (ls : List Line) (q : P) (a : A) → Lines s ls [] → run turn start 1 ls ≡ Run.at q → ((j : ℕ) → end q j ≡ good a) → Good L s
+    ends-good : (ls : List Line) (q : P) (a : A) → Lines s ls [] → run turn start 1 ls ≡ Run.at q → ((j : ℕ) → end q j ≡ accepted a) → Good L s
     ends-good ls q a h r w =
         (ls, h, (a, is ls a .0 (subst (λ (t : List Line). From start t a) (append-nil ls) (rewind start 1 ls q r [] a (fit .from-end q a 0 (w 0))))))
 
@@ -151,17 +144,17 @@ module _ {P A : Type 0} (turn : P → Line → Got P) (end : P → ℕ → PartV
       to e i c h = go (run turn start 1 (cut s .lines)) refl (cut s .rest) refl h
         where
           cut-short : (q : P) → run turn start 1 (cut s .lines) ≡ Run.at q → ¬ Good L s →
-              _≡_ {A = PartVerdict A} (refused 19 (suc (length (cut s .lines))) 1) (refused e i c) → PartRefusal L Why s e i c
+              _≡_ {A = Verdict A} (refused 19 (suc (length (cut s .lines))) 1) (refused e i c) → PartRefusal L Why s e i c
           cut-short q r w k =
-              let z = refused-inj {A = A} k in
+              let z = same-numbers {A = A} k in
               subst (λ (x : ℕ). PartRefusal L Why s x i c) (z .0)
               (subst (λ (x : ℕ). PartRefusal L Why s 19 x c) (z .1)
               (subst (λ (x : ℕ). PartRefusal L Why s 19 (suc (length (cut s .lines))) x) (z .2) (PartRefusal.cut-short (cut-is s) (viable (cut s .lines) q r) w)))
 
           at-end : (q : P) → Ends end q → run turn start 1 (cut s .lines) ≡ Run.at q → end q (suc (length (cut s .lines))) ≡ refused e i c → PartRefusal L Why s e i c
-          at-end q (Ends.whole a w) r k = good-refused (sym (w (suc (length (cut s .lines)))) ∙ k)
+          at-end q (Ends.whole a w) r k = accepted-refused (sym (w (suc (length (cut s .lines)))) ∙ k)
           at-end q (Ends.short w) r k =
-              cut-short q r (λ g. let x = good-ends q r g in good-refused (sym (x .2 0) ∙ w 0)) (sym (w (suc (length (cut s .lines)))) ∙ k)
+              cut-short q r (λ g. let x = good-ends q r g in accepted-refused (sym (x .2 0) ∙ w 0)) (sym (w (suc (length (cut s .lines)))) ∙ k)
 
           go : (r : Run P) → run turn start 1 (cut s .lines) ≡ r → (rest : Bytes) → cut s .rest ≡ rest →
               conclude end r rest (suc (length (cut s .lines))) ≡ refused e i c → PartRefusal L Why s e i c
@@ -169,7 +162,7 @@ module _ {P A : Type 0} (turn : P → Line → Got P) (end : P → ℕ → PartV
           go (Run.at q) r (b ∷ rest) m k =
               cut-short q r (λ g. let x = good-ends q r g in let z : b ∷ rest ≡ [] = sym m ∙ x .1 in omega (arith, ap length z)) k
           go (Run.stopped f j d) r rest m k =
-              let z = refused-inj {A = A} k in
+              let z = same-numbers {A = A} k in
               stopped-refusal e i c (r ∙ ap₂ (λ (x y : ℕ). Run.stopped x y d) (z .0) (z .1) ∙ ap (Run.stopped e i) (z .2))
 
       -- lines that can be finished, and are no part, or are not all of the text
@@ -193,4 +186,4 @@ module _ {P A : Type 0} (turn : P → Line → Got P) (end : P → ℕ → PartV
 
       -- there is one refusal at most
       pub refusal-one : {e i c e′ i′ c′ : ℕ} → PartRefusal L Why s e i c → PartRefusal L Why s e′ i′ c′ → (e ≡ e′) × (i ≡ i′) × (c ≡ c′)
-      refusal-one p q = refused-inj {A = A} (sym (back p) ∙ back q)
+      refusal-one p q = same-numbers {A = A} (sym (back p) ∙ back q)

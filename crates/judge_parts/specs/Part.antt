@@ -9,10 +9,7 @@ use Rattle.rules.specs.Record.{Headers, Item}
 use Rattle.judge_line.specs.Got.{Got, got, bad, then}
 use Rattle.judge_line.specs.Field.{within}
 use Rattle.judge_line.specs.Judge.{firstHeaderOf, itemOf, ItemOrEnd, title, close, valueOf, ValueOrBlank, value, blank}
-
-pub data PartVerdict (A : Type 0) : Type 0 where
-  good : A → PartVerdict A
-  refused : ℕ → ℕ → ℕ → PartVerdict A
+use Rattle.judge_file.specs.Verdict.{Verdict, accepted, refused}
 
 -- ---- Any part: places, a turn for each line, and what the part stands for at its end
 
@@ -27,15 +24,15 @@ run turn p i [] = at p
 run turn p i (l ∷ ls) = elim (turn p l) [ got q ↦ run turn q (suc i) ls | bad e column ↦ stopped e i column ]
 
 -- at the end of the complete lines, with what is unfinished after them; the next line would be line i
-abbrev pub finish : {P A : Type 0} → (P → ℕ → PartVerdict A) → P → Bytes → ℕ → PartVerdict A
+abbrev pub finish : {P A : Type 0} → (P → ℕ → Verdict A) → P → Bytes → ℕ → Verdict A
 finish end p [] i = end p i
 finish end p (b ∷ rest) i = refused 19 i 1
 
-abbrev pub conclude : {P A : Type 0} → (P → ℕ → PartVerdict A) → Run P → Bytes → ℕ → PartVerdict A
+abbrev pub conclude : {P A : Type 0} → (P → ℕ → Verdict A) → Run P → Bytes → ℕ → Verdict A
 conclude end (at p) rest i = finish end p rest i
 conclude end (stopped e i column) rest j = refused e i column
 
-unfoldable pub verdictFrom : {P A : Type 0} → (P → Line → Got P) → (P → ℕ → PartVerdict A) → P → Bytes → PartVerdict A
+unfoldable pub verdictFrom : {P A : Type 0} → (P → Line → Got P) → (P → ℕ → Verdict A) → P → Bytes → Verdict A
 verdictFrom turn end p s = conclude end (run turn p 1 (cut s .lines)) (cut s .rest) (suc (length (cut s .lines)))
 
 -- ---- Header lines: exactly three
@@ -56,13 +53,13 @@ headerLine (full hs) l = bad 18 1
 unfoldable pub headerTurn : HeaderPlace → Line → Got HeaderPlace
 headerTurn p l = within 80 l (headerLine p l)
 
-abbrev pub headersEnd : HeaderPlace → ℕ → PartVerdict Headers
+abbrev pub headersEnd : HeaderPlace → ℕ → Verdict Headers
 headersEnd first i = refused 19 i 1
 headersEnd (second h₁) i = refused 19 i 1
 headersEnd (third h₁ h₂) i = refused 19 i 1
-headersEnd (full hs) i = good hs
+headersEnd (full hs) i = accepted hs
 
-unfoldable pub headersVerdict : Bytes → PartVerdict Headers
+unfoldable pub headersVerdict : Bytes → Verdict Headers
 headersVerdict s = verdictFrom headerTurn headersEnd first s
 
 -- ---- Items: any number of whole ones
@@ -85,9 +82,9 @@ unfoldable pub itemTurn : ItemPlace → Line → Got ItemPlace
 itemTurn (items is) l = within 80 l (then (itemOf l) λ i. afterItem is i)
 itemTurn (values is name vs) l = within 200 l (then (valueOf l) λ v. got (afterValue is name vs l v))
 
-abbrev pub itemsEnd : ItemPlace → ℕ → PartVerdict (List Item)
-itemsEnd (items is) i = good is
+abbrev pub itemsEnd : ItemPlace → ℕ → Verdict (List Item)
+itemsEnd (items is) i = accepted is
 itemsEnd (values is name vs) i = refused 19 i 1
 
-unfoldable pub itemsVerdict : Bytes → PartVerdict (List Item)
+unfoldable pub itemsVerdict : Bytes → Verdict (List Item)
 itemsVerdict s = verdictFrom itemTurn itemsEnd (items []) s

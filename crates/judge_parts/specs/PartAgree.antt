@@ -7,8 +7,9 @@ use mathlib.Core.List.{List, []}
 use Rattle.text.specs.Text.{Bytes, Line, Lines}
 use Rattle.rules.specs.Record.{Headers, Item}
 use Rattle.rules.specs.Canon.{HeaderPart, ItemPart}
-use Rattle.judge_parts.specs.Part.{good, refused, first, headerTurn, headersEnd, headersVerdict, items, itemTurn, itemsEnd, itemsVerdict}
-use Rattle.judge_parts.specs.AnyPart.{PartRefusal, accepted, refusal, refusal-one}
+use Rattle.judge_file.specs.Verdict.{accepted, refused}
+use Rattle.judge_parts.specs.Part.{first, headerTurn, headersEnd, headersVerdict, items, itemTurn, itemsEnd, itemsVerdict}
+use Rattle.judge_parts.specs.AnyPart.{PartRefusal, good-part, refusal, refusal-one}
 use Rattle.judge_parts.specs.PartBecause.{HeaderBecause, header-because, ItemBecause, item-because}
 use Rattle.judge_parts.specs.PartFrom.{FromHeaders, fitting-headers, FromItemPlace, fitting-items}
 
@@ -22,9 +23,9 @@ AnItemPart ls = (is : List Item) × ItemPart ls is
 
 -- ---- Header lines
 
-pub good-headers : (s : Bytes) (h : Headers) → (headersVerdict s ≡ good h) ↔ ((ls : List Line) × Lines s ls [] × HeaderPart ls h)
+pub good-headers : (s : Bytes) (h : Headers) → (headersVerdict s ≡ accepted h) ↔ ((ls : List Line) × Lines s ls [] × HeaderPart ls h)
 unfolding headersVerdict
-good-headers s h = accepted headerTurn headersEnd FromHeaders fitting-headers first HeaderPart (λ ls h. (λ p. p, λ p. p)) s h
+good-headers s h = good-part headerTurn headersEnd FromHeaders fitting-headers first HeaderPart (λ ls h. (λ p. p, λ p. p)) s h
 
 pub refused-headers : (s : Bytes) (e i column : ℕ) → (headersVerdict s ≡ refused e i column) ↔ PartRefusal AHeaderPart HeaderBecause s e i column
 unfolding headersVerdict
@@ -41,9 +42,9 @@ one-header-refusal s p q = refusal-one headerTurn headersEnd FromHeaders fitting
 items-start : (ls : List Line) (is : List Item) → FromItemPlace (items []) ls is ↔ ItemPart ls is
 items-start ls is = (λ f. subst (ItemPart ls) (sym (f .all)) (f .part), λ p. record { ks = is; part = p; all = refl })
 
-pub good-items : (s : Bytes) (is : List Item) → (itemsVerdict s ≡ good is) ↔ ((ls : List Line) × Lines s ls [] × ItemPart ls is)
+pub good-items : (s : Bytes) (is : List Item) → (itemsVerdict s ≡ accepted is) ↔ ((ls : List Line) × Lines s ls [] × ItemPart ls is)
 unfolding itemsVerdict
-good-items s is = accepted itemTurn itemsEnd FromItemPlace fitting-items (items []) ItemPart items-start s is
+good-items s is = good-part itemTurn itemsEnd FromItemPlace fitting-items (items []) ItemPart items-start s is
 
 pub refused-items : (s : Bytes) (e i column : ℕ) → (itemsVerdict s ≡ refused e i column) ↔ PartRefusal AnItemPart ItemBecause s e i column
 unfolding itemsVerdict

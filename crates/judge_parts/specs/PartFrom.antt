@@ -22,10 +22,11 @@ use Rattle.judge_line.specs.Judge.{notHeader, valueOf, ValueOrBlank, value, bla
 use Rattle.judge_line.specs.Agree.{within-got, within-is, header-agrees, title-agrees, value-agrees, blank-agrees}
 use Rattle.judge_file.specs.Marked.{Marked}
 use Rattle.judge_file.specs.Witness.{empty-header, blank-line}
-use Rattle.judge_parts.specs.Part.{good}
+use Rattle.judge_file.specs.Verdict.{accepted}
+use Rattle.judge_file.specs.SameVerdict.{accepted-refused, same-accepted}
 use Rattle.judge_parts.specs.Part.{HeaderPlace, first, second, third, full, headerLine, headerTurn, headersEnd}
 use Rattle.judge_parts.specs.Part.{ItemPlace, items, values, afterItem, afterValue, itemTurn, itemsEnd}
-use Rattle.judge_parts.specs.AnyPart.{good-refused, good-inj, Ends, Fitting}
+use Rattle.judge_parts.specs.AnyPart.{Ends, Fitting}
 
 -- ---- Header lines
 
@@ -98,17 +99,17 @@ backward-headers (full hs) l q e t h f = bad-got (turn-header (full hs) q l e .1
 no-headers : {X : Type 0} {h : Headers} → HeaderPart [] h → X
 no-headers f = elim f [ ]
 
-headers-at-end : (p : HeaderPlace) (h : Headers) → FromHeaders p [] h → (i : ℕ) → headersEnd p i ≡ good h
+headers-at-end : (p : HeaderPlace) (h : Headers) → FromHeaders p [] h → (i : ℕ) → headersEnd p i ≡ accepted h
 headers-at-end first h f i = no-headers f
 headers-at-end (second h₁) h f i = absurd f
 headers-at-end (third h₁ h₂) h f i = absurd f
-headers-at-end (full hs) h f i = ap good (sym (f .1))
+headers-at-end (full hs) h f i = ap accepted (sym (f .1))
 
-headers-from-end : (p : HeaderPlace) (h : Headers) (i : ℕ) → headersEnd p i ≡ good h → FromHeaders p [] h
-headers-from-end first h i e = good-refused (sym e)
-headers-from-end (second h₁) h i e = good-refused (sym e)
-headers-from-end (third h₁ h₂) h i e = good-refused (sym e)
-headers-from-end (full hs) h i e = (refl, sym (good-inj e))
+headers-from-end : (p : HeaderPlace) (h : Headers) (i : ℕ) → headersEnd p i ≡ accepted h → FromHeaders p [] h
+headers-from-end first h i e = accepted-refused (sym e)
+headers-from-end (second h₁) h i e = accepted-refused (sym e)
+headers-from-end (third h₁ h₂) h i e = accepted-refused (sym e)
+headers-from-end (full hs) h i e = (refl, sym (same-accepted e))
 
 headers-ends : (p : HeaderPlace) → Ends headersEnd p
 headers-ends first = Ends.short (λ i. refl)
@@ -293,16 +294,16 @@ backward-items (values is name vs) l q e t js f =
 no-values : {X : Type 0} {vs u : List Line} → Values [] vs u → X
 no-values f = elim f [ ]
 
-items-at-end : (p : ItemPlace) (js : List Item) → FromItemPlace p [] js → (i : ℕ) → itemsEnd p i ≡ good js
+items-at-end : (p : ItemPlace) (js : List Item) → FromItemPlace p [] js → (i : ℕ) → itemsEnd p i ≡ accepted js
 items-at-end (items is) js f i = go (f .part) (f .all)
   where
-    go : {ks : List Item} → ItemPart [] ks → js ≡ is ++ ks → good is ≡ good js
-    go ItemPart.none e = ap good (sym (e ∙ append-nil is))
+    go : {ks : List Item} → ItemPart [] ks → js ≡ is ++ ks → accepted is ≡ accepted js
+    go ItemPart.none e = ap accepted (sym (e ∙ append-nil is))
 items-at-end (values is name vs) js f i = no-values (f .values)
 
-items-from-end : (p : ItemPlace) (js : List Item) (i : ℕ) → itemsEnd p i ≡ good js → FromItemPlace p [] js
-items-from-end (items is) js i e = record { ks = []; part = ItemPart.none; all = sym (good-inj e) ∙ sym (append-nil is) }
-items-from-end (values is name vs) js i e = good-refused (sym e)
+items-from-end : (p : ItemPlace) (js : List Item) (i : ℕ) → itemsEnd p i ≡ accepted js → FromItemPlace p [] js
+items-from-end (items is) js i e = record { ks = []; part = ItemPart.none; all = sym (same-accepted e) ∙ sym (append-nil is) }
+items-from-end (values is name vs) js i e = accepted-refused (sym e)
 
 items-ends : (p : ItemPlace) → Ends itemsEnd p
 items-ends (items is) = Ends.whole is (λ i. refl)

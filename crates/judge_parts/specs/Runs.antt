@@ -7,7 +7,8 @@ use native.Mathlib.Omega.{arith}
 use Rattle.text.specs.Text.{Bytes, Line}
 use Rattle.text.specs.Cut.{Cut, cut}
 use Rattle.judge_line.specs.Got.{Got, got, bad}
-use Rattle.judge_parts.specs.Part.{PartVerdict, refused, Run, at, stopped, run, finish, conclude, verdictFrom}
+use Rattle.judge_file.specs.Verdict.{Verdict, refused}
+use Rattle.judge_parts.specs.Part.{Run, at, stopped, run, finish, conclude, verdictFrom}
 
 pub at-stopped : {P X : Type 0} {p : P} {e i c : ℕ} → _≡_ {A = Run P} (at p) (stopped e i c) → X
 at-stopped h = let z : _≡_ {A = ℕ} 0 1 = cc in absurd (omega arith)
@@ -79,8 +80,8 @@ module _ {P : Type 0} (turn : P → Line → Got P) where
 
   -- ---- The verdict from a place on, at line i
 
-  module _ {A : Type 0} (end : P → ℕ → PartVerdict A) where
-    unfoldable pub fromCut : P → ℕ → Cut → PartVerdict A
+  module _ {A : Type 0} (end : P → ℕ → Verdict A) where
+    unfoldable pub fromCut : P → ℕ → Cut → Verdict A
     fromCut p i c = conclude end (run turn p i (c .lines)) (c .rest) (i + length (c .lines))
 
     pub from-start : (p : P) (s : Bytes) → verdictFrom turn end p s ≡ fromCut p 1 (cut s)

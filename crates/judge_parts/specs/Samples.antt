@@ -12,7 +12,8 @@ use Rattle.rules.specs.Write.{headerText}
 use Rattle.judge_line.specs.Got.{then, need}
 use Rattle.judge_line.specs.Field.{within}
 use Rattle.judge_line.specs.Judge.{begins, contains, firstHeaderOf, blankb, nameOn, opened, spaced, arrowed, headerOf, itemOf, valueOf}
-use Rattle.judge_parts.specs.Part.{PartVerdict, good, refused, run, verdictFrom, headerLine, headerTurn, headersVerdict, itemTurn, itemsVerdict}
+use Rattle.judge_file.specs.Verdict.{Verdict, accepted, refused}
+use Rattle.judge_parts.specs.Part.{run, verdictFrom, headerLine, headerTurn, headersVerdict, itemTurn, itemsVerdict}
 use Rattle.judge_parts.specs.Written.{headersText, itemLines, itemsText, writtenHeaders, writtenItems}
 
 -- lines, each with its LF
@@ -21,9 +22,9 @@ lines [] = []
 lines (l ∷ ls) = bytes l ++ (LF ∷ lines ls)
 
 pub record Sample : Type 0 where
-  pub judge : Bytes → PartVerdict Bytes
+  pub judge : Bytes → Verdict Bytes
   pub part : Bytes
-  pub is : PartVerdict Bytes
+  pub is : Verdict Bytes
 
 abbrev three : Bytes
 three = lines ("AB-00417" ∷ "" ∷ "drum 3" ∷ [])
@@ -34,8 +35,8 @@ lot after = lines (">  <LOT>" ∷ "00417" ∷ after)
 abbrev pub samples : List Sample
 samples =
     -- three lines keep their bytes; a CR before an LF is no part of a line
-    record { judge = writtenHeaders; part = three; is = good three } ∷
-    record { judge = writtenHeaders; part = bytes "AB" ++ (CR ∷ LF ∷ lines ("" ∷ " 3 " ∷ [])); is = good (lines ("AB" ∷ "" ∷ " 3 " ∷ [])) } ∷
+    record { judge = writtenHeaders; part = three; is = accepted three } ∷
+    record { judge = writtenHeaders; part = bytes "AB" ++ (CR ∷ LF ∷ lines ("" ∷ " 3 " ∷ [])); is = accepted (lines ("AB" ∷ "" ∷ " 3 " ∷ [])) } ∷
     -- two lines; three and an unfinished fourth
     record { judge = writtenHeaders; part = lines ("AB" ∷ "" ∷ []); is = refused 19 3 1 } ∷
     record { judge = writtenHeaders; part = three ++ bytes "x"; is = refused 19 4 1 } ∷
@@ -45,10 +46,10 @@ samples =
     record { judge = writtenHeaders; part = three ++ (CR ∷ CR ∷ LF ∷ []); is = refused 4 4 1 } ∷
     -- a reserved tag in the first line, and in the second
     record { judge = writtenHeaders; part = lines ("a $RXN" ∷ "" ∷ "" ∷ []); is = refused 5 1 1 } ∷
-    record { judge = writtenHeaders; part = lines ("" ∷ "$$$$" ∷ "" ∷ []); is = good (lines ("" ∷ "$$$$" ∷ "" ∷ [])) } ∷
+    record { judge = writtenHeaders; part = lines ("" ∷ "$$$$" ∷ "" ∷ []); is = accepted (lines ("" ∷ "$$$$" ∷ "" ∷ [])) } ∷
     -- no items; an item whose header and blank line are written anew, and one without values
-    record { judge = writtenItems; part = []; is = good [] } ∷
-    record { judge = writtenItems; part = lines ("> <LOT>  " ∷ "00417" ∷ "  " ∷ ">   <A B>" ∷ "" ∷ []); is = good (lot ("" ∷ ">  <A B>" ∷ "" ∷ [])) } ∷
+    record { judge = writtenItems; part = []; is = accepted [] } ∷
+    record { judge = writtenItems; part = lines ("> <LOT>  " ∷ "00417" ∷ "  " ∷ ">   <A B>" ∷ "" ∷ []); is = accepted (lot ("" ∷ ">  <A B>" ∷ "" ∷ [])) } ∷
     -- a `$$$$` line where an item may begin, and in an item
     record { judge = writtenItems; part = lines ("$$$$" ∷ []); is = refused 16 1 1 } ∷
     record { judge = writtenItems; part = lot ("$$$$" ∷ []); is = refused 17 3 1 } ∷
@@ -57,7 +58,7 @@ samples =
     record { judge = writtenItems; part = lot ("" ∷ []) ++ bytes ">"; is = refused 19 4 1 } ∷
     record { judge = writtenItems; part = lot ("" ∷ "" ∷ []); is = refused 16 4 1 } ∷
     -- a value of 200 columns and a header of 81
-    record { judge = writtenItems; part = lot [] ++ (replicate 200 120 ++ (LF ∷ LF ∷ [])); is = good (lot [] ++ (replicate 200 120 ++ (LF ∷ LF ∷ []))) } ∷
+    record { judge = writtenItems; part = lot [] ++ (replicate 200 120 ++ (LF ∷ LF ∷ [])); is = accepted (lot [] ++ (replicate 200 120 ++ (LF ∷ LF ∷ []))) } ∷
     record { judge = writtenItems; part = bytes ">  <LOT>" ++ (replicate 73 32 ++ (LF ∷ LF ∷ [])); is = refused 3 1 81 } ∷
     []
 

@@ -4,7 +4,8 @@ use Rattle.text.specs.Text.{Bytes, Line}
 use Rattle.text.specs.Written.{text}
 use Rattle.rules.specs.Record.{Headers, Item}
 use Rattle.rules.specs.Write.{headerText}
-use Rattle.judge_parts.specs.Part.{PartVerdict, good, refused, headersVerdict, itemsVerdict}
+use Rattle.judge_file.specs.Verdict.{Verdict, accepted, refused, mapped}
+use Rattle.judge_parts.specs.Part.{headersVerdict, itemsVerdict}
 
 -- header lines keep their bytes
 unfoldable pub headersText : Headers → Bytes
@@ -18,19 +19,14 @@ itemLines (i ∷ is) = headerText (i .name) ∷ (i .values ++ ([] ∷ itemLines 
 unfoldable pub itemsText : List Item → Bytes
 itemsText is = text (itemLines is)
 
--- what a good part stands for, by a function
-abbrev pub mapGood : {A B : Type 0} → (A → B) → PartVerdict A → PartVerdict B
-mapGood f (good a) = good (f a)
-mapGood f (refused e i column) = refused e i column
-
 -- the text of a good part; of another, nothing
-abbrev pub textOf : PartVerdict Bytes → Bytes
-textOf (good bs) = bs
+abbrev pub textOf : Verdict Bytes → Bytes
+textOf (accepted bs) = bs
 textOf (refused e i column) = []
 
 -- the canonical text of a part, or its refusal
-unfoldable pub writtenHeaders : Bytes → PartVerdict Bytes
-writtenHeaders s = mapGood headersText (headersVerdict s)
+unfoldable pub writtenHeaders : Bytes → Verdict Bytes
+writtenHeaders s = mapped headersText (headersVerdict s)
 
-unfoldable pub writtenItems : Bytes → PartVerdict Bytes
-writtenItems s = mapGood itemsText (itemsVerdict s)
+unfoldable pub writtenItems : Bytes → Verdict Bytes
+writtenItems s = mapped itemsText (itemsVerdict s)

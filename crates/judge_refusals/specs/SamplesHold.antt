@@ -44,7 +44,7 @@ module _ (s : Bytes) (look : List Raw → List ℤ) where
   because kind (Judged.stop {ls = ls} {rest = rest} {e = e} {i = i} {c = c} h r) = inr (ls, rest, h, because-run kind limit ls e i c .0 r)
   because kind (Judged.short h r w) = inl refl
 
-  says : (kind : FileKind) (v : Verdict) → verdict kind limit s ≡ v → Says kind s look (show look v)
+  says : (kind : FileKind) (v : Verdict (List Raw)) → verdict kind limit s ≡ v → Says kind s look (show look v)
   says kind (accepted xs) h = reads kind xs h
   says kind (refused e i c) h = (refused-text kind limit s (omega arith) e i c h, because kind (subst (Judged limit s kind) h (judged kind limit s)))
 

@@ -10,6 +10,7 @@ use Rattle.text.specs.Cut.{Cut, cut, split}
 use Rattle.rules.specs.Record.{Raw, limit, atomPlaces, bondPlaces}
 use Rattle.judge_line.specs.Got.{Got, got, bad}
 use Rattle.judge_file.specs.Place.{sdfile, Place, first, Turn, next, done, turnOf}
+use Rattle.judge_file.specs.Verdict.{accepted}
 use Rattle.judge_file.specs.One.{One, oneFrom, oneRecord}
 use Rattle.reader_walk.specs.Outcome.{Outcome, refused, ofOne, outcomeOf, one-next, one-done, one-bad}
 use Rattle.reader_walk.specs.Walked.{walkedBy, walkOf}
@@ -17,7 +18,7 @@ use Rattle.reader_answer.specs.declared.RecordRead.{RecordRead}
 use Rattle.reader_answer.specs.Read.{answered, readAs, atomsAs, bondsAs, readOf, atomsAfter, bondsAfter}
 use Rattle.reader_answer.specs.Reading.{enough}
 use Rattle.reader_answer.specs.Stretch.{Stretch, stretch-cut, stretch-front}
-use Rattle.reader_answer.specs.Promise.{Reply, accepted, Begins, Told}
+use Rattle.reader_answer.specs.Promise.{Reply, Begins, Told}
 use Rattle.reader_answer.specs.Told.{replyOf, told-reply, begins-told, begins-outcome, told-begins, told-order}
 use Rattle.reader_answer.specs.Promised.{begins-said, same-read}
 

@@ -12,6 +12,7 @@ use Rattle.rules.specs.Meaning.{meaning}
 use Rattle.rules.specs.Canon.{ItemPart}
 use Rattle.reader_tables.specs.Row.{flat}
 use Rattle.judge_file.specs.Place.{FileKind, molfile, sdfile}
+use Rattle.judge_file.specs.Verdict.{Verdict, accepted, refused}
 use Rattle.judge_refusals.specs.NoRecord.{NoRecord}
 use Rattle.reader_walk.specs.Promise.{RefusedAt}
 use Rattle.reader_answer.specs.declared.RecordRead.{RecordRead}
@@ -31,11 +32,7 @@ pub record Reply : Type 0 where
   pub items-start : ℕ
   pub items-end : ℕ
 
-pub data Said : Type 0 where
-  accepted : Reply → Said
-  refused : ℕ → ℕ → ℕ → Said  -- number, line, column
-
-abbrev pub numbersOf : RecordRead → Said
+abbrev pub numbersOf : RecordRead → Verdict Reply
 numbersOf (RecordRead.Read n m chiral bytes lines h a b) =
     accepted (record { n = n; m = m; chiral = chiral; bytes = bytes; lines = lines; header-end = h; items-start = a; items-end = b })
 numbersOf (RecordRead.Refused e i column) = refused e i column
@@ -77,13 +74,13 @@ pub record Roomy (ta tb : List ℤ) : Type 0 where
   pub bonds : 6 * limit ≤ length tb
 
 -- tables with room: rows of the record's reading, then zeros, and past the room for the limit what was there; after a refusal no rows
-pub record Reads (kind : FileKind) (s : Bytes) (ta tb : List ℤ) (r : Said) (ta′ tb′ : List ℤ) : Type 0 where
+pub record Reads (kind : FileKind) (s : Bytes) (ta tb : List ℤ) (r : Verdict Reply) (ta′ tb′ : List ℤ) : Type 0 where
   pub accepts : (w : Reply) → (r ≡ accepted w) ↔ ((x : Raw) × Begins kind s x × Told kind s x w)
   pub rows : (x : Raw) → Begins kind s x → (ta′ ≡ rowsIn atomPlaces ta (flat (meaning x .atoms))) × (tb′ ≡ rowsIn bondPlaces tb (flat (meaning x .bonds)))
   pub refuses : (e i column : ℕ) → r ≡ refused e i column → Refusal kind s e i column × (ta′ ≡ rowsIn atomPlaces ta []) × (tb′ ≡ rowsIn bondPlaces tb [])
 
 -- a refusal without a line: no memory changes
-abbrev pub Untouched : ℕ → List ℤ → List ℤ → Said → List ℤ → List ℤ → Type 0
+abbrev pub Untouched : ℕ → List ℤ → List ℤ → Verdict Reply → List ℤ → List ℤ → Type 0
 Untouched e ta tb r ta′ tb′ = (r ≡ refused e 0 0) × (ta′ ≡ ta) × (tb′ ≡ tb)
 
 abbrev pub kindNumber : FileKind → ℕ

@@ -13,21 +13,21 @@ use Rattle.text.specs.Cut.{lines-same}
 use Rattle.rules.specs.Record.{Raw, limit, atomPlaces, bondPlaces}
 use Rattle.rules.specs.Viable.{Viable, FirstDead, ARecord, first-dead}
 use Rattle.judge_file.specs.Place.{FileKind, molfile, sdfile}
+use Rattle.judge_file.specs.Verdict.{Verdict, accepted}
+use Rattle.judge_file.specs.SameVerdict.{accepted-refused, same-accepted}
 use Rattle.judge_file.specs.One.{One, oneRecord}
 use Rattle.judge_refusals.specs.Because.{one-because}
 use Rattle.judge_refusals.specs.NoRecord.{NoRecord}
 use Rattle.reader_walk.specs.Outcome.{Outcome, whole, refused, outcomeOf}
 use Rattle.reader_walk.specs.Stands.{moleculeLines}
 use Rattle.reader_walk.specs.Walked.{walkedBy, walkOf}
-use Rattle.reader_walk.specs.Promise as W
 use Rattle.reader_walk.specs.Promise.{same-refusal}
 use Rattle.reader_answer.specs.declared.RecordRead.{RecordRead}
 use Rattle.reader_answer.specs.Read.{rowsIn, answered, atomsBy, bondsBy, readAs, atomsAs, bondsAs, readOf, atomsAfter, bondsAfter, RowsLeft}
 use Rattle.reader_answer.specs.Reading.{enough, atoms-enough, bonds-enough, short-atoms, short-bonds, atoms-short, atoms-beside, bonds-beside, bonds-short}
 use Rattle.reader_answer.specs.Reading.{kind-mol, kind-sd, kind-none, atoms-mol, atoms-sd, atoms-none, bonds-mol, bonds-sd, bonds-none}
 use Rattle.reader_answer.specs.Rows.{cleared-left}
-use Rattle.reader_answer.specs.Promise as P
-use Rattle.reader_answer.specs.Promise.{Reply, Said, accepted, numbersOf, Begins, Told, Refusal, Roomy, Reads, Untouched, kindNumber, ReadPromise}
+use Rattle.reader_answer.specs.Promise.{Reply, numbersOf, Begins, Told, Refusal, Roomy, Reads, Untouched, kindNumber, ReadPromise}
 use Rattle.reader_answer.specs.Told.{itemLines, linesOf, replyOf, told-reply, begins-told, begins-outcome, whole-lines, outcome-begins, outcome-refused}
 
 -- ---- Tables with room
@@ -42,12 +42,6 @@ replied sdfile s x =
 pub begins-said : (kind : FileKind) (s : Bytes) (x : Raw) → Begins kind s x → numbersOf (answered (walkOf kind s)) ≡ accepted (replyOf kind s x)
 unfolding walkOf
 begins-said kind s x g = ap (λ (o : Outcome). numbersOf (answered (walkedBy kind s o))) (begins-outcome kind s x g) ∙ replied kind s x
-
-accepted-inj : {w v : Reply} → accepted w ≡ accepted v → w ≡ v
-accepted-inj e = cc
-
-pub said-apart : {X : Type 0} {w : Reply} {e i c : ℕ} → accepted w ≡ P.refused e i c → X
-said-apart h = absurd (let z : _≡_ {A = ℕ} 0 1 = cc in omega arith)
 
 pub reads : (kind : FileKind) (s : Bytes) (ta tb : List ℤ) →
     Reads kind s ta tb (numbersOf (answered (walkOf kind s))) (atomsBy ta (outcomeOf kind s)) (bondsBy tb (outcomeOf kind s))
@@ -66,13 +60,13 @@ reads kind s ta tb =
     to w (whole x k) e q =
         let g = outcome-begins kind s x k e in
         let n : k ≡ linesOf kind x = whole-lines (sym e ∙ begins-outcome kind s x g) in
-        let r : w ≡ replyOf kind s x = accepted-inj (sym q ∙ ap (λ (j : ℕ). numbersOf (answered (walkedBy kind s (whole x j)))) n ∙ replied kind s x) in
+        let r : w ≡ replyOf kind s x = same-accepted (sym q ∙ ap (λ (j : ℕ). numbersOf (answered (walkedBy kind s (whole x j)))) n ∙ replied kind s x) in
         (x, g, subst (Told kind s x) (sym r) (begins-told kind s x g))
-    to w (refused e i c) h q = said-apart (sym q)
+    to w (refused e i c) h q = accepted-refused (sym q)
 
-    off : (e i column : ℕ) (o : Outcome) → outcomeOf kind s ≡ o → numbersOf (answered (walkedBy kind s o)) ≡ P.refused e i column →
+    off : (e i column : ℕ) (o : Outcome) → outcomeOf kind s ≡ o → numbersOf (answered (walkedBy kind s o)) ≡ Verdict.refused e i column →
         Refusal kind s e i column × (atomsBy ta o ≡ rowsIn atomPlaces ta []) × (bondsBy tb o ≡ rowsIn bondPlaces tb [])
-    off e i column (whole x k) h q = said-apart q
+    off e i column (whole x k) h q = accepted-refused q
     off e i column (refused n j c) h q =
         let v : refused n j c ≡ refused e i column = cc in
         (outcome-refused kind s e i column (h ∙ v), refl, refl)
@@ -184,9 +178,9 @@ pub ruleset promise-laws = (promise-mol, promise-sd, promise-none)
 abbrev pub readBack : Reply → RecordRead
 readBack w = RecordRead.Read (w .n) (w .m) (w .chiral) (w .bytes) (w .lines) (w .header-end) (w .items-start) (w .items-end)
 
-backOf : Said → RecordRead
+backOf : Verdict Reply → RecordRead
 backOf (accepted w) = readBack w
-backOf (P.refused e i column) = RecordRead.Refused e i column
+backOf (Verdict.refused e i column) = RecordRead.Refused e i column
 
 back-is : (r : RecordRead) → backOf (numbersOf r) ≡ r
 unfolding backOf
@@ -199,37 +193,37 @@ same-read r r′ e = sym (back-is r) ∙ ap backOf e ∙ back-is r′
 none-viable : {ls : List Line} {i : ℕ} → FirstDead (ARecord limit) ls i → ¬ Viable (ARecord limit) ls
 none-viable {ls = ls} {i = i} f v = first-dead (ARecord limit) ls i f (v .0) (v .1)
 
-same-none : {s : Bytes} {e i c e′ i′ c′ : ℕ} → NoRecord s e i c → NoRecord s e′ i′ c′ → P.refused e i c ≡ P.refused e′ i′ c′
+same-none : {s : Bytes} {e i c e′ i′ c′ : ℕ} → NoRecord s e i c → NoRecord s e′ i′ c′ → _≡_ {A = Verdict Reply} (Verdict.refused e i c) (Verdict.refused e′ i′ c′)
 same-none {e = e} {i = i} {c = c} {e′ = e′} {i′ = i′} {c′ = c′} (NoRecord.line {ls = ls} h m k f j) (NoRecord.line {ls = ls′} h′ m′ k′ f′ j′) =
     let r : One.refused e i c ≡ One.refused e′ i′ c′ =
     sym (one-because limit ls e i c .1 j) ∙ ap (oneRecord limit) (lines-same h h′ .0) ∙ one-because limit ls′ e′ i′ c′ .1 j′ in
     cc
 same-none (NoRecord.line h m k f j) (NoRecord.cut-short h′ v bad) = absurd (none-viable f (subst (Viable (ARecord limit)) (sym (lines-same h h′ .0)) v))
 same-none (NoRecord.cut-short h v bad) (NoRecord.line h′ m′ k′ f′ j′) = absurd (none-viable f′ (subst (Viable (ARecord limit)) (lines-same h h′ .0) v))
-same-none (NoRecord.cut-short h v bad) (NoRecord.cut-short h′ v′ bad′) = ap (λ (ls : List Line). P.refused 19 (suc (length ls)) 1) (lines-same h h′ .0)
+same-none (NoRecord.cut-short h v bad) (NoRecord.cut-short h′ v′ bad′) = ap (λ (ls : List Line). Verdict.refused 19 (suc (length ls)) 1) (lines-same h h′ .0)
 
-same-refused : (k : FileKind) (s : Bytes) (e i c e′ i′ c′ : ℕ) → Refusal k s e i c → Refusal k s e′ i′ c′ → P.refused e i c ≡ P.refused e′ i′ c′
-same-refused molfile s e i c e′ i′ c′ p q = let r = same-refusal molfile s p q in cc
+same-refused : (k : FileKind) (s : Bytes) (e i c e′ i′ c′ : ℕ) → Refusal k s e i c → Refusal k s e′ i′ c′ → _≡_ {A = Verdict Reply} (Verdict.refused e i c) (Verdict.refused e′ i′ c′)
+same-refused molfile s e i c e′ i′ c′ p q = same-refusal molfile s p q
 same-refused sdfile s e i c e′ i′ c′ p q = same-none p q
 
 module _ (s : Bytes) (ta tb : List ℤ) where
-  pub reads-one : (k : FileKind) (r r′ : Said) (a b a′ b′ : List ℤ) → Reads k s ta tb r a b → Reads k s ta tb r′ a′ b′ → (r ≡ r′) × (a ≡ a′) × (b ≡ b′)
+  pub reads-one : (k : FileKind) (r r′ : Verdict Reply) (a b a′ b′ : List ℤ) → Reads k s ta tb r a b → Reads k s ta tb r′ a′ b′ → (r ≡ r′) × (a ≡ a′) × (b ≡ b′)
   reads-one k (accepted w) r′ a b a′ b′ p q =
       let x = p .accepts w .0 refl in
       let y = p .rows (x .0) (x .1) in
       let z = q .rows (x .0) (x .1) in
       (sym (q .accepts w .1 x), y .0 ∙ sym (z .0), y .1 ∙ sym (z .1))
-  reads-one k (P.refused e i c) (accepted w) a b a′ b′ p q =
+  reads-one k (Verdict.refused e i c) (accepted w) a b a′ b′ p q =
       let x = q .accepts w .0 refl in
       let y = p .rows (x .0) (x .1) in
       let z = q .rows (x .0) (x .1) in
       (p .accepts w .1 x, y .0 ∙ sym (z .0), y .1 ∙ sym (z .1))
-  reads-one k (P.refused e i c) (P.refused e′ i′ c′) a b a′ b′ p q =
+  reads-one k (Verdict.refused e i c) (Verdict.refused e′ i′ c′) a b a′ b′ p q =
       let y = p .refuses e i c refl in
       let z = q .refuses e′ i′ c′ refl in
       (same-refused k s e i c e′ i′ c′ (y .0) (z .0), y .1 ∙ sym (z .1), y .2 ∙ sym (z .2))
 
-  untouched-one : (e : ℕ) (r r′ : Said) (a b a′ b′ : List ℤ) → Untouched e ta tb r a b → Untouched e ta tb r′ a′ b′ → (r ≡ r′) × (a ≡ a′) × (b ≡ b′)
+  untouched-one : (e : ℕ) (r r′ : Verdict Reply) (a b a′ b′ : List ℤ) → Untouched e ta tb r a b → Untouched e ta tb r′ a′ b′ → (r ≡ r′) × (a ≡ a′) × (b ≡ b′)
   untouched-one e r r′ a b a′ b′ p q = (p .0 ∙ sym (q .0), p .1 ∙ sym (q .1), p .2 ∙ sym (q .2))
 
   module _ (kind : ℕ) (r r′ : RecordRead) (a b a′ b′ : List ℤ) (p : ReadPromise kind s ta tb r a b) (q : ReadPromise kind s ta tb r′ a′ b′) where

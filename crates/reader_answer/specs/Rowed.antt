@@ -10,6 +10,7 @@ use Rattle.text.specs.Text.{Bytes, Line, Lines}
 use Rattle.rules.specs.Forms.{Bond}
 use Rattle.rules.specs.Record.{Raw}
 use Rattle.judge_file.specs.Place.{FileKind}
+use Rattle.judge_file.specs.Verdict.{Verdict, refused}
 use Rattle.reader_pairs.specs.Keys.{keysOf}
 use Rattle.reader_rows.specs.Says.{rowPlaces, Says, emptied}
 use Rattle.reader_rows.specs.Marked.{marked}
@@ -20,7 +21,7 @@ use Rattle.reader_walk.specs.Walked.{walkOf}
 use Rattle.reader_answer.specs.declared.Counted.{Counted}
 use Rattle.reader_answer.specs.declared.RecordRead.{RecordRead}
 use Rattle.reader_answer.specs.Read.{answered, atomsBy, bondsBy, byRoom, byKind}
-use Rattle.reader_answer.specs.Promise.{Said, refused, numbersOf, Begins, Roomy, Reads, Untouched, kindNumber}
+use Rattle.reader_answer.specs.Promise.{Reply, numbersOf, Begins, Roomy, Reads, Untouched, kindNumber}
 
 -- ---- The answer and all memory after it
 
@@ -82,12 +83,12 @@ pub record Until (kind : FileKind) (s : Bytes) (i q : ℕ) : Type 0 where
   pub count : q ≡ length bonds
 
 -- an accepted record: a row for each of its bonds
-pub record Asks (kind : FileKind) (s : Bytes) (r : Said) (q : ℕ) : Type 0 where
+pub record Asks (kind : FileKind) (s : Bytes) (r : Verdict Reply) (q : ℕ) : Type 0 where
   pub accepts : (x : Raw) → Begins kind s x → q ≡ length (x .molecule .bonds)
   pub refuses : (e i column : ℕ) → r ≡ refused e i column → Until kind s i q
 
 -- rows that were ws say the record's pairs, or nothing after a refusal; past the rows of the limit nothing changes
-pub record RowsSay (kind : FileKind) (s : Bytes) (ws : List ℕ) (r : Said) (ws′ : List ℕ) : Type 0 where
+pub record RowsSay (kind : FileKind) (s : Bytes) (ws : List ℕ) (r : Verdict Reply) (ws′ : List ℕ) : Type 0 where
   pub size : length ws′ ≡ length ws
   pub past : drop rowPlaces ws′ ≡ drop rowPlaces ws
   pub says : (x : Raw) → Begins kind s x → Says ws′ (x .molecule .bonds)

@@ -14,6 +14,8 @@ use Rattle.rules.specs.Forms.{Bond, BondLine}
 use Rattle.rules.specs.Record.{Molecule, Raw, NoPairTwice, limit, atomPlaces, bondPlaces, Bonds, Parts1to5, Molfile, Record}
 use Rattle.judge_pairs.specs.Compared.{comparedIn, compared-apart}
 use Rattle.judge_file.specs.Place.{FileKind, molfile, sdfile, first}
+use Rattle.judge_file.specs.Verdict.{Verdict, accepted}
+use Rattle.judge_file.specs.SameVerdict.{accepted-refused}
 use Rattle.reader_pairs.specs.Keys.{keysOf, AllSmall}
 use Rattle.reader_rows.specs.Says.{rowPlaces, Says, emptied}
 use Rattle.reader_rows.specs.OneRows.{rows-one}
@@ -27,9 +29,8 @@ use Rattle.reader_answer.specs.declared.Counted.{Counted}
 use Rattle.reader_answer.specs.declared.RecordRead.{RecordRead}
 use Rattle.reader_answer.specs.Read.{answered, atomsBy, bondsBy, byKind, readAs, atomsAs, bondsAs, readOf, atomsAfter, bondsAfter}
 use Rattle.reader_answer.specs.Reading.{by-none}
-use Rattle.reader_answer.specs.Promise as P
-use Rattle.reader_answer.specs.Promise.{Said, accepted, numbersOf, Begins, Roomy, Reads, Untouched, kindNumber, ReadPromise}
-use Rattle.reader_answer.specs.Promised.{said-apart, by-room, kind-of, reads, same-read, reads-one}
+use Rattle.reader_answer.specs.Promise.{Reply, numbersOf, Begins, Roomy, Reads, Untouched, kindNumber, ReadPromise}
+use Rattle.reader_answer.specs.Promised.{by-room, kind-of, reads, same-read, reads-one}
 use Rattle.reader_answer.specs.Told.{linesOf, begins-outcome, outcome-begins}
 use Rattle.reader_answer.specs.Rows.{begins-sized}
 use Rattle.reader_answer.specs.Rowed.{After, after, kept, settled, bondKeys, rowsBy, readWith, rowedAs, rowedOf, Until, Asks, RowsSay, Kept, RowedPromise}
@@ -85,8 +86,8 @@ module _ (kind : FileKind) (s : Bytes) (ws : List ℕ) (room : rowPlaces ≤ len
         empty = λ e i column. off e i column (outcomeOf kind s);
       }
     where
-      off : (e i column : ℕ) (o : Outcome) → numbersOf (answered (walkedBy kind s o)) ≡ P.refused e i column → marked (emptied ws) (bondKeys o) ≡ emptied ws
-      off e i column (whole x k) q = said-apart q
+      off : (e i column : ℕ) (o : Outcome) → numbersOf (answered (walkedBy kind s o)) ≡ Verdict.refused e i column → marked (emptied ws) (bondKeys o) ≡ emptied ws
+      off e i column (whole x k) q = accepted-refused q
       off e i column (refused n j c) q = marked-none (emptied ws)
 
 -- as the code comes to them: emptied, walked over, and emptied again after a refusal
@@ -124,8 +125,8 @@ asks kind s =
       refuses = λ e i column. off e i column (outcomeOf kind s) refl;
     }
   where
-    off : (e i column : ℕ) (o : Outcome) → outcomeOf kind s ≡ o → numbersOf (answered (walkedBy kind s o)) ≡ P.refused e i column → Until kind s i (rowsAsked kind s)
-    off e i column (whole x k) h q = said-apart q
+    off : (e i column : ℕ) (o : Outcome) → outcomeOf kind s ≡ o → numbersOf (answered (walkedBy kind s o)) ≡ Verdict.refused e i column → Until kind s i (rowsAsked kind s)
+    off e i column (whole x k) h q = accepted-refused q
     off e i column (refused n j c) h q =
         let v : refused n j c ≡ refused e i column = cc in
         record {
@@ -138,7 +139,7 @@ asks kind s =
         }
 
 -- an accepted record with m bonds: m rows, where the search calls for m(m-1)/2 comparisons
-pub accepted-asked : (kind : FileKind) (s : Bytes) (r : Said) (q : ℕ) → Asks kind s r q → (x : Raw) → Begins kind s x →
+pub accepted-asked : (kind : FileKind) (s : Bytes) (r : Verdict Reply) (q : ℕ) → Asks kind s r q → (x : Raw) → Begins kind s x →
     (q ≡ x .molecule .counts .bonds) × (2 * comparedIn [] (x .molecule .bonds) ≡ q * (q - 1))
 accepted-asked kind s r q c x b =
     let e = c .accepts x b in
@@ -269,16 +270,16 @@ module _ (s : Bytes) (ta tb : List ℤ) (ws : List ℕ) where
       let e = came-one k (v .ls) i (u .bonds) (v .bonds) (subst (λ (t : List Line). Came k t i (u .bonds)) (lines-same (u .lines) (v .lines) .0) (u .came)) (v .came) in
       u .count ∙ ap length e ∙ sym (v .count)
 
-  abbrev Whole : FileKind → Said → List ℤ → List ℤ → List ℕ → ℕ → Type 0
+  abbrev Whole : FileKind → Verdict Reply → List ℤ → List ℤ → List ℕ → ℕ → Type 0
   Whole k r a b vs q = Reads k s ta tb r a b × RowsSay k s ws r vs × Asks k s r q
 
-  said-one : (k : FileKind) (r : Said) (a b a′ b′ : List ℤ) (vs us : List ℕ) (q q′ : ℕ) → Whole k r a b vs q → Whole k r a′ b′ us q′ → (vs ≡ us) × (q ≡ q′)
+  said-one : (k : FileKind) (r : Verdict Reply) (a b a′ b′ : List ℤ) (vs us : List ℕ) (q q′ : ℕ) → Whole k r a b vs q → Whole k r a′ b′ us q′ → (vs ≡ us) × (q ≡ q′)
   said-one k (accepted w) a b a′ b′ vs us q q′ p p′ =
       let x = p .0 .accepts w .0 refl in (
         rows-one (x .0 .molecule .bonds) vs us (p .1 .says (x .0) (x .1)) (p′ .1 .says (x .0) (x .1)) (p .1 .size ∙ sym (p′ .1 .size)) (p .1 .past ∙ sym (p′ .1 .past)),
         p .2 .accepts (x .0) (x .1) ∙ sym (p′ .2 .accepts (x .0) (x .1)),
       )
-  said-one k (P.refused n i c) a b a′ b′ vs us q q′ p p′ =
+  said-one k (Verdict.refused n i c) a b a′ b′ vs us q q′ p p′ =
       (p .1 .empty n i c refl ∙ sym (p′ .1 .empty n i c refl), until-one k i q q′ (p .2 .refuses n i c refl) (p′ .2 .refuses n i c refl))
 
   whole-one : (k : FileKind) (y z : After) → Whole k (numbersOf (y .read)) (y .atoms) (y .bonds) (y .rows) (y .asked) →
@@ -286,7 +287,7 @@ module _ (s : Bytes) (ta tb : List ℤ) (ws : List ℕ) where
   whole-one k y z p q =
       let t = reads-one s ta tb k (numbersOf (y .read)) (numbersOf (z .read)) (y .atoms) (y .bonds) (z .atoms) (z .bonds) (p .0) (q .0) in
       let v = said-one k (numbersOf (y .read)) (y .atoms) (y .bonds) (z .atoms) (z .bonds) (y .rows) (z .rows) (y .asked) (z .asked) p
-      (subst (λ (r : Said). Whole k r (z .atoms) (z .bonds) (z .rows) (z .asked)) (sym (t .0)) q) in
+      (subst (λ (r : Verdict Reply). Whole k r (z .atoms) (z .bonds) (z .rows) (z .asked)) (sym (t .0)) q) in
       rowed-same y z (t .0) (t .1) (t .2) (v .0) (v .1)
 
   module _ (kind : ℕ) (y z : After) (p : RowedPromise kind s ta tb ws y) (q : RowedPromise kind s ta tb ws z) where

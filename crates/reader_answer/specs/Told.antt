@@ -22,7 +22,6 @@ use Rattle.judge_file.specs.WalkText.{afterLines, after-cut}
 use Rattle.judge_file.specs.Promise.{accepted-mol}
 use Rattle.reader_walk.specs.Outcome.{whole, refused, ofOne, ofVerdict, outcomeOf}
 use Rattle.reader_walk.specs.Stands.{moleculeLines}
-use Rattle.reader_walk.specs.Promise as W
 use Rattle.reader_walk.specs.Promise.{RefusedAt, saidBy, verdict-checked}
 use Rattle.reader_answer.specs.Stretch.{Stretch, stretch-none, stretch-join, stretch-cut, stretch-after, stretch-at, after-order}
 use Rattle.reader_answer.specs.Promise.{Reply, Begins, Own, Told, Refusal}
@@ -226,7 +225,7 @@ pub outcome-begins : (kind : FileKind) (s : Bytes) (x : Raw) (k : ℕ) → outco
 unfolding outcomeOf
 outcome-begins molfile s x k h = go (verdict molfile limit s) refl h
   where
-    go : (v : Verdict) → verdict molfile limit s ≡ v → ofVerdict (length (cut s .lines)) v ≡ whole x k → Begins molfile s x
+    go : (v : Verdict (List Raw)) → verdict molfile limit s ≡ v → ofVerdict (length (cut s .lines)) v ≡ whole x k → Begins molfile s x
     go (Verdict.accepted []) e q = apart (sym q)
     go (Verdict.accepted (y ∷ ys)) e q =
         let g = accepted-mol limit s (y ∷ ys) .0 e in
@@ -252,11 +251,11 @@ pub outcome-refused : (kind : FileKind) (s : Bytes) (e i column : ℕ) → outco
 unfolding outcomeOf
 outcome-refused molfile s e i column h = go (verdict molfile limit s) refl h
   where
-    go : (v : Verdict) → verdict molfile limit s ≡ v → ofVerdict (length (cut s .lines)) v ≡ refused e i column → RefusedAt molfile s e i column
+    go : (v : Verdict (List Raw)) → verdict molfile limit s ≡ v → ofVerdict (length (cut s .lines)) v ≡ refused e i column → RefusedAt molfile s e i column
     go (Verdict.accepted []) w q = absurd (omega (arith, ap length (accepted-mol limit s [] .0 w .1)))
     go (Verdict.accepted (y ∷ ys)) w q = apart q
     go (Verdict.refused n j d) w q =
-        let v : saidBy (Verdict.refused n j d) ≡ W.refused e i column = (let a = same-numbers q in rw (a .0, a .1, a .2)) in
+        let v : saidBy (Verdict.refused n j d) ≡ Verdict.refused e i column = (let a = same-numbers q in rw (a .0, a .1, a .2)) in
         verdict-checked s molfile .refuses e i column (ap saidBy w ∙ v)
 outcome-refused sdfile s e i column h = go (oneRecord limit (cut s .lines)) refl h
   where

@@ -2,19 +2,19 @@
 use Prim.Native.Nat.{ℕ}
 use native.Mathlib.Omega.{arith}
 use mathlib.Core.Path.{_≡_, refl, sym, ap, _∙_}
-use mathlib.Core.List.{[], _∷_}
+use mathlib.Core.List.{List, [], _∷_}
 use lib.ListN.{length}
 use Rattle.text.specs.Text.{Bytes}
 use Rattle.text.specs.Cut.{cut}
-use Rattle.rules.specs.Record.{limit}
+use Rattle.rules.specs.Record.{Raw, limit}
 use Rattle.line_counts_bonds.specs.declared.Counts.{Counts}
 use Rattle.judge_file.specs.Place.{molfile, sdfile}
-use Rattle.judge_file.specs.Verdict.{Verdict, verdict}
+use Rattle.judge_file.specs.Verdict.{Verdict, accepted, refused, verdict}
 use Rattle.judge_file.specs.Promise.{accepted-mol}
 use Rattle.reader_end.specs.declared.Walked.{Walked}
 use Rattle.reader_walk.specs.Outcome.{ofVerdict, outcomeOf}
 use Rattle.reader_walk.specs.Walked.{walkedBy, walkOf}
-use Rattle.reader_walk.specs.Promise.{accepted, saidBy}
+use Rattle.reader_walk.specs.Promise.{saidBy}
 use Rattle.reader_walk.specs.Checking.{saidOf}
 use Rattle.reader_cursor.specs.declared.Cursor.{Cursor}
 use Rattle.reader_cursor.specs.declared.Ended.{Ended}
@@ -33,14 +33,14 @@ pub mol-said : (s : Bytes) (x : Walked) → x ≡ walkOf molfile s → numbersOf
 unfolding walkOf outcomeOf
 mol-said s x e = ap (λ (w : Walked). numbersOf (answerBy w)) e ∙ go (verdict molfile limit s) refl
   where
-    go : (v : Verdict) → verdict molfile limit s ≡ v → numbersOf (answerBy (walkedBy molfile s (ofVerdict (length (cut s .lines)) v))) ≡ saidBy v
-    go (Verdict.accepted []) h =
+    go : (v : Verdict (List Raw)) → verdict molfile limit s ≡ v → numbersOf (answerBy (walkedBy molfile s (ofVerdict (length (cut s .lines)) v))) ≡ saidBy v
+    go (accepted []) h =
         let g = accepted-mol limit s [] .0 h in
         absurd (omega (arith, ap length (g .1)))
-    go (Verdict.accepted (y ∷ ys)) h =
+    go (accepted (y ∷ ys)) h =
         let g = accepted-mol limit s (y ∷ ys) .0 h in
         ap accepted (sym (ap length (g .1)))
-    go (Verdict.refused n i c) h = refl
+    go (refused n i c) h = refl
 
 pub mol-whole : (s : Bytes) (x : Walked) (c : Counts) (len k h a b : ℕ) → x ≡ walkOf molfile s → x ≡ Walked.Whole c len k h a b → numbersOf (Answer.Accepted 1) ≡ saidOf molfile s
 mol-whole s x c len k h a b e q = ap (λ (w : Walked). numbersOf (answerBy w)) (sym q) ∙ mol-said s x e

@@ -3,11 +3,12 @@ use Prim.Native.Nat.{ℕ, zero, suc}
 use mathlib.Core.Path.{_≡_, refl, sym, ap, _∙_, subst}
 use Rattle.text.specs.Text.{Bytes}
 use Rattle.judge_file.specs.Place.{molfile, sdfile}
-use Rattle.reader_walk.specs.Promise.{Said, accepted, refused, CheckedAs, verdict-checked}
+use Rattle.judge_file.specs.Verdict.{Verdict, accepted, refused}
+use Rattle.reader_walk.specs.Promise.{CheckedAs, verdict-checked}
 use Rattle.reader_walk.specs.Checking.{saidOf, checkOf}
 use Rattle.reader_check.specs.declared.Answer.{Answer}
 
-abbrev pub numbersOf : Answer → Said
+abbrev pub numbersOf : Answer → Verdict ℕ
 numbersOf (Answer.Accepted count) = accepted count
 numbersOf (Answer.Refused e i column) = refused e i column
 
@@ -32,7 +33,7 @@ promised-sd kind s r e h = promised kind s r (h ∙ ap (λ (k : ℕ). checkOf k 
 pub promised-none : (kind : ℕ) (s : Bytes) → (kind ≡ 0 → ⊥) → (kind ≡ 1 → ⊥) → Promised kind s (Answer.Refused 1 0 0)
 promised-none kind s z o = promised kind s (Answer.Refused 1 0 0) (other kind z o)
   where
-    other : (kind : ℕ) → (kind ≡ 0 → ⊥) → (kind ≡ 1 → ⊥) → Said.refused 1 0 0 ≡ checkOf kind s
+    other : (kind : ℕ) → (kind ≡ 0 → ⊥) → (kind ≡ 1 → ⊥) → refused 1 0 0 ≡ checkOf kind s
     other zero z o = absurd (z refl)
     other (suc zero) z o = absurd (o refl)
     other (suc (suc k)) z o = refl

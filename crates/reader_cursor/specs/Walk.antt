@@ -66,7 +66,7 @@ endedBy (over xs c) = Ended.Over c
 endedBy (short xs c i) = Ended.Short c i
 endedBy (stopped xs c e i column) = Ended.Refused e i column
 
-abbrev pub verdictBy : Walk → Verdict
+abbrev pub verdictBy : Walk → Verdict (List Raw)
 verdictBy (over xs c) = Verdict.accepted xs
 verdictBy (short xs c i) = Verdict.refused 19 i 1
 verdictBy (stopped xs c e i column) = Verdict.refused e i column

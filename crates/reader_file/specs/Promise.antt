@@ -11,12 +11,13 @@ use borrow.Author.Tests.{ltb-true, ltb-false}
 use Rattle.text.specs.Text.{Bytes}
 use Rattle.rules.specs.Record.{limit, atomPlaces, bondPlaces}
 use Rattle.judge_file.specs.Place.{sdfile}
+use Rattle.judge_file.specs.Verdict.{Verdict}
 use Rattle.reader_cursor.specs.declared.Cursor.{Cursor}
 use Rattle.reader_cursor.specs.Walk.{past}
 use Rattle.reader_answer.specs.declared.RecordRead.{RecordRead}
 use Rattle.reader_answer.specs.Read.{readOf, atomsAfter, bondsAfter}
-use Rattle.reader_answer.specs.Promise as P
 use Rattle.reader_answer.specs.Promise.{Reply, Roomy, Reads}
+use Rattle.reader_answer.specs.Promise as P
 use Rattle.reader_answer.specs.Promised.{promise}
 use Rattle.reader_file.specs.declared.Next.{Next}
 use Rattle.reader_file.specs.Next.{Within, nextBy, nextAt, atomsAt, bondsAt, nextOn, atomsOn, bondsOn, nextOf, atomsNext, bondsNext}
@@ -37,9 +38,9 @@ numbersOf Next.End = end
 numbersOf (Next.Refused e i column) = refused e i column
 
 -- what the record reader says of the tail, from the file's start
-abbrev pub fromHere : Cursor → P.Said → Said
-fromHere c (P.Said.accepted w) = found w (past c (w .bytes) (w .lines))
-fromHere c (P.Said.refused e i column) = refused e (c .lines + i) column
+abbrev pub fromHere : Cursor → Verdict Reply → Said
+fromHere c (Verdict.accepted w) = found w (past c (w .bytes) (w .lines))
+fromHere c (Verdict.refused e i column) = refused e (c .lines + i) column
 
 -- ---- The promise
 
@@ -51,7 +52,7 @@ pub record NextPromise (c : Cursor) (s : Bytes) (ta tb : List ℤ) (r : Next) (t
   pub no-room : ¬ Roomy ta tb → Untouched (refused 2 0 0) ta tb r ta′ tb′
   pub at-end : Roomy ta tb → ¬ Within c s → Untouched end ta tb r ta′ tb′
   -- the record at the front of the tail, read as the record reader promises
-  pub reads : Roomy ta tb → Within c s → (w : P.Said) × (numbersOf r ≡ fromHere c w) × Reads sdfile (drop (c .at) s) ta tb w ta′ tb′
+  pub reads : Roomy ta tb → Within c s → (w : Verdict Reply) × (numbersOf r ≡ fromHere c w) × Reads sdfile (drop (c .at) s) ta tb w ta′ tb′
 
 -- ---- The definitions keep it
 

@@ -10,13 +10,13 @@ use Rattle.rules.specs.Record.{Raw, limit, GoodSDfile, atomPlaces, bondPlaces}
 use Rattle.rules.specs.Meaning.{meaning}
 use Rattle.reader_tables.specs.Row.{flat}
 use Rattle.judge_file.specs.Place.{sdfile}
-use Rattle.judge_file.specs.Verdict.{Verdict, verdict}
+use Rattle.judge_file.specs.Verdict.{Verdict, accepted, verdict}
+use Rattle.judge_file.specs.SameVerdict.{accepted-refused, same-reason}
 use Rattle.judge_file.specs.WalkText.{afterLines}
 use Rattle.judge_file.specs.Promise.{accepted-sd}
 use Rattle.reader_walk.specs.Outcome.{Outcome, whole, refused, outcomeOf}
 use Rattle.reader_walk.specs.Walked.{walkedBy, walkOf}
-use Rattle.reader_walk.specs.Promise as W
-use Rattle.reader_walk.specs.Promise.{accepted, saidBy}
+use Rattle.reader_walk.specs.Promise.{saidBy}
 use Rattle.reader_walk.specs.Checking.{saidOf}
 use Rattle.reader_cursor.specs.declared.Cursor.{Cursor}
 use Rattle.reader_cursor.specs.Walk.{fresh, past}
@@ -90,7 +90,7 @@ module _ (la lb : ℕ) (ra : atomPlaces ≤ la) (rb : bondPlaces ≤ lb) where
     over : (xs : List Raw) (c : Cursor) → After s xs c → length s ≤ c .at → Onward xs c
     over xs c g h =
         let all : xs ++ [] ≡ xs = append-nil xs in
-        let e : verdict sdfile limit s ≡ Verdict.accepted (xs ++ []) = after-good s xs c g h ∙ ap Verdict.accepted (sym all) in
+        let e : verdict sdfile limit s ≡ accepted (xs ++ []) = after-good s xs c g h ∙ ap accepted (sym all) in
         let n : c .records ≡ length (xs ++ []) = g .count ∙ sym (ap length all) in
         record {
           ys = [];
@@ -161,9 +161,6 @@ module _ (la lb : ℕ) (s : Bytes) where
 -- ---- A good file, and a refused one
 
 module _ (la lb : ℕ) (ra : atomPlaces ≤ la) (rb : bondPlaces ≤ lb) (s : Bytes) where
-  said-apart : {X : Type 0} {n e i column : ℕ} → accepted n ≡ W.Said.refused e i column → X
-  said-apart h = absurd (let z : _≡_ {A = ℕ} 0 1 = cc in omega arith)
-
   -- the records that the rules give are visited in order, and then the file is at its end
   pub visits-good : (xs : List Raw) → GoodSDfile s xs →
       (d : Cursor) × Visits la lb s fresh xs d end × (saidOf sdfile s ≡ accepted (d .records)) × (d .records ≡ length xs) × (d .at ≡ length s)
@@ -172,19 +169,19 @@ module _ (la lb : ℕ) (ra : atomPlaces ≤ la) (rb : bondPlaces ≤ lb) (s : By
       v : Visited la lb s
       v = visited la lb ra rb s
 
-      good : verdict sdfile limit s ≡ Verdict.accepted xs
+      good : verdict sdfile limit s ≡ accepted xs
       good = accepted-sd limit s xs .1 g
 
       go : (ys : List Raw) (d : Cursor) (r : Said) → Visits la lb s fresh ys d r → Ends la lb s ys d r →
           (d : Cursor) × Visits la lb s fresh xs d end × (saidOf sdfile s ≡ accepted (d .records)) × (d .records ≡ length xs) × (d .at ≡ length s)
       go ys d (found w e) q f = absurd f
       go ys d end q f =
-          let same : ys ≡ xs = (let e : Verdict.accepted ys ≡ Verdict.accepted xs = sym (accepted-sd limit s ys .1 (f .0)) ∙ good in cc) in
+          let same : ys ≡ xs = (let e : accepted ys ≡ accepted xs = sym (accepted-sd limit s ys .1 (f .0)) ∙ good in cc) in
           (d, subst (λ (zs : List Raw). Visits la lb s fresh zs d end) same q, f .1, f .2 ∙ ap length same, f .3)
-      go ys d (Said.refused e i column) q f = said-apart (sym (ap saidBy good) ∙ f)
+      go ys d (Said.refused e i column) q f = accepted-refused (sym (ap saidBy good) ∙ f)
 
   -- where the check refuses, the walk ends with that refusal
-  pub visits-refused : (e i column : ℕ) → saidOf sdfile s ≡ W.Said.refused e i column → (xs : List Raw) × (d : Cursor) × Visits la lb s fresh xs d (Said.refused e i column)
+  pub visits-refused : (e i column : ℕ) → saidOf sdfile s ≡ Verdict.refused e i column → (xs : List Raw) × (d : Cursor) × Visits la lb s fresh xs d (Said.refused e i column)
   visits-refused e i column h = go (v .records) (v .last) (v .answer) (v .visits) (v .ends)
     where
       v : Visited la lb s
@@ -193,8 +190,6 @@ module _ (la lb : ℕ) (ra : atomPlaces ≤ la) (rb : bondPlaces ≤ lb) (s : By
       go : (ys : List Raw) (d : Cursor) (r : Said) → Visits la lb s fresh ys d r → Ends la lb s ys d r →
           (xs : List Raw) × (d : Cursor) × Visits la lb s fresh xs d (Said.refused e i column)
       go ys d (found w c) q f = absurd f
-      go ys d end q f = said-apart (sym (f .1) ∙ h)
+      go ys d end q f = accepted-refused (sym (f .1) ∙ h)
       go ys d (Said.refused n j c) q f =
-          let same : W.Said.refused n j c ≡ W.Said.refused e i column = sym f ∙ h in
-          let r : Said.refused n j c ≡ Said.refused e i column = cc in
-          (ys, d, subst (Visits la lb s fresh ys d) r q)
+          (ys, d, same-reason (λ (n j c : ℕ). Visits la lb s fresh ys d (Said.refused n j c)) (sym f ∙ h) q)

@@ -9,7 +9,7 @@ use Rattle.rules.specs.Record.{Raw, GoodSDfile, atomPlaces, bondPlaces}
 use Rattle.rules.specs.Meaning.{meaning}
 use Rattle.reader_tables.specs.Row.{flat}
 use Rattle.judge_file.specs.Place.{sdfile}
-use Rattle.reader_walk.specs.Promise as W
+use Rattle.judge_file.specs.Verdict.{Verdict}
 use Rattle.reader_walk.specs.Checking.{saidOf}
 use Rattle.reader_cursor.specs.declared.Cursor.{Cursor}
 use Rattle.reader_cursor.specs.Walk.{fresh, past}
@@ -43,8 +43,8 @@ module _ (la lb : ℕ) (s : Bytes) where
   -- at the end: these are the file's records, as many as the check counts, and their bytes are all its bytes; a refusal is the check's
   abbrev pub Ends : List Raw → Cursor → Said → Type 0
   Ends xs d (found w e) = ⊥
-  Ends xs d end = GoodSDfile s xs × (saidOf sdfile s ≡ W.Said.accepted (d .records)) × (d .records ≡ length xs) × (d .at ≡ length s)
-  Ends xs d (refused e i column) = saidOf sdfile s ≡ W.Said.refused e i column
+  Ends xs d end = GoodSDfile s xs × (saidOf sdfile s ≡ Verdict.accepted (d .records)) × (d .records ≡ length xs) × (d .at ≡ length s)
+  Ends xs d (refused e i column) = saidOf sdfile s ≡ Verdict.refused e i column
 
   pub record Visited : Type 0 where
     pub records : List Raw

@@ -7,18 +7,18 @@ use lib.IntN.{ℤ}
 use Rattle.text.specs.Text.{Bytes}
 use Rattle.rules.specs.Record.{limit}
 use Rattle.judge_file.specs.Place.{FileKind, molfile, sdfile}
-use Rattle.judge_file.specs.Verdict.{verdict}
+use Rattle.judge_file.specs.Verdict.{Verdict, refused, verdict}
 use Rattle.reader_walk.specs.Outcome.{Outcome}
 use Rattle.reader_walk.specs.Walked.{Left}
-use Rattle.reader_walk.specs.Promise.{Said, saidBy}
+use Rattle.reader_walk.specs.Promise.{saidBy}
 
-abbrev pub saidOf : FileKind → Bytes → Said
+abbrev pub saidOf : FileKind → Bytes → Verdict ℕ
 saidOf kind s = saidBy (verdict kind limit s)
 
-abbrev pub checkOf : ℕ → Bytes → Said
+abbrev pub checkOf : ℕ → Bytes → Verdict ℕ
 checkOf zero s = saidOf molfile s
 checkOf (suc zero) s = saidOf sdfile s
-checkOf (suc (suc kind)) s = Said.refused 1 0 0
+checkOf (suc (suc kind)) s = refused 1 0 0
 
 -- ---- The lengths that the walk leaves
 

@@ -28,7 +28,7 @@ ofOne (One.refused e i column) = refused e i column
 ofOne (One.short i) = refused 19 i 1
 
 -- a molfile of so many lines; a good one has one record
-abbrev pub ofVerdict : ℕ → Verdict → Outcome
+abbrev pub ofVerdict : ℕ → Verdict (List Raw) → Outcome
 ofVerdict k (accepted []) = refused 19 (suc k) 1
 ofVerdict k (accepted (x ∷ xs)) = whole x k
 ofVerdict k (Verdict.refused e i column) = refused e i column

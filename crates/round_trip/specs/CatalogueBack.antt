@@ -7,7 +7,7 @@ use Rattle.text.specs.Text.{Bytes}
 use Rattle.rules.specs.Record.{Raw, GoodSDfile, atomPlaces, bondPlaces}
 use Rattle.rules.specs.Meaning.{Reading, meaning}
 use Rattle.judge_file.specs.Place.{sdfile}
-use Rattle.reader_walk.specs.Promise.{accepted}
+use Rattle.judge_file.specs.Verdict.{accepted}
 use Rattle.reader_walk.specs.Checking.{saidOf}
 use Rattle.writer_answer.specs.Catalogue.{catalogueText}
 use Rattle.writer_answer.specs.CataloguePromise.{text-stands}

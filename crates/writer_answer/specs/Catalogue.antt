@@ -12,8 +12,7 @@ use Rattle.rules.specs.Record.{Raw, limit, atomPlaces, bondPlaces}
 use Rattle.rules.specs.Meaning.{meaning}
 use Rattle.rules.specs.Canon.{canonFile}
 use Rattle.judge_file.specs.Place.{sdfile}
-use Rattle.judge_file.specs.Verdict.{Verdict, verdict}
-use Rattle.judge_parts.specs.Part.{PartVerdict, good, refused}
+use Rattle.judge_file.specs.Verdict.{Verdict, accepted, refused, verdict}
 use Rattle.reader_answer.specs.Read.{rowsIn}
 use Rattle.writer_record.specs.Write.{demand, andThen, roomy}
 use Rattle.writer_answer.specs.declared.Catalogue.{Catalogue}
@@ -24,31 +23,27 @@ catalogueText xs = text (canonFile (map meaning xs))
 
 -- ---- One test after the other
 
-abbrev pub ofFile : Verdict → PartVerdict (List Raw)
-ofFile (Verdict.accepted xs) = good xs
-ofFile (Verdict.refused e line column) = refused e line column
-
 -- the records of a file, if room of k bytes holds their text
-abbrev pub fitting : ℕ → PartVerdict (List Raw) → PartVerdict (List Raw)
-fitting k v = andThen v λ xs. demand (leb (length (catalogueText xs)) k) 20 (good xs)
+abbrev pub fitting : ℕ → Verdict (List Raw) → Verdict (List Raw)
+fitting k v = andThen v λ xs. demand (leb (length (catalogueText xs)) k) 20 (accepted xs)
 
 -- the file, then the room
-unfoldable pub fileFor : Bytes → ℕ → PartVerdict (List Raw)
-fileFor s k = fitting k (ofFile (verdict sdfile limit s))
+unfoldable pub fileFor : Bytes → ℕ → Verdict (List Raw)
+fileFor s k = fitting k (verdict sdfile limit s)
 
 -- before them the work tables
-unfoldable pub catalogueFor : List ℤ → List ℤ → Bytes → ℕ → PartVerdict (List Raw)
+unfoldable pub catalogueFor : List ℤ → List ℤ → Bytes → ℕ → Verdict (List Raw)
 catalogueFor ta tb s k = demand (roomy ta tb) 2 (fileFor s k)
 
 -- ---- The answer, the room, the work tables
 
-abbrev pub answerBy : PartVerdict (List Raw) → Catalogue
-answerBy (good xs) = Catalogue.Done (length (catalogueText xs)) (length xs)
+abbrev pub answerBy : Verdict (List Raw) → Catalogue
+answerBy (accepted xs) = Catalogue.Done (length (catalogueText xs)) (length xs)
 answerBy (refused e line column) = Catalogue.Refused e line column
 
 -- the text at the front and all else as it was; after a refusal, all as it was
-abbrev pub roomBy : Bytes → PartVerdict (List Raw) → Bytes
-roomBy r (good xs) = catalogueText xs ++ drop (length (catalogueText xs)) r
+abbrev pub roomBy : Bytes → Verdict (List Raw) → Bytes
+roomBy r (accepted xs) = catalogueText xs ++ drop (length (catalogueText xs)) r
 roomBy r (refused e line column) = r
 
 unfoldable pub catalogueOf : List ℤ → List ℤ → Bytes → ℕ → Catalogue

@@ -18,27 +18,29 @@ use Rattle.rules.specs.Canon.{canonFile}
 use Rattle.rules.specs.CanonGood.{canon-text, canon-only}
 use Rattle.rules.specs.Rewritten.{sdfile-good}
 use Rattle.judge_file.specs.Place.{sdfile}
-use Rattle.judge_file.specs.Verdict.{Verdict, verdict}
-use Rattle.judge_file.specs.Promise.{accepted-sd, refusal-bad}
-use Rattle.judge_file.specs.Promise as J
-use Rattle.reader_walk.specs.Promise as W
-use Rattle.reader_walk.specs.Promise.{RefusedAt, Checked, saidBy, verdict-checked, checked-one}
-use Rattle.judge_parts.specs.Part.{PartVerdict, good}
+use Rattle.judge_file.specs.Verdict.{Verdict, accepted, refused, verdict}
+use Rattle.judge_file.specs.SameVerdict.{accepted-refused, same-accepted, same-reason}
+use Rattle.judge_file.specs.Promise.{accepted-sd}
+use Rattle.reader_walk.specs.Promise.{RefusedAt, refused-at, at-refused}
 use Rattle.reader_answer.specs.Read.{rowsIn}
 use Rattle.reader_answer.specs.Promise.{Roomy}
 use Rattle.writer_record.specs.Write.{demand, roomy}
 use Rattle.writer_answer.specs.declared.Catalogue.{Catalogue}
-use Rattle.writer_answer.specs.Catalogue.{catalogueText, ofFile, fitting, fileFor, catalogueFor, answerBy, roomBy, catalogueOf, roomAfter, atomsAfter, bondsAfter}
+use Rattle.writer_answer.specs.Catalogue.{catalogueText, fitting, fileFor, catalogueFor, answerBy, roomBy, catalogueOf, roomAfter, atomsAfter, bondsAfter}
 
 -- ---- What an answer says
 
-pub data Said : Type 0 where
-  written : ℕ → ℕ → Said  -- the length of the text, and the number of its records
-  refused : ℕ → ℕ → ℕ → Said  -- number, line, column
+-- the length of the text, and the number of its records
+pub record Size : Type 0 where
+  pub text : ℕ
+  pub records : ℕ
 
-abbrev pub numbersOf : Catalogue → Said
+abbrev pub written : ℕ → ℕ → Verdict Size
+written l c = accepted (record { text = l; records = c })
+
+abbrev pub numbersOf : Catalogue → Verdict Size
 numbersOf (Catalogue.Done l c) = written l c
-numbersOf (Catalogue.Refused e line column) = Said.refused e line column
+numbersOf (Catalogue.Refused e line column) = refused e line column
 
 -- ---- The promise
 
@@ -58,8 +60,8 @@ pub record Promise (s : Bytes) (ta₀ tb₀ : List ℤ) (r₀ : Bytes) (a : Cata
   pub accepted : (l c : ℕ) →
       (numbersOf a ≡ written l c) ↔ ((xs : List Raw) × Roomy ta₀ tb₀ × GoodSDfile s xs × (l ≡ length (catalogueText xs)) × (c ≡ length xs) × (l ≤ length r₀))
   pub written : (xs : List Raw) → Roomy ta₀ tb₀ → GoodSDfile s xs → length (catalogueText xs) ≤ length r₀ → r ≡ catalogueText xs ++ drop (length (catalogueText xs)) r₀
-  pub refused : (e line column : ℕ) → (numbersOf a ≡ Said.refused e line column) ↔ Refusal s ta₀ tb₀ (length r₀) e line column
-  pub untouched : (e line column : ℕ) → numbersOf a ≡ Said.refused e line column → r ≡ r₀
+  pub refused : (e line column : ℕ) → (numbersOf a ≡ Verdict.refused e line column) ↔ Refusal s ta₀ tb₀ (length r₀) e line column
+  pub untouched : (e line column : ℕ) → numbersOf a ≡ Verdict.refused e line column → r ≡ r₀
   -- no row is left; tables without room are as they were
   pub emptied : Roomy ta₀ tb₀ → (ta ≡ rowsIn atomPlaces ta₀ []) × (tb ≡ rowsIn bondPlaces tb₀ [])
   pub kept : ¬ Roomy ta₀ tb₀ → (ta ≡ ta₀) × (tb ≡ tb₀)
@@ -108,119 +110,67 @@ roomy-false ta tb h = go (roomy ta tb) refl
 false-true : {X : Type 0} → false ≡ true → X
 false-true h = absurd (let z : _≡_ {A = ℕ} 0 1 = cc in omega arith)
 
--- ---- The file's refusal, both ways
-
-module _ (s : Bytes) where
-  refused-at : (e i c : ℕ) → verdict sdfile limit s ≡ Verdict.refused e i c → RefusedAt sdfile s e i c
-  refused-at e i c h = verdict-checked s sdfile .refuses e i c (ap saidBy h)
-
-  not-good : {e i c : ℕ} → RefusedAt sdfile s e i c → (xs : List Raw) → GoodSDfile s xs → ⊥
-  not-good (RefusedAt.line h m c f st) xs g = refusal-bad sdfile limit s (J.Refusal.line h m c f) (g .0, g .1, (xs, g .2))
-  not-good (RefusedAt.cut-short h v bad) xs g = bad (g .0, g .1, (xs, g .2))
-
-  said-refused : {e i c : ℕ} → RefusedAt sdfile s e i c → Checked sdfile s (W.Said.refused e i c)
-  said-refused {e} {i} {c} r =
-      record {
-        accepts = λ count. (
-          (λ h. absurd (let z : _≡_ {A = ℕ} 0 1 = cc in omega arith)),
-          (λ g. absurd (not-good r (g .0) (g .1))),
-        );
-        refuses = λ n j d h.
-            let ne : e ≡ n = cc in
-            let ij : i ≡ j = cc in
-            let cd : c ≡ d = cc in
-            subst (λ (z : ℕ). RefusedAt sdfile s n j z) cd (subst (λ (z : ℕ). RefusedAt sdfile s n z c) ij (subst (λ (z : ℕ). RefusedAt sdfile s z i c) ne r));
-      }
-
-  at-refused : (e i c : ℕ) → RefusedAt sdfile s e i c → verdict sdfile limit s ≡ Verdict.refused e i c
-  at-refused e i c r = go (verdict sdfile limit s) refl (checked-one 1 s (saidBy (verdict sdfile limit s)) (W.Said.refused e i c) (verdict-checked s sdfile) (said-refused r))
-    where
-      go : (v : Verdict) → verdict sdfile limit s ≡ v → saidBy (verdict sdfile limit s) ≡ W.Said.refused e i c → verdict sdfile limit s ≡ Verdict.refused e i c
-      go (Verdict.accepted xs) h q =
-          let z : W.Said.accepted (length xs) ≡ W.Said.refused e i c = sym (ap saidBy h) ∙ q in
-          absurd (let z : _≡_ {A = ℕ} 0 1 = cc in omega arith)
-      go (Verdict.refused n j d) h q =
-          let z : W.Said.refused n j d ≡ W.Said.refused e i c = sym (ap saidBy h) ∙ q in
-          let v : Verdict.refused n j d ≡ Verdict.refused e i c = cc in
-          h ∙ v
-
 -- ---- The definitions keep the promise
 
 module _ (s : Bytes) (ta tb : List ℤ) (k : ℕ) where
   -- what was found, with its reason
-  data Found : PartVerdict (List Raw) → Type 0 where
-    tables : ¬ Roomy ta tb → Found (PartVerdict.refused 2 0 0)
-    file : {e i c : ℕ} → Roomy ta tb → verdict sdfile limit s ≡ Verdict.refused e i c → Found (PartVerdict.refused e i c)
-    room : {xs : List Raw} → Roomy ta tb → verdict sdfile limit s ≡ Verdict.accepted xs → k < length (catalogueText xs) → Found (PartVerdict.refused 20 0 0)
-    fine : {xs : List Raw} → Roomy ta tb → verdict sdfile limit s ≡ Verdict.accepted xs → length (catalogueText xs) ≤ k → Found (good xs)
+  data Found : Verdict (List Raw) → Type 0 where
+    tables : ¬ Roomy ta tb → Found (refused 2 0 0)
+    file : {e i c : ℕ} → Roomy ta tb → verdict sdfile limit s ≡ refused e i c → Found (refused e i c)
+    room : {xs : List Raw} → Roomy ta tb → verdict sdfile limit s ≡ accepted xs → k < length (catalogueText xs) → Found (refused 20 0 0)
+    fine : {xs : List Raw} → Roomy ta tb → verdict sdfile limit s ≡ accepted xs → length (catalogueText xs) ≤ k → Found (accepted xs)
 
   found : Found (catalogueFor ta tb s k)
   unfolding catalogueFor fileFor
   found = go (roomy ta tb) refl (verdict sdfile limit s) refl
     where
-      fit : (xs : List Raw) → Roomy ta tb → verdict sdfile limit s ≡ Verdict.accepted xs → (t : Bool) → leb (length (catalogueText xs)) k ≡ t → Found (demand t 20 (good xs))
+      fit : (xs : List Raw) → Roomy ta tb → verdict sdfile limit s ≡ accepted xs → (t : Bool) → leb (length (catalogueText xs)) k ≡ t → Found (demand t 20 (accepted xs))
       fit xs r e true t = Found.fine r e (leb-true (length (catalogueText xs)) k t)
       fit xs r e false t = Found.room r e (leb-false (length (catalogueText xs)) k t)
 
-      go : (b : Bool) → roomy ta tb ≡ b → (v : Verdict) → verdict sdfile limit s ≡ v → Found (demand b 2 (fitting k (ofFile v)))
+      go : (b : Bool) → roomy ta tb ≡ b → (v : Verdict (List Raw)) → verdict sdfile limit s ≡ v → Found (demand b 2 (fitting k v))
       go false a v e = Found.tables (λ r. false-true (sym a ∙ roomy-agrees ta tb .1 r))
-      go true a (Verdict.accepted xs) e = fit xs (roomy-agrees ta tb .0 a) e (leb (length (catalogueText xs)) k) refl
-      go true a (Verdict.refused n i c) e = Found.file (roomy-agrees ta tb .0 a) e
+      go true a (accepted xs) e = fit xs (roomy-agrees ta tb .0 a) e (leb (length (catalogueText xs)) k) refl
+      go true a (refused n i c) e = Found.file (roomy-agrees ta tb .0 a) e
 
-  by-tables : ¬ Roomy ta tb → catalogueFor ta tb s k ≡ PartVerdict.refused 2 0 0
+  by-tables : ¬ Roomy ta tb → catalogueFor ta tb s k ≡ refused 2 0 0
   unfolding catalogueFor
   by-tables h = rw (roomy-false ta tb h)
 
   module _ (r : Roomy ta tb) where
-    by-file : (v : Verdict) → verdict sdfile limit s ≡ v → catalogueFor ta tb s k ≡ fitting k (ofFile v)
+    by-file : (v : Verdict (List Raw)) → verdict sdfile limit s ≡ v → catalogueFor ta tb s k ≡ fitting k v
     unfolding catalogueFor fileFor
     by-file v e = rw (roomy-agrees ta tb .1 r, e)
 
-    by-room : (xs : List Raw) → GoodSDfile s xs → k < length (catalogueText xs) → catalogueFor ta tb s k ≡ PartVerdict.refused 20 0 0
-    by-room xs g h = by-file (Verdict.accepted xs) (accepted-sd limit s xs .1 g) ∙ rw (lt-leb (length (catalogueText xs)) k h)
+    by-room : (xs : List Raw) → GoodSDfile s xs → k < length (catalogueText xs) → catalogueFor ta tb s k ≡ refused 20 0 0
+    by-room xs g h = by-file (accepted xs) (accepted-sd limit s xs .1 g) ∙ rw (lt-leb (length (catalogueText xs)) k h)
 
-    by-good : (xs : List Raw) → GoodSDfile s xs → length (catalogueText xs) ≤ k → catalogueFor ta tb s k ≡ good xs
-    by-good xs g h = by-file (Verdict.accepted xs) (accepted-sd limit s xs .1 g) ∙ rw (le-leb (length (catalogueText xs)) k h)
+    by-good : (xs : List Raw) → GoodSDfile s xs → length (catalogueText xs) ≤ k → catalogueFor ta tb s k ≡ accepted xs
+    by-good xs g h = by-file (accepted xs) (accepted-sd limit s xs .1 g) ∙ rw (le-leb (length (catalogueText xs)) k h)
 
-  done-by : (l c : ℕ) {v : PartVerdict (List Raw)} → Found v → answerBy v ≡ Catalogue.Done l c →
+  done-by : (l c : ℕ) {v : Verdict (List Raw)} → Found v → numbersOf (answerBy v) ≡ written l c →
       (xs : List Raw) × Roomy ta tb × GoodSDfile s xs × (l ≡ length (catalogueText xs)) × (c ≡ length xs) × (l ≤ k)
-  done-by l c (Found.tables h) q = absurd (let z : _≡_ {A = ℕ} 0 1 = cc in omega arith)
-  done-by l c (Found.file r e) q = absurd (let z : _≡_ {A = ℕ} 0 1 = cc in omega arith)
-  done-by l c (Found.room r e h) q = absurd (let z : _≡_ {A = ℕ} 0 1 = cc in omega arith)
+  done-by l c (Found.tables h) q = accepted-refused (sym q)
+  done-by l c (Found.file r e) q = accepted-refused (sym q)
+  done-by l c (Found.room r e h) q = accepted-refused (sym q)
   done-by l c (Found.fine {xs = xs} r e h) q =
-      let n : l ≡ length (catalogueText xs) = cc in
-      (xs, r, accepted-sd limit s xs .0 e, n, cc, omega (arith, h))
+      let n : l ≡ length (catalogueText xs) = sym (ap (λ (z : Size). z .text) (same-accepted q)) in
+      (xs, r, accepted-sd limit s xs .0 e, n, sym (ap (λ (z : Size). z .records) (same-accepted q)), omega (arith, h))
 
-  -- the same refusal
-  said-as : {e i c n j d : ℕ} → Catalogue.Refused e i c ≡ Catalogue.Refused n j d → Refusal s ta tb k e i c → Refusal s ta tb k n j d
-  said-as {e} {i} {c} {n} {j} {d} q f =
-      let en : e ≡ n = cc in
-      let ij : i ≡ j = cc in
-      let cd : c ≡ d = cc in
-      subst (λ (z : ℕ). Refusal s ta tb k n j z) cd (subst (λ (z : ℕ). Refusal s ta tb k n z c) ij (subst (λ (z : ℕ). Refusal s ta tb k z i c) en f))
+  refused-by : (n j d : ℕ) {v : Verdict (List Raw)} → Found v → numbersOf (answerBy v) ≡ refused n j d → Refusal s ta tb k n j d
+  refused-by n j d (Found.tables h) q = same-reason (Refusal s ta tb k) q (Refusal.tables h)
+  refused-by n j d (Found.file {e = e} {i = i} {c = c} r v) q = same-reason (Refusal s ta tb k) q (Refusal.file r (refused-at s e i c v))
+  refused-by n j d (Found.room {xs = xs} r e h) q = same-reason (Refusal s ta tb k) q (Refusal.room r (accepted-sd limit s xs .0 e) h)
+  refused-by n j d (Found.fine r e h) q = accepted-refused q
 
-  refused-by : (n j d : ℕ) {v : PartVerdict (List Raw)} → Found v → answerBy v ≡ Catalogue.Refused n j d → Refusal s ta tb k n j d
-  refused-by n j d (Found.tables h) q = said-as q (Refusal.tables h)
-  refused-by n j d (Found.file {e = e} {i = i} {c = c} r v) q = said-as q (Refusal.file r (refused-at s e i c v))
-  refused-by n j d (Found.room {xs = xs} r e h) q = said-as q (Refusal.room r (accepted-sd limit s xs .0 e) h)
-  refused-by n j d (Found.fine r e h) q = absurd (let z : _≡_ {A = ℕ} 0 1 = cc in omega arith)
-
-  by-refusal : {n j d : ℕ} → Refusal s ta tb k n j d → catalogueFor ta tb s k ≡ PartVerdict.refused n j d
+  by-refusal : {n j d : ℕ} → Refusal s ta tb k n j d → catalogueFor ta tb s k ≡ refused n j d
   by-refusal (Refusal.tables h) = by-tables h
-  by-refusal (Refusal.file {e = e} {line = i} {column = c} r f) = by-file r (Verdict.refused e i c) (at-refused s e i c f)
+  by-refusal (Refusal.file {e = e} {line = i} {column = c} r f) = by-file r (refused e i c) (at-refused s e i c f)
   by-refusal (Refusal.room {xs = xs} r g h) = by-room r xs g h
 
-done-is : (a : Catalogue) (l c : ℕ) → numbersOf a ≡ written l c → a ≡ Catalogue.Done l c
-done-is (Catalogue.Done n d) l c h = cc
-done-is (Catalogue.Refused e i d) l c h = absurd (let z : _≡_ {A = ℕ} 0 1 = cc in omega arith)
-
-refused-is : (a : Catalogue) (e i c : ℕ) → numbersOf a ≡ Said.refused e i c → a ≡ Catalogue.Refused e i c
-refused-is (Catalogue.Done n d) e i c h = absurd (let z : _≡_ {A = ℕ} 0 1 = cc in omega arith)
-refused-is (Catalogue.Refused n j d) e i c h = cc
-
-room-by : (r : Bytes) (n j d : ℕ) (v : PartVerdict (List Raw)) → answerBy v ≡ Catalogue.Refused n j d → roomBy r v ≡ r
-room-by r n j d (good xs) q = absurd (let z : _≡_ {A = ℕ} 0 1 = cc in omega arith)
-room-by r n j d (PartVerdict.refused e i c) q = refl
+room-by : (r : Bytes) (n j d : ℕ) (v : Verdict (List Raw)) → numbersOf (answerBy v) ≡ refused n j d → roomBy r v ≡ r
+room-by r n j d (accepted xs) q = accepted-refused q
+room-by r n j d (refused e i c) q = refl
 
 module _ (s : Bytes) (ta₀ tb₀ : List ℤ) (r₀ : Bytes) where
   promise : (a : Catalogue) (ta tb : List ℤ) (r : Bytes) → a ≡ catalogueOf ta₀ tb₀ s (length r₀) → r ≡ roomAfter ta₀ tb₀ s r₀ → ta ≡ atomsAfter ta₀ tb₀ → tb ≡ bondsAfter ta₀ tb₀ →
@@ -234,7 +184,7 @@ module _ (s : Bytes) (ta₀ tb₀ : List ℤ) (r₀ : Bytes) where
         atoms = ga;
         bonds = gb;
         accepted = λ l c. (
-          (λ h. done-by s ta₀ tb₀ k l c (found s ta₀ tb₀ k) (sym e ∙ done-is a l c h)),
+          (λ h. done-by s ta₀ tb₀ k l c (found s ta₀ tb₀ k) (sym (ap numbersOf e) ∙ h)),
           (λ x.
               ap numbersOf (e ∙ ap answerBy (by-good s ta₀ tb₀ k (x .1) (x .0) (x .2) (omega (arith, x .3, x .5))))
               ∙ ap (λ (n : ℕ). written n (length (x .0))) (sym (x .3))
@@ -242,10 +192,10 @@ module _ (s : Bytes) (ta₀ tb₀ : List ℤ) (r₀ : Bytes) where
         );
         written = λ xs y g h. f ∙ ap (roomBy r₀) (by-good s ta₀ tb₀ k y xs g h);
         refused = λ n j d. (
-          (λ h. refused-by s ta₀ tb₀ k n j d (found s ta₀ tb₀ k) (sym e ∙ refused-is a n j d h)),
+          (λ h. refused-by s ta₀ tb₀ k n j d (found s ta₀ tb₀ k) (sym (ap numbersOf e) ∙ h)),
           (λ h. ap numbersOf (e ∙ ap answerBy (by-refusal s ta₀ tb₀ k h))),
         );
-        untouched = λ n j d h. f ∙ room-by r₀ n j d (catalogueFor ta₀ tb₀ s k) (sym e ∙ refused-is a n j d h);
+        untouched = λ n j d h. f ∙ room-by r₀ n j d (catalogueFor ta₀ tb₀ s k) (sym (ap numbersOf e) ∙ h);
         emptied = λ y.
             let t = roomy-agrees ta₀ tb₀ .1 y in
             (ga ∙ ap (λ (b : Bool). cond b (rowsIn atomPlaces ta₀ []) ta₀) t, gb ∙ ap (λ (b : Bool). cond b (rowsIn bondPlaces tb₀ []) tb₀) t);

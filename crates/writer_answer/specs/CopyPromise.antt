@@ -30,7 +30,7 @@ use Rattle.reader_answer.specs.Promise as R
 use Rattle.reader_answer.specs.Promise.{Reply, Begins, Told, Roomy, kindNumber, ReadPromise}
 use Rattle.reader_answer.specs.Promised as P
 use Rattle.reader_answer.specs.Told.{linesOf, replyOf, told-reply, begins-told, begins-outcome, whole-lines, outcome-begins, outcome-refused}
-use Rattle.judge_parts.specs.Part.{PartVerdict, good}
+use Rattle.judge_file.specs.Verdict.{Verdict, accepted}
 use Rattle.writer_answer.specs.declared.Copied.{Copied}
 use Rattle.writer_answer.specs.Copy.{textOf, fitting, copyFor, answerBy, roomBy, copyOf, roomAfter}
 
@@ -60,9 +60,9 @@ pub record Lengths : Type 0 where
   pub text : ℕ
 
 -- what an answer says: these, or the number, line and column of a refusal
-abbrev pub numbersOf : Copied → PartVerdict Lengths
-numbersOf (Copied.Done t j l) = good (record { taken = t; lines = j; text = l })
-numbersOf (Copied.Refused e i c) = PartVerdict.refused e i c
+abbrev pub numbersOf : Copied → Verdict Lengths
+numbersOf (Copied.Done t j l) = accepted (record { taken = t; lines = j; text = l })
+numbersOf (Copied.Refused e i c) = Verdict.refused e i c
 
 -- tables ta₀ and tb₀ and room r₀ were lent, a is the answer, and they are then ta, tb and r
 pub record Promise (kind : ℕ) (s : Bytes) (ta₀ tb₀ : List ℤ) (r₀ : Bytes) (a : Copied) (ta tb : List ℤ) (r : Bytes) : Type 0 where
@@ -72,9 +72,9 @@ pub record Promise (kind : ℕ) (s : Bytes) (ta₀ tb₀ : List ℤ) (r₀ : Byt
   pub bonds : tb ≡ bondsAfter kind (length ta₀) s tb₀
   -- the tables are as a reading leaves them
   pub tables : ReadPromise kind s ta₀ tb₀ (readOf kind (length ta₀) (length tb₀) s) ta tb
-  pub accepted : (t j l : ℕ) → (numbersOf a ≡ good (record { taken = t; lines = j; text = l })) ↔ Copies kind s ta₀ tb₀ (length r₀) t j l
+  pub accepted : (t j l : ℕ) → (numbersOf a ≡ Verdict.accepted (record { taken = t; lines = j; text = l })) ↔ Copies kind s ta₀ tb₀ (length r₀) t j l
   pub written : (t j l : ℕ) (c : Copies kind s ta₀ tb₀ (length r₀) t j l) → r ≡ textOf (c .x) ++ drop l r₀
-  pub refused : (e i c : ℕ) → numbersOf a ≡ PartVerdict.refused e i c → (r ≡ r₀) × Refusal kind s ta₀ tb₀ (length r₀) e i c
+  pub refused : (e i c : ℕ) → numbersOf a ≡ Verdict.refused e i c → (r ≡ r₀) × Refusal kind s ta₀ tb₀ (length r₀) e i c
 
 -- no two answers, and no two memories
 pub one-promise : {kind : ℕ} {s : Bytes} {ta₀ tb₀ : List ℤ} {r₀ : Bytes} {a b : Copied} {ta tb ua ub : List ℤ} {r q : Bytes} →
@@ -212,9 +212,9 @@ room-by r s e i c (whole x j) q = refused-done (sym q)
 room-by r s e i c (refused n j d) q = refl
 
 -- the numbers tell the answer
-abbrev backOf : PartVerdict Lengths → Copied
-backOf (good w) = Copied.Done (w .taken) (w .lines) (w .text)
-backOf (PartVerdict.refused e i c) = Copied.Refused e i c
+abbrev backOf : Verdict Lengths → Copied
+backOf (accepted w) = Copied.Done (w .taken) (w .lines) (w .text)
+backOf (Verdict.refused e i c) = Copied.Refused e i c
 
 pub same-copied : (a b : Copied) → numbersOf a ≡ numbersOf b → a ≡ b
 same-copied a b h = sym (back a) ∙ ap backOf h ∙ back b

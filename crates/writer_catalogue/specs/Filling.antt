@@ -13,7 +13,7 @@ use Rattle.text.specs.Text.{Bytes}
 use Rattle.rules.specs.Record.{Raw, limit, atomPlaces, bondPlaces}
 use Rattle.rules.specs.Meaning.{meaning}
 use Rattle.judge_file.specs.Place.{sdfile}
-use Rattle.judge_file.specs.Verdict.{Verdict, verdict}
+use Rattle.judge_file.specs.Verdict.{Verdict, accepted, refused, verdict}
 use Rattle.judge_file.specs.WalkText.{afterLines}
 use Rattle.reader_walk.specs.Outcome.{whole, outcomeOf}
 use Rattle.reader_walk.specs.Walked.{Beside}
@@ -23,12 +23,11 @@ use Rattle.reader_cursor.specs.declared.Cursor.{Cursor}
 use Rattle.reader_cursor.specs.Walk.{fresh, past, Countable}
 use Rattle.reader_cursor.specs.After.{After, after-start, after-good, after-next, after-less, after-fits, good-more, good-whole, tail-is}
 use Rattle.writer_lines.specs.Laid.{Laid, laid-none, laid-join}
-use Rattle.judge_parts.specs.Part.{PartVerdict, good}
 use Rattle.reader_answer.specs.Read.{zeroed, rowsIn}
 use Rattle.writer_record.specs.Write.{canonText, demand}
 use Rattle.writer_answer.specs.declared.Catalogue.{Catalogue}
 use Rattle.writer_catalogue.specs.declared.Wrote.{Wrote}
-use Rattle.writer_answer.specs.Catalogue.{catalogueText, ofFile, fitting, fileFor, answerBy, roomBy}
+use Rattle.writer_answer.specs.Catalogue.{catalogueText, fitting, fileFor, answerBy, roomBy}
 use Rattle.writer_catalogue.specs.Sizes.{text-none, text-join, text-last}
 use Rattle.writer_catalogue.specs.Measuring.{beside-same, beside-join}
 use Rattle.writer_catalogue.specs.Writing.{Next, WroteNext}
@@ -40,21 +39,21 @@ pub record FileFits (s : Bytes) (ta tb : List ℤ) (r : Bytes) : Type 0 where
   pub atoms : atomPlaces ≤ length ta
   pub bonds : bondPlaces ≤ length tb
   pub xs : List Raw
-  pub is : verdict sdfile limit s ≡ Verdict.accepted xs
+  pub is : verdict sdfile limit s ≡ accepted xs
   pub enough : length (catalogueText xs) ≤ length r
 
-abbrev pub textIn : PartVerdict (List Raw) → Bytes
-textIn (good xs) = catalogueText xs
-textIn (PartVerdict.refused e i c) = []
+abbrev pub textIn : Verdict (List Raw) → Bytes
+textIn (accepted xs) = catalogueText xs
+textIn (refused e i c) = []
 
-file-good : (s : Bytes) (k : ℕ) (xs : List Raw) → verdict sdfile limit s ≡ Verdict.accepted xs → length (catalogueText xs) ≤ k → fileFor s k ≡ good xs
+file-good : (s : Bytes) (k : ℕ) (xs : List Raw) → verdict sdfile limit s ≡ accepted xs → length (catalogueText xs) ≤ k → fileFor s k ≡ accepted xs
 unfolding fileFor
 file-good s k xs e h = rw (e, le-leb (length (catalogueText xs)) k h)
 
 -- between two records: the cursor stands after those read, and their text is laid from the front of the room up to place `to`
 pub record Filling (s : Bytes) (ta₀ tb₀ : List ℤ) (r₀ : Bytes) (ta tb : List ℤ) (r : Bytes) (c : Cursor) (to : ℕ) : Type 0 where
   pub zs : List Raw
-  pub is : verdict sdfile limit s ≡ Verdict.accepted zs
+  pub is : verdict sdfile limit s ≡ accepted zs
   pub enough : length (catalogueText zs) ≤ length r₀
   pub xs : List Raw
   pub after : After s xs c
@@ -91,7 +90,7 @@ module _ (s : Bytes) (ta₀ tb₀ : List ℤ) (r₀ : Bytes) (ta tb : List ℤ) 
   filling-end h =
       let few : length (catalogueText (g .xs)) ≤ length r₀ = omega (arith, g .laid .next, g .laid .fits) in
       let all = file-good s (length r₀) (g .xs) (after-good s (g .xs) c (g .after) h) few in
-      subst (λ (v : PartVerdict (List Raw)). Laid r₀ r 0 (textIn v) to) (sym all) (g .laid)
+      subst (λ (v : Verdict (List Raw)). Laid r₀ r 0 (textIn v) to) (sym all) (g .laid)
 
   module _ (some : c .at < length s) where
     -- the next record of the file
@@ -183,7 +182,7 @@ pub ruleset filling-laws = (
 module _ (s r : Bytes) (j : Catalogue) (ej : j ≡ answerBy (fileFor s (length r))) where
   record Passed (l c : ℕ) : Type 0 where
     xs : List Raw
-    is : verdict sdfile limit s ≡ Verdict.accepted xs
+    is : verdict sdfile limit s ≡ accepted xs
     enough : length (catalogueText xs) ≤ length r
     count : c ≡ length xs
 
@@ -192,14 +191,14 @@ module _ (s r : Bytes) (j : Catalogue) (ej : j ≡ answerBy (fileFor s (length r
     unfolding fileFor
     passed = go (verdict sdfile limit s) refl (sym ej ∙ q)
       where
-        fit : (xs : List Raw) → verdict sdfile limit s ≡ Verdict.accepted xs → (b : Bool) → leb (length (catalogueText xs)) (length r) ≡ b →
-            answerBy (demand b 20 (good xs)) ≡ Catalogue.Done l c → Passed l c
+        fit : (xs : List Raw) → verdict sdfile limit s ≡ accepted xs → (b : Bool) → leb (length (catalogueText xs)) (length r) ≡ b →
+            answerBy (demand b 20 (accepted xs)) ≡ Catalogue.Done l c → Passed l c
         fit xs e true o z = record { xs = xs; is = e; enough = leb-true (length (catalogueText xs)) (length r) o; count = cc }
         fit xs e false o z = absurd (let z : _≡_ {A = ℕ} 0 1 = cc in omega arith)
 
-        go : (v : Verdict) → verdict sdfile limit s ≡ v → answerBy (fitting (length r) (ofFile v)) ≡ Catalogue.Done l c → Passed l c
-        go (Verdict.accepted xs) e z = fit xs e (leb (length (catalogueText xs)) (length r)) refl z
-        go (Verdict.refused n i d) e z = absurd (let z : _≡_ {A = ℕ} 0 1 = cc in omega arith)
+        go : (v : Verdict (List Raw)) → verdict sdfile limit s ≡ v → answerBy (fitting (length r) v) ≡ Catalogue.Done l c → Passed l c
+        go (accepted xs) e z = fit xs e (leb (length (catalogueText xs)) (length r)) refl z
+        go (refused n i d) e z = absurd (let z : _≡_ {A = ℕ} 0 1 = cc in omega arith)
 
     pub passed-fits : (ta₀ tb₀ ta tb : List ℤ) → Beside atomPlaces ta₀ ta → Beside bondPlaces tb₀ tb → FileFits s ta tb r
     passed-fits ta₀ tb₀ ta tb a b =
@@ -211,12 +210,12 @@ module _ (s r : Bytes) (j : Catalogue) (ej : j ≡ answerBy (fileFor s (length r
           enough = passed .enough;
         }
 
-    file-is : fileFor s (length r) ≡ good (passed .xs)
+    file-is : fileFor s (length r) ≡ accepted (passed .xs)
     file-is = file-good s (length r) (passed .xs) (passed .is) (passed .enough)
 
     module _ (r′ : Bytes) (e : ℕ) (p : Laid r r′ 0 (textIn (fileFor s (length r))) e) where
       laid : Laid r r′ 0 (catalogueText (passed .xs)) e
-      laid = subst (λ (v : PartVerdict (List Raw)). Laid r r′ 0 (textIn v) e) file-is p
+      laid = subst (λ (v : Verdict (List Raw)). Laid r r′ 0 (textIn v) e) file-is p
 
       pub passed-answer : Catalogue.Done e c ≡ answerBy (fileFor s (length r))
       passed-answer =
@@ -236,9 +235,9 @@ module _ (s r : Bytes) (j : Catalogue) (ej : j ≡ answerBy (fileFor s (length r
     pub stopped-room : r ≡ roomBy r (fileFor s (length r))
     stopped-room = go (fileFor s (length r)) (sym ej ∙ q)
       where
-        go : (v : PartVerdict (List Raw)) → answerBy v ≡ Catalogue.Refused e i c → r ≡ roomBy r v
-        go (good xs) z = absurd (let z : _≡_ {A = ℕ} 0 1 = cc in omega arith)
-        go (PartVerdict.refused n k d) z = refl
+        go : (v : Verdict (List Raw)) → answerBy v ≡ Catalogue.Refused e i c → r ≡ roomBy r v
+        go (accepted xs) z = absurd (let z : _≡_ {A = ℕ} 0 1 = cc in omega arith)
+        go (refused n k d) z = refl
 
 -- ---- The work tables
 

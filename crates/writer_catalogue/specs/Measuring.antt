@@ -12,18 +12,17 @@ use Rattle.text.specs.Text.{Bytes}
 use Rattle.rules.specs.Record.{Raw, atomPlaces, bondPlaces}
 use Rattle.rules.specs.Meaning.{meaning}
 use Rattle.judge_file.specs.Place.{sdfile}
-use Rattle.judge_file.specs.Verdict.{Verdict}
+use Rattle.judge_file.specs.Verdict.{Verdict, accepted}
 use Rattle.judge_file.specs.WalkText.{afterLines}
 use Rattle.reader_walk.specs.Outcome.{Outcome, whole, refused, outcomeOf}
 use Rattle.reader_walk.specs.Walked.{Beside}
 use Rattle.reader_cursor.specs.declared.Cursor.{Cursor}
 use Rattle.reader_cursor.specs.Walk.{fresh, past, Countable}
 use Rattle.reader_cursor.specs.After.{After, after-start, after-good, after-next, after-less, after-fits, after-line, after-verdict, tail-is}
-use Rattle.judge_parts.specs.Part.{good}
 use Rattle.writer_record.specs.Write.{canonText, demand}
 use Rattle.writer_answer.specs.declared.Catalogue.{Catalogue}
 use Rattle.writer_catalogue.specs.declared.Measured.{Measured}
-use Rattle.writer_answer.specs.Catalogue.{catalogueText, ofFile, fitting, fileFor, answerBy, upTo}
+use Rattle.writer_answer.specs.Catalogue.{catalogueText, fitting, fileFor, answerBy, upTo}
 use Rattle.writer_catalogue.specs.Sizes.{up-in, up-over, up-more, text-none, text-last, measuredBy}
 
 -- ---- The end of a good file
@@ -41,10 +40,10 @@ conclude-in needed c k h = rw (le-ltb k needed h)
 
 pub ruleset conclude-laws = (conclude-over, conclude-in)
 
-concluded : (xs : List Raw) (k : ℕ) → concludeBy (upTo k (length (catalogueText xs))) (length xs) k ≡ answerBy (fitting k (good xs))
+concluded : (xs : List Raw) (k : ℕ) → concludeBy (upTo k (length (catalogueText xs))) (length xs) k ≡ answerBy (fitting k (accepted xs))
 concluded xs k = go (leb (length (catalogueText xs)) k) refl
   where
-    go : (b : Bool) → leb (length (catalogueText xs)) k ≡ b → concludeBy (upTo k (length (catalogueText xs))) (length xs) k ≡ answerBy (demand b 20 (good xs))
+    go : (b : Bool) → leb (length (catalogueText xs)) k ≡ b → concludeBy (upTo k (length (catalogueText xs))) (length xs) k ≡ answerBy (demand b 20 (accepted xs))
     go true e =
         let h = leb-true (length (catalogueText xs)) k e in
         ap (λ (n : ℕ). concludeBy n (length xs) k) (up-in k (length (catalogueText xs)) h) ∙ sym (conclude-in (length (catalogueText xs)) (length xs) k h)
@@ -98,7 +97,7 @@ module _ (s : Bytes) (ta₀ tb₀ ta tb : List ℤ) (k : ℕ) (c : Cursor) (need
   measuring-end r h e =
       e ∙ ap₂ (λ (n d : ℕ). concludeBy n d k) (g .size) (g .after .count)
       ∙ concluded (g .xs) k
-      ∙ sym (ap (λ (z : Verdict). answerBy (fitting k (ofFile z))) (after-good s (g .xs) c (g .after) h))
+      ∙ sym (ap (λ (z : Verdict (List Raw)). answerBy (fitting k z)) (after-good s (g .xs) c (g .after) h))
 
   module _ (some : c .at < length s) (x : Measured)
       (ex : x ≡ measuredBy (take (length s - c .at) (drop (c .at) s)) needed k (outcomeOf sdfile (take (length s - c .at) (drop (c .at) s)))) where
@@ -174,7 +173,7 @@ module _ (s : Bytes) (ta₀ tb₀ ta tb : List ℤ) (k : ℕ) (c : Cursor) (need
       pub measuring-refused : (i : ℕ) → i ≡ c .lines + j → Catalogue.Refused e i d ≡ answerBy (fileFor s k)
       unfolding fileFor
       measuring-refused i h =
-          ap (λ (l : ℕ). Catalogue.Refused e l d) h ∙ sym (ap (λ (z : Verdict). answerBy (fitting k (ofFile z))) (after-verdict s (g .xs) c (g .after) some e j d is-refused))
+          ap (λ (l : ℕ). Catalogue.Refused e l d) h ∙ sym (ap (λ (z : Verdict (List Raw)). answerBy (fitting k z)) (after-verdict s (g .xs) c (g .after) some e j d is-refused))
 
     pub measured-atoms : (ta′ : List ℤ) → Beside atomPlaces ta ta′ → Beside atomPlaces ta₀ ta′
     measured-atoms ta′ b = beside-join (g .atoms) b

@@ -15,7 +15,7 @@ use Rattle.judge_file.specs.Place.{FileKind, molfile, sdfile}
 use Rattle.reader_walk.specs.Outcome.{Outcome, whole, refused, outcomeOf}
 use Rattle.reader_walk.specs.Walked.{walkedBy, walkOf}
 use Rattle.writer_lines.specs.Laid.{Laid}
-use Rattle.judge_parts.specs.Part.{good}
+use Rattle.judge_file.specs.Verdict.{accepted}
 use Rattle.reader_answer.specs.declared.RecordRead.{RecordRead}
 use Rattle.reader_answer.specs.Read.{answered, readAs, readOf, atomsAfter, bondsAfter, RowsLeft}
 use Rattle.reader_answer.specs.Promise.{Roomy, kindNumber}
@@ -164,7 +164,7 @@ module _ (f : FileKind) (s : Bytes) (ta₀ tb₀ ta tb : List ℤ) (left : RowsL
       abbrev fits : Bool
       fits = leb (length (textOf (it .x))) (length r₀)
 
-      text-is : textFor g (length r₀) ≡ demand fits 20 (good (textOf (it .x)))
+      text-is : textFor g (length r₀) ≡ demand fits 20 (accepted (textOf (it .x)))
       unfolding textFor
       text-is = rw (record-agrees g (meaning (it .x)) .1 (it .accepted))
 
@@ -175,11 +175,11 @@ module _ (f : FileKind) (s : Bytes) (ta₀ tb₀ ta tb : List ℤ) (left : RowsL
         p .written .room ∙ ap (W.room r₀) text-is ∙ stood fits ∙ ap (λ (o : Outcome). roomBy r₀ (fitting (length r₀) o)) (sym (it .is)),
       )
         where
-          said : (t : Bool) → copiedOf len k (W.answer (demand t 20 (good (textOf (it .x))))) ≡ answerBy s (cond t (whole (it .x) k) (refused 20 0 0))
+          said : (t : Bool) → copiedOf len k (W.answer (demand t 20 (accepted (textOf (it .x))))) ≡ answerBy s (cond t (whole (it .x) k) (refused 20 0 0))
           said true = ap (λ (z : ℕ). Copied.Done z k (length (textOf (it .x)))) (it .size)
           said false = refl
 
-          stood : (t : Bool) → W.room r₀ (demand t 20 (good (textOf (it .x)))) ≡ roomBy r₀ (cond t (whole (it .x) k) (refused 20 0 0))
+          stood : (t : Bool) → W.room r₀ (demand t 20 (accepted (textOf (it .x)))) ≡ roomBy r₀ (cond t (whole (it .x) k) (refused 20 0 0))
           stood true = refl
           stood false = refl
 

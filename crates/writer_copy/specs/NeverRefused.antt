@@ -9,7 +9,8 @@ use lib.IntN.{ℤ}
 use Rattle.text.specs.Text.{Bytes}
 use Rattle.rules.specs.Meaning.{Reading, meaning}
 use Rattle.judge_file.specs.Place.{FileKind}
-use Rattle.judge_parts.specs.Part.{PartVerdict, good, refused}
+use Rattle.judge_file.specs.Verdict.{accepted, refused}
+use Rattle.judge_file.specs.SameVerdict.{accepted-refused}
 use Rattle.judge_parts.specs.Written.{headersText, itemsText, writtenHeaders, writtenItems}
 use Rattle.judge_parts.specs.PartAgree.{good-headers, good-items}
 use Rattle.writer_record.specs.Write.{Given}
@@ -18,11 +19,11 @@ use Rattle.writer_record.specs.Promise.{Accepted}
 use Rattle.writer_copy.specs.Bridge.{givenOf, Front}
 
 module _ (g : Given) (x : Reading) (a : Accepted g x) where
-  pub headers-are : writtenHeaders (g .headers) ≡ good (headersText (x .headers))
+  pub headers-are : writtenHeaders (g .headers) ≡ accepted (headersText (x .headers))
   unfolding writtenHeaders
   headers-are = rw (good-headers (g .headers) (x .headers) .1 (a .headers))
 
-  pub items-are : writtenItems (g .items) ≡ good (itemsText (x .items))
+  pub items-are : writtenItems (g .items) ≡ accepted (itemsText (x .items))
   unfolding writtenItems
   items-are = rw (good-items (g .items) (x .items) .1 (a .items))
 
@@ -30,14 +31,11 @@ module _ (g : Given) (x : Reading) (a : Accepted g x) where
   good-parts = record { headers = rw headers-are; items = rw items-are }
 
   -- the arms for a refused header line or item
-  good-refused : {X : Type 0} {bs : Bytes} {e i c : ℕ} → _≡_ {A = PartVerdict Bytes} (good bs) (refused e i c) → X
-  good-refused h = let z : _≡_ {A = ℕ} 0 1 = cc in absurd (omega arith)
-
   pub headers-never : {X : Type 0} (e i c : ℕ) → writtenHeaders (g .headers) ≡ refused e i c → X
-  headers-never e i c h = good-refused (sym headers-are ∙ h)
+  headers-never e i c h = accepted-refused (sym headers-are ∙ h)
 
   pub items-never : {X : Type 0} (e i c : ℕ) → writtenItems (g .items) ≡ refused e i c → X
-  items-never e i c h = good-refused (sym items-are ∙ h)
+  items-never e i c h = accepted-refused (sym items-are ∙ h)
 
 -- so it is for the record at the front of a text
 pub front-parts : (f : FileKind) (t : Bytes) (ta tb : List ℤ) (n m chiral len k h a b : ℕ) → Front f t ta tb n m chiral len k h a b →

@@ -12,7 +12,7 @@ use Rattle.text.specs.Find.{lineAt, isBlank}
 use Rattle.text.specs.Cut.{line-within}
 use Rattle.text.specs.declared.LineAt.{LineAt}
 use Rattle.line_judged.specs.Known.{Standing, Header, Named}
-use Rattle.judge_parts.specs.Part.{PartVerdict, good}
+use Rattle.judge_file.specs.Verdict.{Verdict, accepted}
 use Rattle.judge_parts.specs.Written.{textOf, writtenHeaders, writtenItems}
 use Rattle.writer_parts.specs.Lengths.{line-length, title-length, name-length}
 use Rattle.writer_parts.specs.Step.{ended, turnAs, taken, Next, placeOf, writtenFrom}
@@ -74,9 +74,9 @@ pub record Sizing (start : Place) (s : Bytes) (p : Place) (at size : ℕ) : Type
   pub inside : at ≤ length s
   pub small : size ≤ 2 * at
   pub measured : size ≡ length out
-  pub whole : fromHere p out line s at ≡ good (textOf (writtenFrom start s))
+  pub whole : fromHere p out line s at ≡ accepted (textOf (writtenFrom start s))
 
-sizing-start : (p : Place) (s : Bytes) → writtenFrom p s ≡ good (textOf (writtenFrom p s)) → Sizing p s p 0 0
+sizing-start : (p : Place) (s : Bytes) → writtenFrom p s ≡ accepted (textOf (writtenFrom p s)) → Sizing p s p 0 0
 sizing-start p s h = record { out = []; line = 1; inside = omega arith; small = omega arith; measured = refl; whole = sym (here-start p s) ∙ h }
 
 module _ (start : Place) (s : Bytes) (p : Place) (at size : ℕ) (g : Sizing start s p at size) where
@@ -133,11 +133,11 @@ module _ (start : Place) (s : Bytes) (p : Place) (at size : ℕ) (g : Sizing sta
 
 -- ---- Items
 
-pub items-start : (s : Bytes) → writtenItems s ≡ good (textOf (writtenItems s)) → Sizing Place.Items s (placeOf false) 0 0
-items-start s h = sizing-start Place.Items s (subst (λ (v : PartVerdict Bytes). v ≡ good (textOf v)) (sym (items-written s)) h)
+pub items-start : (s : Bytes) → writtenItems s ≡ accepted (textOf (writtenItems s)) → Sizing Place.Items s (placeOf false) 0 0
+items-start s h = sizing-start Place.Items s (subst (λ (v : Verdict Bytes). v ≡ accepted (textOf v)) (sym (items-written s)) h)
 
 pub items-end : (s : Bytes) (p : Place) (at size : ℕ) → Sizing Place.Items s p at size → length s ≤ at → size ≡ length (textOf (writtenItems s))
-items-end s p at size g h = sizing-end Place.Items s p at size g h ∙ ap (λ (v : PartVerdict Bytes). length (textOf v)) (items-written s)
+items-end s p at size g h = sizing-end Place.Items s p at size g h ∙ ap (λ (v : Verdict Bytes). length (textOf v)) (items-written s)
 
 pub ruleset items-laws = (items-start, items-end, sizing-line, sizing-low, sizing-high, sizing-less, sizing-taken, sizing-fits, sizing-next)
 
@@ -148,13 +148,13 @@ pub record Heading (s : Bytes) (at size : ℕ) : Type 0 where
   pub head : Heads p
   pub sizing : Sizing Place.First s p at size
 
-pub headers-start : (s : Bytes) → writtenHeaders s ≡ good (textOf (writtenHeaders s)) → Heading s 0 0
+pub headers-start : (s : Bytes) → writtenHeaders s ≡ accepted (textOf (writtenHeaders s)) → Heading s 0 0
 headers-start s h =
-    record { p = Place.First; head = Heads.first; sizing = sizing-start Place.First s (subst (λ (v : PartVerdict Bytes). v ≡ good (textOf v)) (sym (headers-written s)) h) }
+    record { p = Place.First; head = Heads.first; sizing = sizing-start Place.First s (subst (λ (v : Verdict Bytes). v ≡ accepted (textOf v)) (sym (headers-written s)) h) }
 
 module _ (s : Bytes) (at size : ℕ) (g : Heading s at size) where
   pub headers-end : length s ≤ at → size ≡ length (textOf (writtenHeaders s))
-  headers-end h = sizing-end Place.First s (g .p) at size (g .sizing) h ∙ ap (λ (v : PartVerdict Bytes). length (textOf v)) (headers-written s)
+  headers-end h = sizing-end Place.First s (g .p) at size (g .sizing) h ∙ ap (λ (v : Verdict Bytes). length (textOf v)) (headers-written s)
 
   pub heading-line : at < length s → Standing s at
   heading-line some = sizing-line Place.First s (g .p) at size (g .sizing) some

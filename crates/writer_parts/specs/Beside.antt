@@ -15,10 +15,11 @@ use Rattle.rules.specs.Write.{headerText}
 use Rattle.judge_line.specs.Got.{Got, got, bad, then, need}
 use Rattle.judge_line.specs.Field.{noneFound, within}
 use Rattle.judge_line.specs.Judge.{firstHeaderOf, itemOf, ItemOrEnd, title, close, valueOf, ValueOrBlank, value, blank}
-use Rattle.judge_parts.specs.Part.{PartVerdict, Run, at, stopped, run, conclude, verdictFrom}
+use Rattle.judge_file.specs.Verdict.{Verdict, mapped}
+use Rattle.judge_parts.specs.Part.{Run, at, stopped, run, conclude, verdictFrom}
 use Rattle.judge_parts.specs.Part.{HeaderPlace, first, second, third, full, headerLine, headerTurn, headersEnd, headersVerdict}
 use Rattle.judge_parts.specs.Part.{ItemPlace, items, values, afterItem, afterValue, itemTurn, itemsEnd, itemsVerdict}
-use Rattle.judge_parts.specs.Written.{headersText, itemLines, itemsText, mapGood, writtenHeaders, writtenItems}
+use Rattle.judge_parts.specs.Written.{headersText, itemLines, itemsText, writtenHeaders, writtenItems}
 use Rattle.writer_parts.specs.Step.{ended, Taken, taken, itemTaken, valueTaken, lineAs, turnAs, Standing, standingTurn, standingEnd, judged, writtenFrom}
 use Rattle.judge_parts.specs.Runs.{run-next, run-stop}
 use Rattle.writer_parts.specs.declared.Place.{Place}
@@ -44,13 +45,13 @@ module _ {P Q : Type 0} (turn : P → Line → Got P) (turn′ : Q → Line → 
       go r (got q) e = run-next turn′ (f p) (f q) i l ls (agrees p l ∙ ap (mapGot f) e) ∙ r q ∙ ap (mapRun f) (sym (run-next turn p q i l ls e))
       go r (bad n c) e = run-stop turn′ (f p) i l ls n c (agrees p l ∙ ap (mapGot f) e) ∙ ap (mapRun f) (sym (run-stop turn p i l ls n c e))
 
-  module _ {A B : Type 0} (end : P → ℕ → PartVerdict A) (end′ : Q → ℕ → PartVerdict B) (g : A → B) (ends : (p : P) (i : ℕ) → end′ (f p) i ≡ mapGood g (end p i)) where
-    conclude-beside : (r : Run P) (rest : Bytes) (i : ℕ) → conclude end′ (mapRun f r) rest i ≡ mapGood g (conclude end r rest i)
+  module _ {A B : Type 0} (end : P → ℕ → Verdict A) (end′ : Q → ℕ → Verdict B) (g : A → B) (ends : (p : P) (i : ℕ) → end′ (f p) i ≡ mapped g (end p i)) where
+    conclude-beside : (r : Run P) (rest : Bytes) (i : ℕ) → conclude end′ (mapRun f r) rest i ≡ mapped g (conclude end r rest i)
     conclude-beside (at p) [] i = ends p i
     conclude-beside (at p) (b ∷ rest) i = refl
     conclude-beside (stopped e k c) rest i = refl
 
-    verdict-beside : (p : P) (s : Bytes) → verdictFrom turn′ end′ (f p) s ≡ mapGood g (verdictFrom turn end p s)
+    verdict-beside : (p : P) (s : Bytes) → verdictFrom turn′ end′ (f p) s ≡ mapped g (verdictFrom turn end p s)
     unfolding verdictFrom
     verdict-beside p s =
         let n = suc (length (cut s .lines)) in
@@ -97,7 +98,7 @@ headers-turn (third h₁ h₂) l =
     turn-beside headersAs 80 (text (h₁ ∷ h₂ ∷ [])) _ _ l (ap (λ bs. got (record { place = Place.Full; out = bs })) (joined (h₁ ∷ h₂ ∷ []) l))
 headers-turn (full hs) l = turn-beside headersAs 80 (headersText hs) (bad 18 1) (bad 18 1) l refl
 
-headers-end : (p : HeaderPlace) (i : ℕ) → standingEnd (headersAs p) i ≡ mapGood headersText (headersEnd p i)
+headers-end : (p : HeaderPlace) (i : ℕ) → standingEnd (headersAs p) i ≡ mapped headersText (headersEnd p i)
 unfolding headersAs
 headers-end first i = refl
 headers-end (second h₁) i = refl
@@ -152,7 +153,7 @@ items-turn (values is name vs) l = turn-beside itemsAs 200 (itemsText is ++ text
     go (got blank) = ap (λ bs. got (record { place = Place.Items; out = bs })) (item-more is name vs)
     go (bad e c) = refl
 
-items-end : (p : ItemPlace) (i : ℕ) → standingEnd (itemsAs p) i ≡ mapGood itemsText (itemsEnd p i)
+items-end : (p : ItemPlace) (i : ℕ) → standingEnd (itemsAs p) i ≡ mapped itemsText (itemsEnd p i)
 unfolding itemsAs
 items-end (items is) i = refl
 items-end (values is name vs) i = refl

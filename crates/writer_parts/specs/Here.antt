@@ -10,13 +10,14 @@ use Rattle.text.specs.Find.{lineAt}
 use Rattle.text.specs.Cut.{split, cut, line-cut, line-rest}
 use Rattle.text.specs.declared.LineAt.{LineAt}
 use Rattle.judge_line.specs.Got.{bad, then}
-use Rattle.judge_parts.specs.Part.{PartVerdict, refused, finish}
+use Rattle.judge_file.specs.Verdict.{Verdict, refused}
+use Rattle.judge_parts.specs.Part.{finish}
 use Rattle.judge_parts.specs.Runs.{fromCut, from-start, from-next, from-stop, from-end}
 use Rattle.writer_parts.specs.Step.{taken, turnAs, standingTurn, standingEnd, endsAt, writtenFrom}
 use Rattle.writer_parts.specs.declared.Place.{Place}
 
 -- from a place, with the text before it, at line i and position `at`
-unfoldable pub fromHere : Place → Bytes → ℕ → Bytes → ℕ → PartVerdict Bytes
+unfoldable pub fromHere : Place → Bytes → ℕ → Bytes → ℕ → Verdict Bytes
 fromHere p out i s at = fromCut standingTurn standingEnd (record { place = p; out = out }) i (cut (drop at s))
 
 pub here-start : (p : Place) (s : Bytes) → writtenFrom p s ≡ fromHere p [] 1 s 0

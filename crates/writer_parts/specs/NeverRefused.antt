@@ -18,14 +18,13 @@ use Rattle.judge_line.specs.Agree.{within-got, header-agrees, title-agrees, val
 use Rattle.line_judged.specs.Known.{Standing, Header, Named, value-told, blank-told}
 use Rattle.rules.specs.Forms.{DataHeader}
 use Rattle.rules.specs.OneForm.{one-header}
-use Rattle.judge_parts.specs.Part.{PartVerdict, good, refused, Run, run, conclude}
+use Rattle.judge_file.specs.Verdict.{accepted}
+use Rattle.judge_file.specs.SameVerdict.{accepted-refused}
+use Rattle.judge_parts.specs.Part.{Run, run, conclude}
 use Rattle.judge_parts.specs.Runs.{at-place, at-stopped, run-next, run-stop, fromCut}
 use Rattle.writer_parts.specs.Step.{ended, Taken, taken, itemTaken, valueTaken, lineAs, longest, turnAs, Standing as Stood, standingTurn, standingEnd, endsAt}
 use Rattle.writer_parts.specs.Here.{fromHere, here-next, here-stop, here-cut}
 use Rattle.writer_parts.specs.declared.Place.{Place}
-
-pub good-refused : {X : Type 0} {bs : Bytes} {e i c : ℕ} → _≡_ {A = PartVerdict Bytes} (good bs) (refused e i c) → X
-good-refused h = let z : _≡_ {A = ℕ} 0 1 = cc in absurd (omega arith)
 
 -- ---- The text only grows
 
@@ -45,25 +44,25 @@ run-grows p i (l ∷ ls) q h = go (λ p′ g. run-grows p′ (suc i) ls q g) (st
         (t .0 .text ++ g .0, g .1 ∙ ap (λ (x : Bytes). x ++ g .0) out ∙ append-assoc (p .out) (t .0 .text) (g .0))
     go r (bad n c) e = at-stopped (sym h ∙ run-stop standingTurn p i l ls n c e)
 
-pub ends-good : (q : Place) (out bs : Bytes) (i : ℕ) → endsAt q out i ≡ good bs → bs ≡ out
-ends-good Place.First out bs i h = good-refused (sym h)
-ends-good Place.Second out bs i h = good-refused (sym h)
-ends-good Place.Third out bs i h = good-refused (sym h)
+pub ends-good : (q : Place) (out bs : Bytes) (i : ℕ) → endsAt q out i ≡ accepted bs → bs ≡ out
+ends-good Place.First out bs i h = accepted-refused (sym h)
+ends-good Place.Second out bs i h = accepted-refused (sym h)
+ends-good Place.Third out bs i h = accepted-refused (sym h)
 ends-good Place.Full out bs i h = cc
 ends-good Place.Items out bs i h = cc
-ends-good Place.Values out bs i h = good-refused (sym h)
+ends-good Place.Values out bs i h = accepted-refused (sym h)
 
-pub here-grows : (p : Place) (out : Bytes) (i : ℕ) (s : Bytes) (at : ℕ) (bs : Bytes) → fromHere p out i s at ≡ good bs → Grows out bs
+pub here-grows : (p : Place) (out : Bytes) (i : ℕ) (s : Bytes) (at : ℕ) (bs : Bytes) → fromHere p out i s at ≡ accepted bs → Grows out bs
 unfolding fromHere fromCut
 here-grows p out i s at bs h = go (run standingTurn (record { place = p; out = out }) i (cut (drop at s) .lines)) refl (cut (drop at s) .rest) h
   where
     go : (r : Run Stood) → run standingTurn (record { place = p; out = out }) i (cut (drop at s) .lines) ≡ r → (rest : Bytes) →
-        conclude standingEnd r rest (i + length (cut (drop at s) .lines)) ≡ good bs → Grows out bs
+        conclude standingEnd r rest (i + length (cut (drop at s) .lines)) ≡ accepted bs → Grows out bs
     go (Run.at q) e [] k =
         let g = run-grows (record { place = p; out = out }) i (cut (drop at s) .lines) q e in
         (g .0, ends-good (q .place) (q .out) bs (i + length (cut (drop at s) .lines)) k ∙ g .1)
-    go (Run.at q) e (b ∷ rest) k = good-refused (sym k)
-    go (Run.stopped a j c) e rest k = good-refused (sym k)
+    go (Run.at q) e (b ∷ rest) k = accepted-refused (sym k)
+    go (Run.stopped a j c) e rest k = accepted-refused (sym k)
 
 -- ---- A line that its place takes
 
@@ -74,10 +73,10 @@ pub record Taking (p : Place) (l : Line) : Type 0 where
 
 -- ---- From a place of a good part on
 
-module _ (p : Place) (out : Bytes) (i : ℕ) (s : Bytes) (at : ℕ) (bs : Bytes) (whole : fromHere p out i s at ≡ good bs) where
+module _ (p : Place) (out : Bytes) (i : ℕ) (s : Bytes) (at : ℕ) (bs : Bytes) (whole : fromHere p out i s at ≡ accepted bs) where
   -- no line is unfinished
   pub never-cut : {X : Type 0} → at < length s → lineAt s at ≡ LineAt.Unfinished → X
-  never-cut some h = good-refused (sym whole ∙ here-cut p out i s at some h)
+  never-cut some h = accepted-refused (sym whole ∙ here-cut p out i s at some h)
 
   pub stands : at < length s → Standing s at
   stands some = go (lineAt s at) refl
@@ -89,7 +88,7 @@ module _ (p : Place) (out : Bytes) (i : ℕ) (s : Bytes) (at : ℕ) (bs : Bytes)
   module _ (e n : ℕ) (line : lineAt s at ≡ LineAt.Line e n) where
     -- no line is refused
     pub never-bad : {X : Type 0} (a column : ℕ) → turnAs p (take (e - at) (drop at s)) ≡ bad a column → X
-    never-bad a column h = good-refused (sym whole ∙ here-stop p out i s at e n line a column h)
+    never-bad a column h = accepted-refused (sym whole ∙ here-stop p out i s at e n line a column h)
 
     pub taking : Taking p (take (e - at) (drop at s))
     taking = go (turnAs p (take (e - at) (drop at s))) refl
@@ -99,7 +98,7 @@ module _ (p : Place) (out : Bytes) (i : ℕ) (s : Bytes) (at : ℕ) (bs : Bytes)
         go (bad a c) h = never-bad a c h
 
     -- the part is good from its next line on
-    pub onward : (q : Place) (text : Bytes) → turnAs p (take (e - at) (drop at s)) ≡ taken q text → fromHere q (out ++ text) (i + 1) s n ≡ good bs
+    pub onward : (q : Place) (text : Bytes) → turnAs p (take (e - at) (drop at s)) ≡ taken q text → fromHere q (out ++ text) (i + 1) s n ≡ accepted bs
     onward q text h = sym (here-next p out i s at e n line q text h) ∙ whole
 
 -- ---- Header lines keep their bytes

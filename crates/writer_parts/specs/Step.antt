@@ -10,7 +10,8 @@ use Rattle.judge_line.specs.Got.{Got, got, bad, then}
 use Rattle.text.specs.Find.{badColumn}
 use Rattle.judge_line.specs.Field.{noneFound, within}
 use Rattle.judge_line.specs.Judge.{firstHeaderOf, itemOf, ItemOrEnd, title, close, valueOf, ValueOrBlank, value, blank}
-use Rattle.judge_parts.specs.Part.{PartVerdict, good, refused, verdictFrom}
+use Rattle.judge_file.specs.Verdict.{Verdict, accepted, refused}
+use Rattle.judge_parts.specs.Part.{verdictFrom}
 use Rattle.writer_parts.specs.declared.Place.{Place}
 use Rattle.writer_parts.specs.declared.Turn.{Turn}
 use Rattle.writer_parts.specs.declared.PartJudged.{PartJudged}
@@ -85,17 +86,17 @@ unfoldable pub standingTurn : Standing → Line → Got Standing
 standingTurn p l = then (turnAs (p .place) l) λ t. got (record { place = t .place; out = p .out ++ t .text })
 
 -- whether a part may end at the place
-abbrev pub endsAt : Place → Bytes → ℕ → PartVerdict Bytes
+abbrev pub endsAt : Place → Bytes → ℕ → Verdict Bytes
 endsAt Place.First bs i = refused 19 i 1
 endsAt Place.Second bs i = refused 19 i 1
 endsAt Place.Third bs i = refused 19 i 1
-endsAt Place.Full bs i = good bs
-endsAt Place.Items bs i = good bs
+endsAt Place.Full bs i = accepted bs
+endsAt Place.Items bs i = accepted bs
 endsAt Place.Values bs i = refused 19 i 1
 
 -- what the code answers: the length of the text, or the refusal
-abbrev pub judged : PartVerdict Bytes → PartJudged
-judged (good bs) = PartJudged.Good (length bs)
+abbrev pub judged : Verdict Bytes → PartJudged
+judged (accepted bs) = PartJudged.Good (length bs)
 judged (refused e i column) = PartJudged.Refused e i column
 
 -- the same by the length of the text
@@ -107,8 +108,8 @@ endsAs Place.Full size i = PartJudged.Good size
 endsAs Place.Items size i = PartJudged.Good size
 endsAs Place.Values size i = PartJudged.Refused 19 i 1
 
-abbrev pub standingEnd : Standing → ℕ → PartVerdict Bytes
+abbrev pub standingEnd : Standing → ℕ → Verdict Bytes
 standingEnd p i = endsAt (p .place) (p .out) i
 
-unfoldable pub writtenFrom : Place → Bytes → PartVerdict Bytes
+unfoldable pub writtenFrom : Place → Bytes → Verdict Bytes
 writtenFrom p s = verdictFrom standingTurn standingEnd (record { place = p; out = [] }) s

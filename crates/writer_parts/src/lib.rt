@@ -7,7 +7,7 @@ use text::LineAt;
 ghost use mathlib.Core.Path.{_≡_};
 ghost use Prim.Native.Nat.{_≤_};
 ghost use lib.ListN.{length};
-ghost use Rattle.judge_parts.specs.Part.{good};
+ghost use Rattle.judge_file.specs.Verdict.{accepted};
 ghost use Rattle.judge_parts.specs.Written.{textOf, writtenHeaders, writtenItems};
 ghost use Rattle.writer_parts.specs.Step.{lineAs, longest, turnAs, turned, allowedAs, Next, placeOf, judged, endsAs, writtenFrom};
 ghost use Rattle.writer_parts.specs.NeverRefused.{Taking};
@@ -255,7 +255,7 @@ fn line_size(inside: bool, line: &[u8]) -> Sized
 
 // Good header lines, by the length of their canonical text.
 pub fn size_headers(s: &[u8]) -> usize
-    requires { ⌜ writtenHeaders (now s) ≡ good (textOf (writtenHeaders (now s))) ⌝ }
+    requires { ⌜ writtenHeaders (now s) ≡ accepted (textOf (writtenHeaders (now s))) ⌝ }
     ensures { λ r. ⌜ r ≡ length (textOf (writtenHeaders (now (s .entry)))) ⌝ }
 {
     let mut at: usize = 0;
@@ -270,7 +270,7 @@ pub fn size_headers(s: &[u8]) -> usize
 
 // Good items, likewise.
 pub fn size_items(s: &[u8]) -> usize
-    requires { ⌜ writtenItems (now s) ≡ good (textOf (writtenItems (now s))) ⌝ }
+    requires { ⌜ writtenItems (now s) ≡ accepted (textOf (writtenItems (now s))) ⌝ }
     ensures { λ r. ⌜ r ≡ length (textOf (writtenItems (now (s .entry)))) ⌝ }
 {
     let mut inside = false;

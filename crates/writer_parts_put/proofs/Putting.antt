@@ -10,7 +10,7 @@ use Rattle.text.specs.Find.{lineAt}
 use Rattle.text.specs.Cut.{line-within}
 use Rattle.text.specs.declared.LineAt.{LineAt}
 use Rattle.line_judged.specs.Known.{Standing}
-use Rattle.judge_parts.specs.Part.{PartVerdict, good}
+use Rattle.judge_file.specs.Verdict.{Verdict, accepted}
 use Rattle.judge_parts.specs.Written.{textOf, writtenHeaders, writtenItems}
 use Rattle.writer_parts.specs.Step.{ended, turnAs, taken, placeOf, writtenFrom}
 use Rattle.writer_parts.specs.Here.{fromHere, here-start, here-end}
@@ -29,7 +29,7 @@ pub record Putting (start : Place) (s r₀ r : Bytes) (at : ℕ) (p : Place) (i 
   pub enough : at + length (textOf (writtenFrom start s)) ≤ length r₀
   pub size : length r ≡ length r₀
   pub laid : Laid r₀ r at out e
-  pub whole : fromHere p out line s i ≡ good (textOf (writtenFrom start s))
+  pub whole : fromHere p out line s i ≡ accepted (textOf (writtenFrom start s))
 
 putting-start : (p : Place) (s r : Bytes) (at : ℕ) → Room (writtenFrom p s) at (length r) → Putting p s r r at p 0 at
 putting-start p s r at h =
@@ -91,10 +91,10 @@ module _ (start : Place) (s r₀ r : Bytes) (at : ℕ) (p : Place) (i e : ℕ) (
 -- ---- Items
 
 pub items-start : (s r : Bytes) (at : ℕ) → Room (writtenItems s) at (length r) → Putting Place.Items s r r at (placeOf false) 0 at
-items-start s r at h = putting-start Place.Items s r at (subst (λ (v : PartVerdict Bytes). Room v at (length r)) (sym (items-written s)) h)
+items-start s r at h = putting-start Place.Items s r at (subst (λ (v : Verdict Bytes). Room v at (length r)) (sym (items-written s)) h)
 
 pub items-end : (s r₀ r : Bytes) (at : ℕ) (p : Place) (i e : ℕ) → Putting Place.Items s r₀ r at p i e → length s ≤ i → Laid r₀ r at (textOf (writtenItems s)) e
-items-end s r₀ r at p i e g h = subst (λ (v : PartVerdict Bytes). Laid r₀ r at (textOf v) e) (items-written s) (putting-end Place.Items s r₀ r at p i e g h)
+items-end s r₀ r at p i e g h = subst (λ (v : Verdict Bytes). Laid r₀ r at (textOf v) e) (items-written s) (putting-end Place.Items s r₀ r at p i e g h)
 
 pub ruleset items-laws = (items-start, items-end, putting-size, putting-line, put-low, put-high, put-less, putting-room, putting-next)
 
@@ -110,13 +110,13 @@ headers-start s r at h =
     record {
       p = Place.First;
       head = Heads.first;
-      putting = putting-start Place.First s r at (subst (λ (v : PartVerdict Bytes). Room v at (length r)) (sym (headers-written s)) h);
+      putting = putting-start Place.First s r at (subst (λ (v : Verdict Bytes). Room v at (length r)) (sym (headers-written s)) h);
     }
 
 module _ (s r₀ r : Bytes) (at i e : ℕ) (g : Heading s r₀ r at i e) where
   pub headers-end : length s ≤ i → Laid r₀ r at (textOf (writtenHeaders s)) e
   headers-end h =
-      subst (λ (v : PartVerdict Bytes). Laid r₀ r at (textOf v) e) (headers-written s) (putting-end Place.First s r₀ r at (g .p) i e (g .putting) h)
+      subst (λ (v : Verdict Bytes). Laid r₀ r at (textOf v) e) (headers-written s) (putting-end Place.First s r₀ r at (g .p) i e (g .putting) h)
 
   pub heading-size : length r ≡ length r₀
   heading-size = g .putting .size

@@ -3,7 +3,7 @@ use Prim.Native.Nat.{ℕ, _+_, _≤_}
 use mathlib.Core.Path.{_≡_}
 use lib.ListN.{length}
 use Rattle.text.specs.Text.{Bytes, Line}
-use Rattle.judge_parts.specs.Part.{PartVerdict, good}
+use Rattle.judge_file.specs.Verdict.{Verdict, accepted}
 use Rattle.judge_parts.specs.Written.{textOf}
 use Rattle.writer_parts.specs.Step.{taken, turnAs}
 use Rattle.writer_parts.specs.NeverRefused.{Taking}
@@ -26,6 +26,6 @@ pub record PutTo (p : Place) (l : Line) (r₀ r : Bytes) (at : ℕ) (q : Place) 
 -- ---- A part
 
 -- it is good, and room of k bytes is enough for its text from place `at` on
-pub record Room (v : PartVerdict Bytes) (at k : ℕ) : Type 0 where
-  pub whole : v ≡ good (textOf v)
+pub record Room (v : Verdict Bytes) (at k : ℕ) : Type 0 where
+  pub whole : v ≡ accepted (textOf v)
   pub enough : at + length (textOf v) ≤ k

@@ -19,8 +19,9 @@ use Rattle.writer_lines.specs.Laid.{Laid, laid-sets, laid-join}
 use Rattle.writer_lines.specs.Lines.{WritableAtoms}
 use Rattle.writer_molecule.specs.Body.{bodyLines, molecule-lines, bodyText, body-any, bodySize}
 use Rattle.writer_molecule.specs.Sizes.{body-length}
-use Rattle.judge_parts.specs.Part.{PartVerdict, good, refused, headersVerdict, itemsVerdict}
-use Rattle.judge_parts.specs.Written.{headersText, itemLines, itemsText, mapGood, textOf, writtenHeaders, writtenItems}
+use Rattle.judge_file.specs.Verdict.{Verdict, accepted, refused, mapped}
+use Rattle.judge_parts.specs.Part.{headersVerdict, itemsVerdict}
+use Rattle.judge_parts.specs.Written.{headersText, itemLines, itemsText, textOf, writtenHeaders, writtenItems}
 use Rattle.writer_parts.specs.Step.{judged}
 use Rattle.writer_parts.specs.declared.PartJudged.{PartJudged}
 use Rattle.writer_parts_put.specs.Put.{Room}
@@ -37,12 +38,12 @@ unfoldable pub sized : ℕ → ℕ → Written
 sized size k = cond (leb size k) (Written.Done size) (Written.Refused 20 0 0)
 
 -- header lines and molecule are so long
-abbrev pub afterItems : ℕ → ℕ → ℕ → PartVerdict Bytes → Written
-afterItems headers molecule k (good bs) = sized (headers + molecule + length bs + 5) k
+abbrev pub afterItems : ℕ → ℕ → ℕ → Verdict Bytes → Written
+afterItems headers molecule k (accepted bs) = sized (headers + molecule + length bs + 5) k
 afterItems headers molecule k (refused e line column) = Written.Refused e line column
 
-abbrev pub afterHeaders : ℕ → ℕ → PartVerdict Bytes → PartVerdict Bytes → Written
-afterHeaders molecule k items (good bs) = afterItems (length bs) molecule k items
+abbrev pub afterHeaders : ℕ → ℕ → Verdict Bytes → Verdict Bytes → Written
+afterHeaders molecule k items (accepted bs) = afterItems (length bs) molecule k items
 afterHeaders molecule k items (refused e line column) = Written.Refused e line column
 
 -- header lines, molecule, items and the line that ends the record
@@ -51,8 +52,8 @@ partsSize n m atoms headers items = length (textOf (writtenHeaders headers)) + b
 
 -- header lines and items that were judged good
 pub record GoodParts (hs is : Bytes) : Type 0 where
-  pub headers : writtenHeaders hs ≡ good (textOf (writtenHeaders hs))
-  pub items : writtenItems is ≡ good (textOf (writtenItems is))
+  pub headers : writtenHeaders hs ≡ accepted (textOf (writtenHeaders hs))
+  pub items : writtenItems is ≡ accepted (textOf (writtenItems is))
 
 -- of these none is refused: what is left is the room
 pub never-refused : (n m : ℕ) (atoms : List ℤ) (hs is : Bytes) (k : ℕ) → GoodParts hs is →
@@ -129,15 +130,15 @@ pub record Ready (g : Given) (k : ℕ) : Type 0 where
   pub atoms : 16 * g .n ≤ length (g .atoms)
   pub bonds : 6 * g .m ≤ length (g .bonds)
   pub writable : WritableAtoms (g .n) (g .atoms)
-  pub headers : writtenHeaders (g .headers) ≡ good (textOf (writtenHeaders (g .headers)))
-  pub items : writtenItems (g .items) ≡ good (textOf (writtenItems (g .items)))
+  pub headers : writtenHeaders (g .headers) ≡ accepted (textOf (writtenHeaders (g .headers)))
+  pub items : writtenItems (g .items) ≡ accepted (textOf (writtenItems (g .items)))
   pub enough : length (textOf (writtenHeaders (g .headers))) + bodySize (g .n) (g .m) (g .atoms) + length (textOf (writtenItems (g .items))) + 5 ≤ k
-  pub text : textFor g k ≡ good (recordText g)
+  pub text : textFor g k ≡ accepted (recordText g)
 
 pub refused-done : {X : Type 0} {e line column l : ℕ} → Written.Refused e line column ≡ Written.Done l → X
 refused-done h = absurd (let z : _≡_ {A = ℕ} 0 1 = cc in omega arith)
 
-module _ (g : Given) (k : ℕ) (h : Headers) (is : List Item) (a : roomy (g .atoms) (g .bonds) ≡ true) (b : writableTables (g .n) (g .m) (g .chiral) (g .atoms) (g .bonds) ≡ true) (p : headersVerdict (g .headers) ≡ good h) (q : itemsVerdict (g .items) ≡ good is) (t : leb (length (canonText (handed g h is))) k ≡ true) where
+module _ (g : Given) (k : ℕ) (h : Headers) (is : List Item) (a : roomy (g .atoms) (g .bonds) ≡ true) (b : writableTables (g .n) (g .m) (g .chiral) (g .atoms) (g .bonds) ≡ true) (p : headersVerdict (g .headers) ≡ accepted h) (q : itemsVerdict (g .items) ≡ accepted is) (t : leb (length (canonText (handed g h is))) k ≡ true) where
   text-is : recordText g ≡ canonText (handed g h is)
   unfolding recordText writtenHeaders writtenItems
   text-is = rw (p, q) (text-parts g h is)
@@ -156,7 +157,7 @@ module _ (g : Given) (k : ℕ) (h : Headers) (is : List Item) (a : roomy (g .ato
         headers = rw p;
         items = rw q;
         enough = rw (p, q) (omega (arith, text-length g h is, leb-true (length (canonText (handed g h is))) k t));
-        text = rw (a, b, p, q, t) (ap good (sym text-is));
+        text = rw (a, b, p, q, t) (ap accepted (sym text-is));
       }
 
 pub ready : (g : Given) (k l : ℕ) → writeOf g k ≡ Written.Done l → Ready g k
@@ -164,19 +165,19 @@ unfolding writeOf textFor recordFor
 ready g k l h = go (roomy (g .atoms) (g .bonds)) refl (writableTables (g .n) (g .m) (g .chiral) (g .atoms) (g .bonds)) refl (headersVerdict (g .headers)) refl (itemsVerdict (g .items)) refl h
   where
     fit : (hs : Headers) (is : List Item) → roomy (g .atoms) (g .bonds) ≡ true → writableTables (g .n) (g .m) (g .chiral) (g .atoms) (g .bonds) ≡ true →
-        headersVerdict (g .headers) ≡ good hs → itemsVerdict (g .items) ≡ good is → (t : Bool) → leb (length (canonText (handed g hs is))) k ≡ t →
-        answer (demand t 20 (good (canonText (handed g hs is)))) ≡ Written.Done l → Ready g k
+        headersVerdict (g .headers) ≡ accepted hs → itemsVerdict (g .items) ≡ accepted is → (t : Bool) → leb (length (canonText (handed g hs is))) k ≡ t →
+        answer (demand t 20 (accepted (canonText (handed g hs is)))) ≡ Written.Done l → Ready g k
     fit hs is a b p q true t e = passed g k hs is a b p q t
     fit hs is a b p q false t e = refused-done e
 
     go : (x : Bool) → roomy (g .atoms) (g .bonds) ≡ x → (y : Bool) → writableTables (g .n) (g .m) (g .chiral) (g .atoms) (g .bonds) ≡ y →
-        (v : PartVerdict Headers) → headersVerdict (g .headers) ≡ v → (w : PartVerdict (List Item)) → itemsVerdict (g .items) ≡ w →
-        answer (andThen (demand x 2 (demand y 21 (andThen v λ hs. andThen w λ is. good (handed g hs is)))) λ z. demand (leb (length (canonText z)) k) 20 (good (canonText z))) ≡ Written.Done l → Ready g k
+        (v : Verdict Headers) → headersVerdict (g .headers) ≡ v → (w : Verdict (List Item)) → itemsVerdict (g .items) ≡ w →
+        answer (andThen (demand x 2 (demand y 21 (andThen v λ hs. andThen w λ is. accepted (handed g hs is)))) λ z. demand (leb (length (canonText z)) k) 20 (accepted (canonText z))) ≡ Written.Done l → Ready g k
     go false a y b v p w q e = refused-done e
     go true a false b v p w q e = refused-done e
     go true a true b (refused n line column) p w q e = refused-done e
-    go true a true b (good hs) p (refused n line column) q e = refused-done e
-    go true a true b (good hs) p (good is) q e = fit hs is a b p q (leb (length (canonText (handed g hs is))) k) refl e
+    go true a true b (accepted hs) p (refused n line column) q e = refused-done e
+    go true a true b (accepted hs) p (accepted is) q e = fit hs is a b p q (leb (length (canonText (handed g hs is))) k) refl e
 
 pub ready-by : (g : Given) (k l : ℕ) (j : Written) → j ≡ writeOf g k → j ≡ Written.Done l → Ready g k
 ready-by g k l j q h = ready g k l (sym q ∙ h)
@@ -191,24 +192,24 @@ pub sized-over : (size k : ℕ) → k < size → Written.Refused 20 0 0 ≡ size
 unfolding sized
 sized-over size k h = rw (lt-leb size k h)
 
-sized-is : (bs : Bytes) (size k : ℕ) → size ≡ length bs → sized size k ≡ answer (demand (leb (length bs) k) 20 (good bs))
+sized-is : (bs : Bytes) (size k : ℕ) → size ≡ length bs → sized size k ≡ answer (demand (leb (length bs) k) 20 (accepted bs))
 unfolding sized
 sized-is bs size k e = rw e (go (leb (length bs) k))
   where
-    go : (t : Bool) → cond t (Written.Done (length bs)) (Written.Refused 20 0 0) ≡ answer (demand t 20 (good bs))
+    go : (t : Bool) → cond t (Written.Done (length bs)) (Written.Refused 20 0 0) ≡ answer (demand t 20 (accepted bs))
     go true = refl
     go false = refl
 
 -- a part that is good and so long, or refused, as the code has it
-module _ (v : PartVerdict Bytes) (x : PartJudged) (j : x ≡ judged v) where
-  long-by : (size : ℕ) (w : PartVerdict Bytes) → w ≡ v → PartJudged.Good size ≡ judged w → (A : ℕ → Written) (B : PartVerdict Bytes → Written) →
-      ((bs : Bytes) → B (good bs) ≡ A (length bs)) → A size ≡ B v
-  long-by size (good bs) e h A B f = let n : size ≡ length bs = cc in ap A n ∙ sym (f bs) ∙ ap B e
+module _ (v : Verdict Bytes) (x : PartJudged) (j : x ≡ judged v) where
+  long-by : (size : ℕ) (w : Verdict Bytes) → w ≡ v → PartJudged.Good size ≡ judged w → (A : ℕ → Written) (B : Verdict Bytes → Written) →
+      ((bs : Bytes) → B (accepted bs) ≡ A (length bs)) → A size ≡ B v
+  long-by size (accepted bs) e h A B f = let n : size ≡ length bs = cc in ap A n ∙ sym (f bs) ∙ ap B e
   long-by size (refused e line column) q h A B f = absurd (let z : _≡_ {A = ℕ} 0 1 = cc in omega arith)
 
-  stop-by : (e line column : ℕ) (w : PartVerdict Bytes) → w ≡ v → PartJudged.Refused e line column ≡ judged w → (B : PartVerdict Bytes → Written) →
+  stop-by : (e line column : ℕ) (w : Verdict Bytes) → w ≡ v → PartJudged.Refused e line column ≡ judged w → (B : Verdict Bytes → Written) →
       ((n i c : ℕ) → B (refused n i c) ≡ Written.Refused n i c) → Written.Refused e line column ≡ B v
-  stop-by e line column (good bs) q h B f = absurd (let z : _≡_ {A = ℕ} 0 1 = cc in omega arith)
+  stop-by e line column (accepted bs) q h B f = absurd (let z : _≡_ {A = ℕ} 0 1 = cc in omega arith)
   stop-by e line column (refused n i c) q h B f = let y : Written.Refused e line column ≡ Written.Refused n i c = cc in y ∙ sym (f n i c) ∙ ap B q
 
   pub items-good : (headers molecule k size s : ℕ) (r : Written) → x ≡ PartJudged.Good size → s ≡ molecule → r ≡ sized (headers + s + size + 5) k →
@@ -220,11 +221,11 @@ module _ (v : PartVerdict Bytes) (x : PartJudged) (j : x ≡ judged v) where
   pub items-bad : (headers molecule k e line column : ℕ) → x ≡ PartJudged.Refused e line column → Written.Refused e line column ≡ afterItems headers molecule k v
   items-bad headers molecule k e line column h = stop-by e line column v refl (sym h ∙ j) (afterItems headers molecule k) (λ n i c. refl)
 
-  pub headers-good : (molecule k size : ℕ) (items : PartVerdict Bytes) (r : Written) → x ≡ PartJudged.Good size → r ≡ afterItems size molecule k items →
+  pub headers-good : (molecule k size : ℕ) (items : Verdict Bytes) (r : Written) → x ≡ PartJudged.Good size → r ≡ afterItems size molecule k items →
       r ≡ afterHeaders molecule k items v
   headers-good molecule k size items r h q = q ∙ long-by size v refl (sym h ∙ j) (λ t. afterItems t molecule k items) (afterHeaders molecule k items) (λ bs. refl)
 
-  pub headers-bad : (molecule k e line column : ℕ) (items : PartVerdict Bytes) → x ≡ PartJudged.Refused e line column →
+  pub headers-bad : (molecule k e line column : ℕ) (items : Verdict Bytes) → x ≡ PartJudged.Refused e line column →
       Written.Refused e line column ≡ afterHeaders molecule k items v
   headers-bad molecule k e line column items h = stop-by e line column v refl (sym h ∙ j) (afterHeaders molecule k items) (λ n i c. refl)
 
@@ -256,12 +257,12 @@ module _ (g : Given) (k : ℕ) where
     unfolding writeOf textFor recordFor writtenItems writtenHeaders
     judged-by h = rw (roomy-agrees g .1 (record { atoms = a; bonds = b }), ← w, h) (go (headersVerdict (g .headers)) (itemsVerdict (g .items)))
       where
-        go : (v : PartVerdict Headers) (w : PartVerdict (List Item)) →
-            afterHeaders (bodySize (g .n) (g .m) (g .atoms)) k (mapGood itemsText w) (mapGood headersText v)
-            ≡ answer (andThen (andThen v λ h. andThen w λ is. good (handed g h is)) λ x. demand (leb (length (canonText x)) k) 20 (good (canonText x)))
+        go : (v : Verdict Headers) (w : Verdict (List Item)) →
+            afterHeaders (bodySize (g .n) (g .m) (g .atoms)) k (mapped itemsText w) (mapped headersText v)
+            ≡ answer (andThen (andThen v λ h. andThen w λ is. accepted (handed g h is)) λ x. demand (leb (length (canonText x)) k) 20 (accepted (canonText x)))
         go (refused e line column) w = refl
-        go (good h) (refused e line column) = refl
-        go (good h) (good is) = sized-is (canonText (handed g h is)) _ k (text-length g h is)
+        go (accepted h) (refused e line column) = refl
+        go (accepted h) (accepted is) = sized-is (canonText (handed g h is)) _ k (text-length g h is)
 
     pub judged-parts : t ≡ true → (r : Written) → r ≡ afterHeaders (bodySize (g .n) (g .m) (g .atoms)) k (writtenItems (g .items)) (writtenHeaders (g .headers)) → r ≡ writeOf g k
     judged-parts h r e = e ∙ judged-by h
@@ -312,6 +313,6 @@ pub refused-room : (g : Given) (r : Bytes) (e line column : ℕ) → writeOf g (
 unfolding writeOf roomAfter
 refused-room g r e line column h = go (textFor g (length r)) h
   where
-    go : (v : PartVerdict Bytes) → answer v ≡ Written.Refused e line column → r ≡ room r v
-    go (good bs) q = refused-done (sym q)
+    go : (v : Verdict Bytes) → answer v ≡ Written.Refused e line column → r ≡ room r v
+    go (accepted bs) q = refused-done (sym q)
     go (refused n i c) q = refl

@@ -17,8 +17,10 @@ use Rattle.rules.specs.Canon.{HeaderPart, ItemPart, Writable, Good, AllGood, ca
 use Rattle.rules.specs.CanonGood.{canon-text, canon-only}
 use Rattle.rules.specs.Handed.{header-part-good, item-part-good}
 use Rattle.writer_lines.specs.Laid.{Laid}
-use Rattle.judge_parts.specs.Part.{PartVerdict, good, refused, headersVerdict, itemsVerdict}
-use Rattle.judge_parts.specs.AnyPart.{PartRefusal, good-refused, good-inj}
+use Rattle.judge_file.specs.Verdict.{Verdict, accepted, refused}
+use Rattle.judge_file.specs.SameVerdict.{accepted-refused, same-accepted}
+use Rattle.judge_parts.specs.Part.{headersVerdict, itemsVerdict}
+use Rattle.judge_parts.specs.AnyPart.{PartRefusal}
 use Rattle.judge_parts.specs.PartBecause.{HeaderBecause, ItemBecause}
 use Rattle.judge_parts.specs.PartAgree.{AHeaderPart, AnItemPart, good-headers, refused-headers, good-items, refused-items}
 use Rattle.writer_tables.specs.Tables.{writableTables}
@@ -59,18 +61,18 @@ pub data Refusal (g : Given) (k : ℕ) : ℕ → ℕ → ℕ → Type 0 where
   room : {x : Reading} → Accepted g x → k < length (canonText x) → Refusal g k 20 0 0
 
 -- what an answer says: the length of the text, or the number, line and column of a refusal
-abbrev pub numbersOf : Written → PartVerdict ℕ
-numbersOf (Written.Done l) = good l
+abbrev pub numbersOf : Written → Verdict ℕ
+numbersOf (Written.Done l) = accepted l
 numbersOf (Written.Refused e line column) = refused e line column
 
 -- room r₀ was lent, a is the answer, and the room is then r
 pub record Promise (g : Given) (r₀ : Bytes) (a : Written) (r : Bytes) : Type 0 where
   pub answer : a ≡ writeOf g (length r₀)
   pub room : r ≡ roomAfter g r₀
-  pub accepted : (l : ℕ) → (numbersOf a ≡ good l) ↔ ((x : Reading) × Accepted g x × (l ≡ length (canonText x)) × (l ≤ length r₀))
+  pub accepted : (l : ℕ) → (numbersOf a ≡ Verdict.accepted l) ↔ ((x : Reading) × Accepted g x × (l ≡ length (canonText x)) × (l ≤ length r₀))
   pub written : (x : Reading) → Accepted g x → length (canonText x) ≤ length r₀ → r ≡ canonText x ++ drop (length (canonText x)) r₀
-  pub refused : (e line column : ℕ) → numbersOf a ≡ PartVerdict.refused e line column → (r ≡ r₀) × Refusal g (length r₀) e line column
-  pub refuses : (e line column : ℕ) → Refusal g (length r₀) e line column → numbersOf a ≡ PartVerdict.refused e line column
+  pub refused : (e line column : ℕ) → numbersOf a ≡ Verdict.refused e line column → (r ≡ r₀) × Refusal g (length r₀) e line column
+  pub refuses : (e line column : ℕ) → Refusal g (length r₀) e line column → numbersOf a ≡ Verdict.refused e line column
 
 -- no two answers and no two rooms
 pub one-promise : {g : Given} {r₀ r s : Bytes} {a b : Written} → Promise g r₀ a r → Promise g r₀ b s → (a ≡ b) × (r ≡ s)
@@ -104,22 +106,22 @@ module _ (g : Given) where
   abbrev holds : Bool
   holds = writableTables (g .n) (g .m) (g .chiral) (g .atoms) (g .bonds)
 
-  abbrev judgedBy : Bool → Bool → PartVerdict Headers → PartVerdict (List Item) → PartVerdict Reading
-  judgedBy t u v w = demand t 2 (demand u 21 (andThen v λ h. andThen w λ is. good (handed g h is)))
+  abbrev judgedBy : Bool → Bool → Verdict Headers → Verdict (List Item) → Verdict Reading
+  judgedBy t u v w = demand t 2 (demand u 21 (andThen v λ h. andThen w λ is. accepted (handed g h is)))
 
-  pub record-agrees : (x : Reading) → (recordFor g ≡ good x) ↔ Accepted g x
+  pub record-agrees : (x : Reading) → (recordFor g ≡ accepted x) ↔ Accepted g x
   unfolding recordFor
   record-agrees x = ((λ e. go (roomy (g .atoms) (g .bonds)) refl holds refl (headersVerdict (g .headers)) refl (itemsVerdict (g .items)) refl e), back)
     where
-      go : (t : Bool) → roomy (g .atoms) (g .bonds) ≡ t → (u : Bool) → holds ≡ u → (v : PartVerdict Headers) → headersVerdict (g .headers) ≡ v →
-          (w : PartVerdict (List Item)) → itemsVerdict (g .items) ≡ w → judgedBy t u v w ≡ good x → Accepted g x
-      go false a u b v p w q e = good-refused (sym e)
-      go true a false b v p w q e = good-refused (sym e)
-      go true a true b (refused n line column) p w q e = good-refused (sym e)
-      go true a true b (good h) p (refused n line column) q e = good-refused (sym e)
-      go true a true b (good h) p (good is) q e =
+      go : (t : Bool) → roomy (g .atoms) (g .bonds) ≡ t → (u : Bool) → holds ≡ u → (v : Verdict Headers) → headersVerdict (g .headers) ≡ v →
+          (w : Verdict (List Item)) → itemsVerdict (g .items) ≡ w → judgedBy t u v w ≡ accepted x → Accepted g x
+      go false a u b v p w q e = accepted-refused (sym e)
+      go true a false b v p w q e = accepted-refused (sym e)
+      go true a true b (refused n line column) p w q e = accepted-refused (sym e)
+      go true a true b (accepted h) p (refused n line column) q e = accepted-refused (sym e)
+      go true a true b (accepted h) p (accepted is) q e =
           let r = roomy-agrees g .0 a in
-          subst (Accepted g) (good-inj e)
+          subst (Accepted g) (same-accepted e)
           (record {
             roomy = r;
             tables = refl;
@@ -128,16 +130,16 @@ module _ (g : Given) where
             items = good-items (g .items) is .0 q;
           })
 
-      back : Accepted g x → recordFor g ≡ good x
+      back : Accepted g x → recordFor g ≡ accepted x
       back a =
           let w = tables-agree g (x .headers) (x .items) (a .roomy) .1 (subst (Writable limit) (a .tables) (a .writable)) in
           let p = good-headers (g .headers) (x .headers) .1 (a .headers) in
           let q = good-items (g .items) (x .items) .1 (a .items) in
-          let s : judgedBy true true (good (x .headers)) (good (x .items)) ≡ good x = ap good (sym (a .tables)) in
+          let s : judgedBy true true (accepted (x .headers)) (accepted (x .items)) ≡ accepted x = ap accepted (sym (a .tables)) in
           rw (roomy-agrees g .1 (a .roomy), w, p, q) s
 
   pub accepted-one : (x y : Reading) → Accepted g x → Accepted g y → x ≡ y
-  accepted-one x y a b = good-inj (sym (record-agrees x .1 a) ∙ record-agrees y .1 b)
+  accepted-one x y a b = same-accepted (sym (record-agrees x .1 a) ∙ record-agrees y .1 b)
 
   module _ (k : ℕ) where
     -- ---- Texts
@@ -148,54 +150,54 @@ module _ (g : Given) where
       same : bs ≡ canonText x
       fits : length (canonText x) ≤ k
 
-    stood : (bs : Bytes) → textFor g k ≡ good bs → Stood bs
+    stood : (bs : Bytes) → textFor g k ≡ accepted bs → Stood bs
     unfolding textFor
     stood bs h = go (recordFor g) refl h
       where
-        fit : (x : Reading) → recordFor g ≡ good x → (t : Bool) → leb (length (canonText x)) k ≡ t → demand t 20 (good (canonText x)) ≡ good bs → Stood bs
-        fit x e true t q = record { x = x; accepted = record-agrees x .0 e; same = sym (good-inj q); fits = leb-true (length (canonText x)) k t }
-        fit x e false t q = good-refused (sym q)
+        fit : (x : Reading) → recordFor g ≡ accepted x → (t : Bool) → leb (length (canonText x)) k ≡ t → demand t 20 (accepted (canonText x)) ≡ accepted bs → Stood bs
+        fit x e true t q = record { x = x; accepted = record-agrees x .0 e; same = sym (same-accepted q); fits = leb-true (length (canonText x)) k t }
+        fit x e false t q = accepted-refused (sym q)
 
-        go : (v : PartVerdict Reading) → recordFor g ≡ v → andThen v (λ x. demand (leb (length (canonText x)) k) 20 (good (canonText x))) ≡ good bs → Stood bs
-        go (good x) e q = fit x e (leb (length (canonText x)) k) refl q
-        go (refused n line column) e q = good-refused (sym q)
+        go : (v : Verdict Reading) → recordFor g ≡ v → andThen v (λ x. demand (leb (length (canonText x)) k) 20 (accepted (canonText x))) ≡ accepted bs → Stood bs
+        go (accepted x) e q = fit x e (leb (length (canonText x)) k) refl q
+        go (refused n line column) e q = accepted-refused (sym q)
 
-    text-of : (x : Reading) → Accepted g x → length (canonText x) ≤ k → textFor g k ≡ good (canonText x)
+    text-of : (x : Reading) → Accepted g x → length (canonText x) ≤ k → textFor g k ≡ accepted (canonText x)
     unfolding textFor
     text-of x a h = rw (record-agrees x .1 a, le-leb (length (canonText x)) k h)
 
     -- ---- Refusals
 
-    abbrev Told : {A : Type 0} → PartVerdict A → Type 0
-    Told (good a) = Unit {0}
+    abbrev Told : {A : Type 0} → Verdict A → Type 0
+    Told (accepted a) = Unit {0}
     Told (refused e line column) = Refusal g k e line column
 
     told-record : Told (recordFor g)
     unfolding recordFor
     told-record = go (roomy (g .atoms) (g .bonds)) refl holds refl (headersVerdict (g .headers)) refl (itemsVerdict (g .items)) refl
       where
-        go : (t : Bool) → roomy (g .atoms) (g .bonds) ≡ t → (u : Bool) → holds ≡ u → (v : PartVerdict Headers) → headersVerdict (g .headers) ≡ v →
-            (w : PartVerdict (List Item)) → itemsVerdict (g .items) ≡ w → Told (judgedBy t u v w)
+        go : (t : Bool) → roomy (g .atoms) (g .bonds) ≡ t → (u : Bool) → holds ≡ u → (v : Verdict Headers) → headersVerdict (g .headers) ≡ v →
+            (w : Verdict (List Item)) → itemsVerdict (g .items) ≡ w → Told (judgedBy t u v w)
         go false a u b v p w q = Refusal.tables (λ r. false-true (sym a ∙ roomy-agrees g .1 r))
         go true a false b v p w q = let r = roomy-agrees g .0 a in Refusal.writable r (λ h is x. false-true (sym b ∙ tables-agree g h is r .1 x))
         go true a true b (refused e line column) p w q =
             let r = roomy-agrees g .0 a in
             Refusal.headers r (λ h is. tables-agree g h is r .0 b) (refused-headers (g .headers) e line column .0 p)
-        go true a true b (good h) p (refused e line column) q =
+        go true a true b (accepted h) p (refused e line column) q =
             let r = roomy-agrees g .0 a in
             Refusal.items r (λ h is. tables-agree g h is r .0 b) (good-headers (g .headers) h .0 p) (refused-items (g .items) e line column .0 q)
-        go true a true b (good h) p (good is) q = tt
+        go true a true b (accepted h) p (accepted is) q = tt
 
     told-text : Told (textFor g k)
     unfolding textFor
     told-text = go (recordFor g) refl told-record
       where
-        fit : (x : Reading) → recordFor g ≡ good x → (t : Bool) → leb (length (canonText x)) k ≡ t → Told (demand t 20 (good (canonText x)))
+        fit : (x : Reading) → recordFor g ≡ accepted x → (t : Bool) → leb (length (canonText x)) k ≡ t → Told (demand t 20 (accepted (canonText x)))
         fit x e true t = tt
         fit x e false t = Refusal.room (record-agrees x .0 e) (leb-false (length (canonText x)) k t)
 
-        go : (v : PartVerdict Reading) → recordFor g ≡ v → Told v → Told (andThen v (λ x. demand (leb (length (canonText x)) k) 20 (good (canonText x))))
-        go (good x) e t = fit x e (leb (length (canonText x)) k) refl
+        go : (v : Verdict Reading) → recordFor g ≡ v → Told v → Told (andThen v (λ x. demand (leb (length (canonText x)) k) 20 (accepted (canonText x))))
+        go (accepted x) e t = fit x e (leb (length (canonText x)) k) refl
         go (refused n line column) e t = t
 
     -- what is wrong is what is answered
@@ -243,8 +245,8 @@ module _ (g : Given) where
 -- ---- The promise
 
 -- the numbers tell the answer
-abbrev backOf : PartVerdict ℕ → Written
-backOf (good l) = Written.Done l
+abbrev backOf : Verdict ℕ → Written
+backOf (accepted l) = Written.Done l
 backOf (refused e line column) = Written.Refused e line column
 
 pub same-written : (a b : Written) → numbersOf a ≡ numbersOf b → a ≡ b
@@ -255,18 +257,18 @@ same-written a b h = sym (back a) ∙ ap backOf h ∙ back b
     back (Written.Refused e line column) = refl
 
 module _ (g : Given) (r₀ : Bytes) where
-  done-by : (l : ℕ) → (v : PartVerdict Bytes) → textFor g (length r₀) ≡ v → W.answer v ≡ Written.Done l →
+  done-by : (l : ℕ) → (v : Verdict Bytes) → textFor g (length r₀) ≡ v → W.answer v ≡ Written.Done l →
       (x : Reading) × Accepted g x × (l ≡ length (canonText x)) × (l ≤ length r₀)
-  done-by l (good bs) e h =
+  done-by l (accepted bs) e h =
       let s = stood g (length r₀) bs e in
       let n : length bs ≡ l = cc in
       let same : l ≡ length (canonText (s .x)) = sym n ∙ ap length (s .same) in
       (s .x, s .accepted, same, omega (arith, s .fits, same))
   done-by l (refused n line column) e h = refused-done h
 
-  refused-by : (n line column : ℕ) → (v : PartVerdict Bytes) → Told g (length r₀) v → W.answer v ≡ Written.Refused n line column →
+  refused-by : (n line column : ℕ) → (v : Verdict Bytes) → Told g (length r₀) v → W.answer v ≡ Written.Refused n line column →
       (W.room r₀ v ≡ r₀) × Refusal g (length r₀) n line column
-  refused-by n line column (good bs) t h = refused-done (sym h)
+  refused-by n line column (accepted bs) t h = refused-done (sym h)
   refused-by n line column (refused e i c) t h =
       let a : e ≡ n = cc in
       let b : i ≡ line = cc in

@@ -12,7 +12,8 @@ use Rattle.rules.specs.Record.{Headers, Item, limit}
 use Rattle.rules.specs.Meaning.{Reading}
 use Rattle.rules.specs.Canon.{canonLines}
 use Rattle.writer_molecule.specs.Body.{readingOf}
-use Rattle.judge_parts.specs.Part.{PartVerdict, good, refused, headersVerdict, itemsVerdict}
+use Rattle.judge_file.specs.Verdict.{Verdict, accepted, refused}
+use Rattle.judge_parts.specs.Part.{headersVerdict, itemsVerdict}
 use Rattle.writer_tables.specs.Tables.{writableTables}
 use Rattle.writer_record.specs.declared.Written.{Written}
 
@@ -41,37 +42,37 @@ canonText x = text (canonLines x)
 -- ---- One test after the other
 
 -- a test that names no line
-abbrev pub demand : {A : Type 0} → Bool → ℕ → PartVerdict A → PartVerdict A
+abbrev pub demand : {A : Type 0} → Bool → ℕ → Verdict A → Verdict A
 demand true e next = next
 demand false e next = refused e 0 0
 
-abbrev pub andThen : {A B : Type 0} → PartVerdict A → (A → PartVerdict B) → PartVerdict B
-andThen (good a) next = next a
+abbrev pub andThen : {A B : Type 0} → Verdict A → (A → Verdict B) → Verdict B
+andThen (accepted a) next = next a
 andThen (refused e line column) next = refused e line column
 
 unfoldable pub roomy : List ℤ → List ℤ → Bool
 roomy atoms bonds = leb (16 * limit) (length atoms) && leb (6 * limit) (length bonds)
 
 -- the reading to be written: room of the tables, tables, header lines, items
-unfoldable pub recordFor : Given → PartVerdict Reading
+unfoldable pub recordFor : Given → Verdict Reading
 recordFor g =
     demand (roomy (g .atoms) (g .bonds)) 2
     (demand (writableTables (g .n) (g .m) (g .chiral) (g .atoms) (g .bonds)) 21
-    (andThen (headersVerdict (g .headers)) λ h. andThen (itemsVerdict (g .items)) λ is. good (handed g h is)))
+    (andThen (headersVerdict (g .headers)) λ h. andThen (itemsVerdict (g .items)) λ is. accepted (handed g h is)))
 
 -- its text, if room of k bytes is enough
-unfoldable pub textFor : Given → ℕ → PartVerdict Bytes
-textFor g k = andThen (recordFor g) λ x. demand (leb (length (canonText x)) k) 20 (good (canonText x))
+unfoldable pub textFor : Given → ℕ → Verdict Bytes
+textFor g k = andThen (recordFor g) λ x. demand (leb (length (canonText x)) k) 20 (accepted (canonText x))
 
 -- ---- The answer and the room
 
-abbrev pub answer : PartVerdict Bytes → Written
-answer (good bs) = Written.Done (length bs)
+abbrev pub answer : Verdict Bytes → Written
+answer (accepted bs) = Written.Done (length bs)
 answer (refused e line column) = Written.Refused e line column
 
 -- the text at the front and all else as it was; after a refusal, all as it was
-abbrev pub room : Bytes → PartVerdict Bytes → Bytes
-room r (good bs) = bs ++ drop (length bs) r
+abbrev pub room : Bytes → Verdict Bytes → Bytes
+room r (accepted bs) = bs ++ drop (length bs) r
 room r (refused e line column) = r
 
 unfoldable pub writeOf : Given → ℕ → Written
