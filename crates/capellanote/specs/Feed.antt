@@ -8,7 +8,7 @@ use mathlib.Core.List.{List}
 use lib.ListN.{length}
 use Rattle.text.specs.Text.{Bytes}
 use Rattle.rules.specs.Record.{Raw, GoodSDfile}
-use Rattle.reader_walk.specs.Promise.{Said}
+use Rattle.judge_file.specs.SameVerdict.{accepted-refused}
 use Rattle.reader_feed.specs.declared.Counter.{Counter}
 use Rattle.reader_feed.specs.declared.Fed.{Fed}
 use Rattle.reader_feed.specs.Fed.{begun, fedOf}
@@ -85,8 +85,7 @@ module _ (a : List ℕ) (room : ℕ) (t : Bytes) where
   kept (accepted n) w h g e f = apart-accepted (sym f ∙ h)
   kept (too-long k) w h g e f = apart-long (sym f ∙ h)
   kept (refused e i c) w h (inl g) n f =
-      let q : Said.refused e i c ≡ Said.accepted (length (g .0)) = w .0 .accepts (length (g .0)) .1 (g .0, g .1, refl) in
-      absurd (let z : _≡_ {A = ℕ} 0 1 = cc in omega arith)
+      accepted-refused (sym (w .0 .accepts (length (g .0)) .1 (g .0, g .1, refl)))
   kept (refused e i c) w h (inr l) n f = absurd (w .1 (l .0) (l .1))
 
 module _ (c : Counter) (part : Bytes) (ended : Bool) (room : ℕ) (a : List ℕ) (p : FeedPromise c part ended room a) where

@@ -3,12 +3,15 @@ use Prim.Native.Nat.{ℕ, _≤_}
 use native.Mathlib.Omega.{arith}
 use mathlib.Core.Path.{_≡_, refl, sym, ap, _∙_, subst}
 use mathlib.Core.List.{List, [], _∷_}
+use lib.ListN.{length}
 use lib.IntN.{ℤ}
 use Rattle.text.specs.Text.{Bytes, Line}
+use Rattle.judge_file.specs.Verdict.{accepted, refused, mapped}
+use Rattle.judge_file.specs.SameVerdict.{accepted-refused, same-numbers}
 use Rattle.formula_rules.specs.Verdict.{Judged}
 use Rattle.formula_rules.specs.Verdict as W
 use Rattle.formula_record.specs.declared.Compared.{Compared}
-use Rattle.formula_record.specs.Said.{Said, differ, refused, toldOf}
+use Rattle.formula_record.specs.Said.{Said}
 use Rattle.formula_record.specs.Promise.{Compares, ComparePromise}
 use Rattle.formula_record.specs.Agree.{record-number}
 use Rattle.capellanote.specs.Answer.{number, byFirst, first-refused}
@@ -50,17 +53,14 @@ said-number (Compares.no-line g f) = omega arith
 said-number (Compares.no-formula g f j) = judged-number j
 said-number (Compares.not-comparable g f j n) = omega arith
 
-told-number : (s : Bytes) (e i column : ℕ) (w : Said) → Compares s w → Compared.Refused e i column ≡ toldOf w → 1 ≤ e
-told-number s e i column (differ ds) c h = absurd (let z : _≡_ {A = ℕ} 0 1 = cc in omega arith)
-told-number s e i column (refused n j d) c h = let z : e ≡ n = cc in omega (arith, said-number c)
-
-two-number : {e i column : ℕ} → Compared.Refused e i column ≡ Compared.Refused 2 0 0 → e ≡ 2
-two-number h = cc
+told-number : (s : Bytes) (e i column : ℕ) (w : Said) → Compares s w → refused e i column ≡ mapped length w → 1 ≤ e
+told-number s e i column (accepted ds) c h = accepted-refused (sym h)
+told-number s e i column (refused n j d) c h = let z = same-numbers h in omega (arith, z .0, said-number c)
 
 module _ (s : Bytes) (ta tb : List ℤ) (f : List ℕ) where
   numbered : (e i column : ℕ) (ta′ tb′ : List ℤ) (f′ : List ℕ) → ComparePromise s ta tb f (Compared.Refused e i column) ta′ tb′ f′ → 1 ≤ e
   numbered e i column ta′ tb′ f′ p =
-      by-room ta tb (λ y. let w = p .compares y in told-number s e i column (w .0) (w .1) (w .2)) (λ n. let z = two-number (p .no-room n .0) in omega (arith, z))
+      by-room ta tb (λ y. let w = p .compares y in told-number s e i column (w .0) (w .1) (w .2)) (λ n. let z = same-numbers (p .no-room n .0) in omega (arith, z .0))
 
   tells : (r : Compared) (ta′ tb′ : List ℤ) (f′ : List ℕ) → ComparePromise s ta tb f r ta′ tb′ f′ → comparedTold (comparedNumbers r) ≡ r
   unfolding comparedNumbers comparedTold

@@ -5,9 +5,10 @@ use mathlib.Core.Path.{_≡_, refl, sym, ap, _∙_, subst}
 use mathlib.Core.List.{List, [], _∷_}
 use Rattle.text.specs.Text.{Bytes}
 use Rattle.judge_file.specs.Place.{sdfile}
+use Rattle.judge_file.specs.SameVerdict.{accepted-refused, same-numbers}
 use Rattle.reader_walk.specs.Promise.{RefusedAt}
 use Rattle.mend_file.specs.declared.Mended.{Mended}
-use Rattle.mend_file.specs.Promise.{Said, mended, refused, numbersOf, Promise}
+use Rattle.mend_file.specs.Promise.{numbersOf, Promise}
 use Rattle.capellanote.specs.Answer.{number, byFirst, first-refused}
 
 -- 0, length, repairs
@@ -38,18 +39,15 @@ line-number : {t : Bytes} {e i column : ℕ} → RefusedAt sdfile t e i column �
 line-number (RefusedAt.line h m c f b) = omega (arith, m .0)
 line-number (RefusedAt.cut-short h v n) = omega arith
 
-same-number : {e i c e′ i′ c′ : ℕ} → refused e i c ≡ refused e′ i′ c′ → e ≡ e′
-same-number h = cc
-
 module _ (s : Bytes) (room list room′ list′ : List ℕ) where
   abbrev Promised : Mended → Type 0
   Promised r = Promise s room list (numbersOf r) room′ list′
 
   numbered : (e i column : ℕ) → Promised (Mended.Refused e i column) → 1 ≤ e
-  numbered e i column (Promise.bad f h a b) = let z = same-number h in omega (arith, line-number f)
-  numbered e i column (Promise.no-room g n h a b) = let z = same-number h in omega arith
-  numbered e i column (Promise.no-list g n k h a b) = let z = same-number h in omega arith
-  numbered e i column (Promise.done g n k h a b) = absurd (let z : _≡_ {A = ℕ} 0 1 = cc in omega arith)
+  numbered e i column (Promise.bad f h a b) = let z = same-numbers h in omega (arith, z .0, line-number f)
+  numbered e i column (Promise.no-room g n h a b) = let z = same-numbers h in omega (arith, z .0)
+  numbered e i column (Promise.no-list g n k h a b) = let z = same-numbers h in omega (arith, z .0)
+  numbered e i column (Promise.done g n k h a b) = accepted-refused (sym h)
 
   tells : (r : Mended) → Promised r → mendTold (mendNumbers r) ≡ r
   unfolding mendNumbers mendTold

@@ -12,8 +12,9 @@ use borrow.Author.Tests.{ltb-true, ltb-false, leb-true, leb-false}
 use Rattle.text.specs.Text.{Bytes}
 use Rattle.rules.specs.Record.{Raw}
 use Rattle.judge_file.specs.Place.{sdfile}
-use Rattle.reader_answer.specs.Promise.{Begins, Roomy, Reads}
-use Rattle.reader_answer.specs.Promise as P
+use Rattle.judge_file.specs.Verdict.{Verdict}
+use Rattle.judge_file.specs.SameVerdict.{accepted-refused}
+use Rattle.reader_answer.specs.Promise.{Reply, Begins, Roomy, Reads}
 use Rattle.reader_answer.specs.Told.{replyOf, begins-told}
 use Rattle.reader_cursor.specs.declared.Cursor.{Cursor}
 use Rattle.reader_file.specs.declared.Next.{Next}
@@ -51,16 +52,16 @@ by-within {X} c s y n = go (ltb (c .at) (length s)) refl (leb (c .lines) (c .at)
 apart-end : {X : Type 0} {e i k : ℕ} → refused e i k ≡ end → X
 apart-end h = absurd (let z : _≡_ {A = ℕ} 0 1 = cc in omega arith)
 
-apart-found : {X : Type 0} {e i k : ℕ} {w : P.Reply} {d : Cursor} → refused e i k ≡ found w d → X
+apart-found : {X : Type 0} {e i k : ℕ} {w : Reply} {d : Cursor} → refused e i k ≡ found w d → X
 apart-found h = absurd (let z : _≡_ {A = ℕ} 0 1 = cc in omega arith)
 
 same-number : {e i k n j l : ℕ} → refused e i k ≡ refused n j l → e ≡ n
 same-number h = cc
 
 module _ (c : Cursor) (s : Bytes) (ta tb ta′ tb′ : List ℤ) where
-  refused-by : (e i column : ℕ) (w : P.Said) → refused e i column ≡ fromHere c w → Reads sdfile (drop (c .at) s) ta tb w ta′ tb′ → 1 ≤ e
-  refused-by e i column (P.Said.accepted w) q r = apart-found q
-  refused-by e i column (P.Said.refused n j d) q r = let z = same-number q in omega (arith, z, none-numbered (r .refuses n j d refl .0))
+  refused-by : (e i column : ℕ) (w : Verdict Reply) → refused e i column ≡ fromHere c w → Reads sdfile (drop (c .at) s) ta tb w ta′ tb′ → 1 ≤ e
+  refused-by e i column (Verdict.accepted w) q r = apart-found q
+  refused-by e i column (Verdict.refused n j d) q r = let z = same-number q in omega (arith, z, none-numbered (r .refuses n j d refl .0))
 
   numbered : (e i column : ℕ) → NextPromise c s ta tb (Next.Refused e i column) ta′ tb′ → 1 ≤ e
   numbered e i column p =
@@ -91,24 +92,23 @@ module _ (c : Cursor) (s : Bytes) (ta tb : List ℤ) (a : List ℕ) (ta′ tb′
   abbrev Good : Type 0
   Good = Roomy ta tb × (Within c s → (x : Raw) × Begins sdfile (drop (c .at) s) x)
 
-  told-record : nextTold a ≡ foundTold a → (w : P.Said) → numbersOf (nextTold a) ≡ fromHere c w → Reads sdfile (drop (c .at) s) ta tb w ta′ tb′ →
+  told-record : nextTold a ≡ foundTold a → (w : Verdict Reply) → numbersOf (nextTold a) ≡ fromHere c w → Reads sdfile (drop (c .at) s) ta tb w ta′ tb′ →
       (x : Raw) × Begins sdfile (drop (c .at) s) x
-  told-record h (P.Said.accepted w) q r = let g = r .accepts w .0 refl in (g .0, g .1)
-  told-record h (P.Said.refused e i k) q r = found-kept a (number a 12) e (c .lines + i) k (sym (ap numbersOf h) ∙ q)
+  told-record h (Verdict.accepted w) q r = let g = r .accepts w .0 refl in (g .0, g .1)
+  told-record h (Verdict.refused e i k) q r = found-kept a (number a 12) e (c .lines + i) k (sym (ap numbersOf h) ∙ q)
 
   told : nextTold a ≡ foundTold a → Good
   told h =
       by-room ta tb (λ y. (y, λ w. let x = p .reads y w in told-record h (x .0) (x .1) (x .2)))
       (λ n. found-kept a (number a 12) 2 0 0 (sym (ap numbersOf h) ∙ p .no-room n .0))
 
-  kept-record : (n : ℕ) → nextTold a ≡ Next.Refused n (number a 1) (number a 2) → (w : P.Said) → numbersOf (nextTold a) ≡ fromHere c w →
+  kept-record : (n : ℕ) → nextTold a ≡ Next.Refused n (number a 1) (number a 2) → (w : Verdict Reply) → numbersOf (nextTold a) ≡ fromHere c w →
       Reads sdfile (drop (c .at) s) ta tb w ta′ tb′ → (x : Raw) × Begins sdfile (drop (c .at) s) x → ⊥
-  kept-record n f (P.Said.accepted w) q r b = apart-found (sym (ap numbersOf f) ∙ q)
-  kept-record n f (P.Said.refused e i k) q r b =
+  kept-record n f (Verdict.accepted w) q r b = apart-found (sym (ap numbersOf f) ∙ q)
+  kept-record n f (Verdict.refused e i k) q r b =
       let t = drop (c .at) s in
       let w = replyOf sdfile t (b .0) in
-      let h : P.Said.refused e i k ≡ P.Said.accepted w = r .accepts w .1 (b .0, b .1, begins-told sdfile t (b .0) (b .1)) in
-      absurd (let z : _≡_ {A = ℕ} 0 1 = cc in omega arith)
+      accepted-refused (sym (r .accepts w .1 (b .0, b .1, begins-told sdfile t (b .0) (b .1))))
 
   kept : Good → (n : ℕ) → nextTold a ≡ Next.Refused n (number a 1) (number a 2) → ⊥
   kept g n f =

@@ -5,8 +5,10 @@ use mathlib.Core.Path.{_≡_, refl, sym, ap, _∙_, subst}
 use mathlib.Core.List.{List, [], _∷_}
 use lib.IntN.{ℤ}
 use Rattle.text.specs.Text.{Bytes}
+use Rattle.judge_file.specs.SameVerdict.{accepted-refused, same-numbers}
 use Rattle.reader_answer.specs.declared.RecordRead.{RecordRead}
 use Rattle.reader_answer.specs.Promise.{ReadPromise}
+use Rattle.reader_answer.specs.Promise as R
 use Rattle.piece_record.specs.declared.RecordSplit.{RecordSplit}
 use Rattle.piece_record.specs.Promise.{Lists, SplitPromise}
 use Rattle.piece_record.specs.Promised.{found}
@@ -47,19 +49,13 @@ module _ (kind : ℕ) (s : Bytes) (ta tb : List ℤ) (was : Lists) (ta′ tb′ 
       at : (d : RecordRead) → p .reading ≡ d → ReadPromise kind s ta tb d ta′ tb′
       at d h = subst (λ (z : RecordRead). ReadPromise kind s ta tb z ta′ tb′) h (p .reads)
 
-      apart : {X : Type 0} {n c : ℕ} → RecordSplit.Refused e i column ≡ RecordSplit.Pieces n c → X
-      apart h = absurd (let z : _≡_ {A = ℕ} 0 1 = cc in omega arith)
-
-      same : {e′ i′ column′ : ℕ} → RecordSplit.Refused e i column ≡ RecordSplit.Refused e′ i′ column′ → e ≡ e′
-      same h = cc
-
       go : (d : RecordRead) → p .reading ≡ d → 1 ≤ e
       go (RecordRead.Read n m chiral len lines h a b) q =
           let f = found kind s ta tb ta′ tb′ n m chiral len lines h a b (at (RecordRead.Read n m chiral len lines h a b) q) in
-          apart (p .splits (f .k) (f .is) (f .room) (f .x) (f .begins) .answer)
+          accepted-refused (sym (p .splits (f .k) (f .is) (f .room) (f .x) (f .begins) .answer))
       go (RecordRead.Refused e′ i′ column′) q =
-          let z = same (p .refuses e′ i′ column′ q .0) in
-          omega (arith, z, read-numbered kind s ta tb e′ i′ column′ ta′ tb′ (at (RecordRead.Refused e′ i′ column′) q))
+          let z = same-numbers (p .refuses e′ i′ column′ (ap R.numbersOf q) .0) in
+          omega (arith, z .0, read-numbered kind s ta tb e′ i′ column′ ta′ tb′ (at (RecordRead.Refused e′ i′ column′) q))
 
   tells : (r : RecordSplit) → Promised r → splitTold (splitNumbers r) ≡ r
   unfolding splitNumbers splitTold

@@ -12,10 +12,11 @@ use borrow.Author.Tests.{ltb-true, ltb-false}
 use Rattle.text.specs.Text.{Bytes}
 use Rattle.rules.specs.Record.{Raw, atomPlaces, bondPlaces}
 use Rattle.judge_file.specs.Place.{FileKind, molfile, sdfile}
+use Rattle.judge_file.specs.Verdict.{refused}
+use Rattle.judge_file.specs.SameVerdict.{accepted-refused, same-numbers}
 use Rattle.judge_refusals.specs.NoRecord.{NoRecord}
 use Rattle.reader_answer.specs.declared.RecordRead.{RecordRead}
-use Rattle.reader_answer.specs.Promise.{Begins, Roomy, Refusal, kindNumber, numbersOf, accepted, ReadPromise}
-use Rattle.reader_answer.specs.Promise as R
+use Rattle.reader_answer.specs.Promise.{Begins, Roomy, Reads, Refusal, kindNumber, numbersOf, ReadPromise}
 use Rattle.reader_rows.specs.Says.{rowPlaces}
 use Rattle.reader_answer.specs.declared.Counted.{Counted}
 use Rattle.reader_answer.specs.Rowed.{After, after, rowedOf, RowedPromise}
@@ -71,14 +72,11 @@ pub refusal-numbered : (k : FileKind) (s : Bytes) (e i column : ℕ) → Refusal
 refusal-numbered molfile s e i column r = at-numbered r
 refusal-numbered sdfile s e i column r = none-numbered r
 
-same-number : {e i c n j d : ℕ} → R.refused e i c ≡ R.refused n j d → e ≡ n
-same-number h = cc
-
 module _ (kind : ℕ) (s : Bytes) (ta tb : List ℤ) where
   pub read-numbered : (e i column : ℕ) (ta′ tb′ : List ℤ) → ReadPromise kind s ta tb (RecordRead.Refused e i column) ta′ tb′ → 1 ≤ e
   read-numbered e i column ta′ tb′ p =
-      by-kind kind (λ k h few. by-room ta tb (λ y. refusal-numbered k s e i column (p .reads k h y .refuses e i column refl .0)) (λ n. let z = same-number (p .no-room few n .0) in omega (arith, z)))
-      (λ h. let z = same-number (p .other-kind h .0) in omega (arith, z))
+      by-kind kind (λ k h few. by-room ta tb (λ y. refusal-numbered k s e i column (p .reads k h y .refuses e i column refl .0)) (λ n. let z = same-numbers (p .no-room few n .0) in omega (arith, z .0)))
+      (λ h. let z = same-numbers (p .other-kind h .0) in omega (arith, z .0))
 
 tells : (r : RecordRead) (q : ℕ) → ((e i column : ℕ) → r ≡ RecordRead.Refused e i column → 1 ≤ e) → readTold (readNumbers r q) ≡ r
 unfolding readNumbers readTold
@@ -99,8 +97,8 @@ module _ (kind : ℕ) (s : Bytes) (ta tb : List ℤ) (ws : List ℕ) where
       (λ n. numbered 2 (omega arith) (p .no-room few n .0 .0)))
       (λ q. numbered 1 (omega arith) (p .other-kind q .0 .0))
     where
-      numbered : (n : ℕ) → 1 ≤ n → numbersOf (y .read) ≡ R.refused n 0 0 → 1 ≤ e
-      numbered n few q = let z = same-number (sym (ap numbersOf h) ∙ q) in omega (arith, z)
+      numbered : (n : ℕ) → 1 ≤ n → numbersOf (y .read) ≡ refused n 0 0 → 1 ≤ e
+      numbered n few q = let z = same-numbers (sym (ap numbersOf h) ∙ q) in omega (arith, z .0)
 
   module _ (r : Counted) (ta′ tb′ : List ℤ) (ws′ : List ℕ) (out : List ℕ) (e : out ≡ readNumbers (r .read) (r .asked)) where
     -- the array, of the definition
@@ -122,25 +120,22 @@ module _ (kind : ℕ) (s : Bytes) (ta tb : List ℤ) (ws : List ℕ) where
 
 -- ---- The first number is 0 exactly for a good record
 
-apart : {X : Type 0} {e i c : ℕ} {w : R.Reply} → R.refused e i c ≡ accepted w → X
-apart h = absurd (let z : _≡_ {A = ℕ} 0 1 = cc in omega arith)
-
 module _ (kind : ℕ) (s : Bytes) (ta tb : List ℤ) (ws : List ℕ) (a : List ℕ) (ta′ tb′ : List ℤ) (ws′ : List ℕ) (p : RowedPromise kind s ta tb ws (rowedTold a ta′ tb′ ws′)) where
   told : readTold a ≡ recordTold a → GoodRecord kind s ta tb ws
   told h = by-kind kind
       (λ k e few. by-room ta tb
       (λ y. by-rows ws
       (λ l. let g = p .reads k e y l .0 .accepts _ .0 (ap numbersOf h) in (k, e, y, l, (g .0, g .1)))
-      (λ l. apart (sym (p .no-rows few y l .0 .0) ∙ ap numbersOf h)))
-      (λ n. apart (sym (p .no-room few n .0 .0) ∙ ap numbersOf h)))
-      (λ e. apart (sym (p .other-kind e .0 .0) ∙ ap numbersOf h))
+      (λ l. accepted-refused (sym (ap numbersOf h) ∙ p .no-rows few y l .0 .0)))
+      (λ n. accepted-refused (sym (ap numbersOf h) ∙ p .no-room few n .0 .0)))
+      (λ e. accepted-refused (sym (ap numbersOf h) ∙ p .other-kind e .0 .0))
 
   kept : GoodRecord kind s ta tb ws → (n : ℕ) → readTold a ≡ RecordRead.Refused n (number a 1) (number a 2) → ⊥
   kept g n h =
       let k = g .0 in
       let x = g .4 .0 in
       let w = replyOf k s x in
-      apart (sym (ap numbersOf h) ∙ p .reads k (g .1) (g .2) (g .3) .0 .accepts w .1 (x, g .4 .1, begins-told k s x (g .4 .1)))
+      accepted-refused (sym (p .reads k (g .1) (g .2) (g .3) .0 .accepts w .1 (x, g .4 .1, begins-told k s x (g .4 .1))) ∙ ap numbersOf h)
 
   pub read-good : (number a 0 ≡ 0) ↔ GoodRecord kind s ta tb ws
   unfolding readTold

@@ -4,7 +4,7 @@ use native.Mathlib.Omega.{arith}
 use mathlib.Core.Path.{_≡_, refl, sym, ap}
 use mathlib.Core.Bool.{Bool, true, false}
 use mathlib.Core.List.{List, [], _∷_}
-use Rattle.reader_walk.specs.Promise.{Said, accepted, refused}
+use Rattle.judge_file.specs.Verdict.{Verdict, accepted, refused}
 use Rattle.reader_check.specs.declared.Answer.{Answer}
 use Rattle.reader_check.specs.Promised.{numbersOf}
 use Rattle.reader_answer.specs.declared.RecordRead.{RecordRead}
@@ -21,7 +21,7 @@ use Rattle.writer_answer.specs.declared.Catalogue.{Catalogue}
 -- ---- The check of a whole file
 
 -- 0, records, 0
-unfoldable pub checkNumbers : Said → List ℕ
+unfoldable pub checkNumbers : Verdict ℕ → List ℕ
 checkNumbers (accepted count) = 0 ∷ (count ∷ (0 ∷ []))
 checkNumbers (refused e i column) = e ∷ (i ∷ (column ∷ []))
 

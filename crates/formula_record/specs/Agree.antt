@@ -12,6 +12,7 @@ use Rattle.text.specs.Text.{Bytes, Line}
 use Rattle.text.specs.Laws.{and-true}
 use Rattle.rules.specs.Record.{Raw, limit}
 use Rattle.judge_file.specs.Place.{sdfile}
+use Rattle.judge_file.specs.Verdict.{accepted, refused, mapped}
 use Rattle.judge_refusals.specs.NoRecord.{NoRecord}
 use Rattle.reader_walk.specs.Outcome.{Outcome, whole, outcomeOf}
 use Rattle.reader_walk.specs.Outcome as O
@@ -30,8 +31,8 @@ use Rattle.formula_rules.specs.Verdict.{Verdict, counts, Judged, differences}
 use Rattle.formula_rules.specs.Verdict as W
 use Rattle.formula_rules.specs.Judged.{verdictOf, judged, one-verdict}
 use Rattle.formula_drawn.specs.Drawn.{onlyElements, howMany}
-use Rattle.formula_record.specs.Said.{Said, differ, refused, formulaName, symbols, Value, nowhere, none, first, valueIn, valueOf, byVerdict, byValue, byOutcome, saidOf, toldOf, foundIn, room, answerOf, foundAfter}
-use Rattle.formula_record.specs.Promise.{OnlyElements, Compares, ComparePromise}
+use Rattle.formula_record.specs.Said.{Said, formulaName, symbols, Value, nowhere, none, first, valueIn, valueOf, byVerdict, byValue, byOutcome, saidOf, toldOf, foundIn, room, answerOf, foundAfter}
+use Rattle.formula_record.specs.Promise.{numbersOf, OnlyElements, Compares, ComparePromise}
 use Rattle.formula_record.specs.Values.{Valued, valued, value-none, value-first, only-elements, elements-only}
 use Rattle.formula_record.specs.declared.Compared.{Compared}
 
@@ -49,7 +50,7 @@ module _ (s : Bytes) where
   by-first x g [] f = Compares.no-line g f
   by-first x g (l ∷ vs) f = go (verdictOf l) (judged l)
     where
-      all : (ts : Trees) (b : Bool) → onlyElements (symbols (x .molecule .atoms)) ≡ b → Judged l (counts ts) → Compares s (cond b (differ (differences (countTrees ts) (howMany (symbols (x .molecule .atoms))))) (refused 34 0 0))
+      all : (ts : Trees) (b : Bool) → onlyElements (symbols (x .molecule .atoms)) ≡ b → Judged l (counts ts) → Compares s (cond b (accepted (differences (countTrees ts) (howMany (symbols (x .molecule .atoms))))) (refused 34 0 0))
       all ts true e j = Compares.compared g f j (only-elements (symbols (x .molecule .atoms)) e)
       all ts false e j = Compares.not-comparable g f j (λ h. never (elements-only (symbols (x .molecule .atoms)) h) e)
 
@@ -143,6 +144,14 @@ unfolding answerOf foundAfter
 promised s ta tb f r ta′ tb′ f′ er ef q p =
     record {
       tables = (q, p);
-      no-room = λ n. (er ∙ rw (without-room ta tb n), ef ∙ rw (without-room ta tb n));
-      compares = λ y. (saidOf s, compares s, er ∙ rw (with-room ta tb y), ef ∙ rw (with-room ta tb y));
+      no-room = λ n.
+          let z : r ≡ Compared.Refused 2 0 0 = er ∙ rw (without-room ta tb n) in
+          (ap numbersOf z, ef ∙ rw (without-room ta tb n));
+      compares = λ y.
+          let z : r ≡ toldOf (saidOf s) = er ∙ rw (with-room ta tb y) in
+          (saidOf s, compares s, ap numbersOf z ∙ said (saidOf s), ef ∙ rw (with-room ta tb y));
     }
+  where
+    said : (w : Said) → numbersOf (toldOf w) ≡ mapped length w
+    said (accepted ds) = refl
+    said (refused e i column) = refl

@@ -14,9 +14,11 @@ use Rattle.rules.specs.Meaning.{meaning, atomsFrom}
 use Rattle.rules.specs.Rewritten.{record-good}
 use Rattle.reader_tables.specs.Row.{flat}
 use Rattle.judge_file.specs.Place.{sdfile}
+use Rattle.judge_file.specs.Verdict.{accepted}
+use Rattle.judge_file.specs.SameVerdict.{accepted-refused}
 use Rattle.reader_answer.specs.declared.RecordRead.{RecordRead}
 use Rattle.reader_answer.specs.Read.{rowsIn}
-use Rattle.reader_answer.specs.Promise.{Reply, accepted, refused, numbersOf, Begins, Told, Roomy, ReadPromise, kindNumber}
+use Rattle.reader_answer.specs.Promise.{Reply, numbersOf, Begins, Told, Roomy, ReadPromise, kindNumber}
 use Rattle.formula_drawn.specs.Drawn.{plain, symbolAt, symbolsFrom}
 use Rattle.formula_record.specs.Said.{symbols, room}
 use Rattle.formula_record.specs.Agree.{has-room, with-room}
@@ -66,9 +68,6 @@ rows-of m xs cap ta t n e k =
 pub no-room : {ta tb : List ℤ} → room (length ta) (length tb) ≡ false → Roomy ta tb → ⊥
 no-room {ta} {tb} h y = let z : true ≡ false = sym (with-room ta tb y) ∙ h in let z : _≡_ {A = ℕ} 0 1 = cc in omega arith
 
-not-accepted : {X : Type 0} {w : Reply} → accepted w ≡ refused 2 0 0 → X
-not-accepted h = absurd (let z : _≡_ {A = ℕ} 0 1 = cc in omega arith)
-
 module _ (s : Bytes) (ta tb : List ℤ) (q : RecordRead) (ta′ tb′ : List ℤ) (p : ReadPromise 1 s ta tb q ta′ tb′) where
   module _ (w : Reply) (e : numbersOf q ≡ accepted w) where
     pub read-room : Roomy ta tb
@@ -76,7 +75,7 @@ module _ (s : Bytes) (ta tb : List ℤ) (q : RecordRead) (ta′ tb′ : List ℤ
       where
         go : (b : Bool) → room (length ta) (length tb) ≡ b → Roomy ta tb
         go true h = has-room ta tb h
-        go false h = not-accepted (sym e ∙ p .no-room (omega arith) (λ y. no-room h y) .0)
+        go false h = accepted-refused (sym e ∙ p .no-room (omega arith) (λ y. no-room h y) .0)
 
     pub ready : Ready s ta′ (w .n)
     unfolding meaning

@@ -10,6 +10,8 @@ use Rattle.text.specs.Find.{sameBytes}
 use Rattle.rules.specs.Forms.{Atom}
 use Rattle.rules.specs.Record.{Item, limit}
 use Rattle.judge_file.specs.Place.{sdfile}
+use Rattle.judge_file.specs.Verdict.{accepted, refused}
+use Rattle.judge_file.specs.Verdict as J
 use Rattle.reader_walk.specs.Outcome.{Outcome, whole, outcomeOf}
 use Rattle.reader_walk.specs.Outcome as O
 use Rattle.formula_rules.specs.Total.{countTrees}
@@ -19,9 +21,8 @@ use Rattle.formula_rules.specs.Judged.{verdictOf}
 use Rattle.formula_drawn.specs.Drawn.{onlyElements, howMany}
 use Rattle.formula_record.specs.declared.Compared.{Compared}
 
-pub data Said : Type 0 where
-  differ : List Difference → Said
-  refused : ℕ → ℕ → ℕ → Said  -- number, line, column
+abbrev pub Said : Type 0
+Said = J.Verdict (List Difference)
 
 abbrev pub formulaName : Bytes
 formulaName = bytes "FORMULA"
@@ -47,7 +48,7 @@ valueOf name (i ∷ is) = cond (sameBytes (i .name) name) (valueIn (i .values)) 
 -- ---- What is said, in the order in which it is judged
 
 abbrev pub byVerdict : List ℕ → Verdict → Said
-byVerdict ks (counts ts) = cond (onlyElements ks) (differ (differences (countTrees ts) (howMany ks))) (refused 34 0 0)
+byVerdict ks (counts ts) = cond (onlyElements ks) (accepted (differences (countTrees ts) (howMany ks))) (refused 34 0 0)
 byVerdict ks (W.refused n) = refused n 0 0
 
 abbrev pub byValue : List ℕ → Value → Said
@@ -65,7 +66,7 @@ saidOf s = byOutcome (outcomeOf sdfile s)
 -- ---- The answer and the list
 
 abbrev pub toldOf : Said → Compared
-toldOf (differ ds) = Compared.Differ (length ds)
+toldOf (accepted ds) = Compared.Differ (length ds)
 toldOf (refused e i column) = Compared.Refused e i column
 
 -- kept shut, for it computes
@@ -73,7 +74,7 @@ unfoldable pub zeros : List ℕ
 zeros = replicate 354 0
 
 abbrev pub foundIn : Said → List ℕ
-foundIn (differ ds) = sets zeros 0 (numbers ds)
+foundIn (accepted ds) = sets zeros 0 (numbers ds)
 foundIn (refused e i column) = zeros
 
 -- both tables have room for as many atoms and bonds as a record may have

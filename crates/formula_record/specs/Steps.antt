@@ -12,6 +12,8 @@ use borrow.Author.Tests.{eq-eqb, ne-eqb}
 use Rattle.text.specs.Text.{Bytes, Line}
 use Rattle.rules.specs.Record.{Raw}
 use Rattle.judge_file.specs.Place.{sdfile}
+use Rattle.judge_file.specs.Verdict.{accepted, refused}
+use Rattle.judge_file.specs.SameVerdict.{same-numbers}
 use Rattle.judge_refusals.specs.NoRecord.{NoRecord}
 use Rattle.reader_walk.specs.Stands.{moleculeLines}
 use Rattle.reader_item.specs.Find as F
@@ -20,8 +22,7 @@ use Rattle.reader_item.specs.Promise.{NoneNamed, RefusedAt}
 use Rattle.reader_item.specs.Agree.{refused-is}
 use Rattle.reader_item.specs.Beyond.{FirstNamed}
 use Rattle.reader_answer.specs.declared.RecordRead.{RecordRead}
-use Rattle.reader_answer.specs.Promise.{Reply, accepted, numbersOf, Begins, Roomy, ReadPromise}
-use Rattle.reader_answer.specs.Promise as P
+use Rattle.reader_answer.specs.Promise.{Reply, numbersOf, Begins, Roomy, ReadPromise}
 use Rattle.reader_answer.specs.Told.{begins-outcome, begins-one}
 use Rattle.reader_first_line.specs.declared.FirstLine.{FirstLine}
 use Rattle.reader_first_line.specs.Promise.{FirstAt, FirstPromise}
@@ -37,7 +38,7 @@ use Rattle.formula_rules.specs.Judged.{empty, sumsOf, countsOf, sum-exact, verd
 use Rattle.formula_drawn.specs.Drawn.{symbolsFrom, onlyElements, howMany, tallied}
 use Rattle.formula_drawn.specs.Tallying.{tally-entry, symbols-length}
 use Rattle.formula_drawn.specs.Listing.{entry}
-use Rattle.formula_record.specs.Said.{Said, differ, refused, formulaName, symbols, valueOf, byVerdict, byValue, saidOf, toldOf, foundIn, zeros, room, answerOf, foundAfter}
+use Rattle.formula_record.specs.Said.{Said, formulaName, symbols, valueOf, byVerdict, byValue, saidOf, toldOf, foundIn, zeros, room, answerOf, foundAfter}
 use Rattle.formula_record.specs.Promise.{ComparePromise}
 use Rattle.formula_record.specs.Values.{value-none, value-first}
 use Rattle.formula_record.specs.Agree.{good-said, record-number, refused-said, with-room, has-room, promised}
@@ -127,7 +128,7 @@ module _ (line : Bytes) (ks : List ℕ) {no : ℕ} (en : no ≡ numberOf (verdic
           (Compared.Differ c ≡ toldOf (byVerdict ks (verdictOf line))) × (u ≡ foundIn (byVerdict ks (verdictOf line)))
       line-differs c ec f u ef eu =
           let o : onlyElements ks ≡ true = sym eb ∙ hb in
-          let s : byVerdict ks (verdictOf line) ≡ differ (differences (entry w) (entry d)) = ap (byVerdict ks) (it .is) ∙ rw o (ap differ (sym same)) in (
+          let s : byVerdict ks (verdictOf line) ≡ accepted (differences (entry w) (entry d)) = ap (byVerdict ks) (it .is) ∙ rw o (ap accepted (sym same)) in (
             ap Compared.Differ ec ∙ sym (ap toldOf s),
             eu ∙ ap (λ (x : List ℕ). sets x 0 (numbers (differences (entry w) (entry d)))) ef ∙ sym (ap foundIn s),
           )
@@ -241,11 +242,11 @@ module _ (s : Bytes) (ta tb : List ℤ) (f : List ℕ) (q : RecordRead) (ta′ t
   unfolding answerOf foundAfter
   refused-kept e i c h r u er eu = go (room (length ta) (length tb)) refl
     where
-      no-space : room (length ta) (length tb) ≡ false → P.refused e i c ≡ P.refused 2 0 0 → Kept r u
+      no-space : room (length ta) (length tb) ≡ false → (e ≡ 2) × (i ≡ 0) × (c ≡ 0) → Kept r u
       no-space o z =
-          let x : e ≡ 2 = cc in
-          let y : i ≡ 0 = cc in
-          let w : c ≡ 0 = cc in
+          let x = z .0 in
+          let y = z .1 in
+          let w = z .2 in
           kept r u (er ∙ rw (x, y, w, o)) (eu ∙ rw (eq-eqb e 2 x, o))
 
       go : (b : Bool) → room (length ta) (length tb) ≡ b → Kept r u
@@ -256,4 +257,4 @@ module _ (s : Bytes) (ta tb : List ℤ) (f : List ℕ) (q : RecordRead) (ta′ t
           let d = refused-said s e i c g in
           let x : (e ≡ 2 → ⊥) = λ z. omega (arith, l) in
           kept r u (er ∙ rw o (sym (ap toldOf d))) (eu ∙ rw (ne-eqb e 2 x, o) (sym (ap foundIn d)))
-      go false o = no-space o (sym (ap numbersOf h) ∙ p .no-room (omega arith) (λ y. no-room o y) .0)
+      go false o = no-space o (same-numbers (sym (ap numbersOf h) ∙ p .no-room (omega arith) (λ y. no-room o y) .0))

@@ -12,9 +12,23 @@ use Rattle.rules.specs.Forms.{Bond}
 use Rattle.rules.specs.Record.{Raw, limit}
 use Rattle.piece_rules.specs.Pieces.{Split}
 use Rattle.judge_file.specs.Place.{FileKind}
+use Rattle.judge_file.specs.Verdict.{Verdict, accepted, refused}
 use Rattle.reader_answer.specs.declared.RecordRead.{RecordRead}
 use Rattle.reader_answer.specs.Promise.{Begins, Roomy, ReadPromise, kindNumber}
+use Rattle.reader_answer.specs.Promise as R
 use Rattle.piece_record.specs.declared.RecordSplit.{RecordSplit}
+
+-- ---- What an answer says
+
+pub record Counts : Type 0 where
+  pub atoms : ℕ
+  pub pieces : ℕ
+
+abbrev pub numbersOf : RecordSplit → Verdict Counts
+numbersOf (RecordSplit.Pieces atoms pieces) = accepted (record { atoms = atoms; pieces = pieces })
+numbersOf (RecordSplit.Refused e line column) = refused e line column
+
+-- ---- The promise
 
 -- the three lists lent: each atom's lowest, the pieces' lowest atoms, their sizes
 pub record Lists : Type 0 where
@@ -36,7 +50,7 @@ listsAfter e was = cond (leb e 2) was (listsOf zeros zeros zeros)
 -- n atoms with these bonds are split
 pub record SplitInto (n : ℕ) (bs : List Bond) (r : RecordSplit) (after : Lists) : Type 0 where
   pub count : ℕ
-  pub answer : r ≡ RecordSplit.Pieces n count
+  pub answer : numbersOf r ≡ accepted (record { atoms = n; pieces = count })
   pub split : Split n bs (after .labels) (after .heads) (after .sizes) count
   pub rooms : (length (after .labels) ≡ limit) × (length (after .heads) ≡ limit) × (length (after .sizes) ≡ limit)
 
@@ -46,4 +60,4 @@ pub record SplitPromise (kind : ℕ) (s : Bytes) (ta tb : List ℤ) (was : Lists
   pub reads : ReadPromise kind s ta tb reading ta′ tb′
   pub splits : (k : FileKind) → kind ≡ kindNumber k → Roomy ta tb → (x : Raw) → Begins k s x →
       SplitInto (x .molecule .counts .atoms) (x .molecule .bonds) r after
-  pub refuses : (e i column : ℕ) → reading ≡ RecordRead.Refused e i column → (r ≡ RecordSplit.Refused e i column) × (after ≡ listsAfter e was)
+  pub refuses : (e i column : ℕ) → R.numbersOf reading ≡ refused e i column → (numbersOf r ≡ refused e i column) × (after ≡ listsAfter e was)

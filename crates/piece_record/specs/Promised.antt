@@ -14,9 +14,12 @@ use Rattle.rules.specs.Record.{Raw, limit, Molfile, Record}
 use Rattle.rules.specs.Meaning.{meaning, bondNumbers}
 use Rattle.reader_tables.specs.Row.{flat}
 use Rattle.judge_file.specs.Place.{FileKind, molfile, sdfile}
+use Rattle.judge_file.specs.Verdict.{Verdict, accepted, refused}
+use Rattle.judge_file.specs.SameVerdict.{accepted-refused, same-reason}
 use Rattle.reader_answer.specs.declared.RecordRead.{RecordRead}
 use Rattle.reader_answer.specs.Read.{rowsIn}
-use Rattle.reader_answer.specs.Promise.{Said, accepted, refused, Reply, numbersOf, Begins, Roomy, ReadPromise, kindNumber}
+use Rattle.reader_answer.specs.Promise.{Reply, Begins, Roomy, ReadPromise, kindNumber}
+use Rattle.reader_answer.specs.Promise as R
 use Rattle.reader_answer.specs.Told.{begins-told, replyOf}
 use Rattle.reader_answer.specs.Promised.{read-one}
 use Rattle.piece_rules.specs.Inside.{Joined, joined}
@@ -25,7 +28,7 @@ use Rattle.piece_labels.specs.Table.{BondTable, bondsIn}
 use Rattle.piece_labels.specs.Rows.{rowsOf, filled-table, filled-bonds}
 use Rattle.piece_list.specs.Listing.{Blank}
 use Rattle.piece_record.specs.declared.RecordSplit.{RecordSplit}
-use Rattle.piece_record.specs.Promise.{Lists, listsOf, zeros, listsAfter, SplitInto, SplitPromise}
+use Rattle.piece_record.specs.Promise.{Counts, numbersOf, Lists, listsOf, zeros, listsAfter, SplitInto, SplitPromise}
 
 -- ---- After a refusal
 
@@ -98,11 +101,11 @@ rows-in : (cap : ℕ) (tb vs : List ℤ) → rowsIn cap tb vs ≡ vs ++ behind c
 unfolding rowsIn behind
 rows-in cap tb vs = refl
 
-atomsSaid : Said → ℕ
+atomsSaid : Verdict Reply → ℕ
 atomsSaid (accepted w) = w .n
 atomsSaid (refused e i column) = 0
 
-bondsSaid : Said → ℕ
+bondsSaid : Verdict Reply → ℕ
 bondsSaid (accepted w) = w .m
 bondsSaid (refused e i column) = 0
 
@@ -118,9 +121,6 @@ pub record Found (kind : ℕ) (s : Bytes) (ta tb : List ℤ) : Type 0 where
 
 module _ (kind : ℕ) (s : Bytes) (ta tb ta′ tb′ : List ℤ) (n m chiral len lines h a b : ℕ)
     (p : ReadPromise kind s ta tb (RecordRead.Read n m chiral len lines h a b) ta′ tb′) where
-  apart : {X : Type 0} (w : Reply) (e : ℕ) → accepted w ≡ refused e 0 0 → X
-  apart w e q = absurd (let z : _≡_ {A = ℕ} 0 1 = cc in omega arith)
-
   reply : Reply
   reply = record { n = n; m = m; chiral = chiral; bytes = len; lines = lines; header-end = h; items-start = a; items-end = b }
 
@@ -128,7 +128,7 @@ module _ (kind : ℕ) (s : Bytes) (ta tb ta′ tb′ : List ℤ) (n m chiral len
   roomy few = go (ltb (length ta) (16 * limit)) refl (ltb (length tb) (6 * limit)) refl
     where
       none : {X : Type 0} → ¬ Roomy ta tb → X
-      none no-room = apart _ 2 (p .no-room few no-room .0)
+      none no-room = accepted-refused (p .no-room few no-room .0)
 
       go : (t : Bool) → ltb (length ta) (16 * limit) ≡ t → (u : Bool) → ltb (length tb) (6 * limit) ≡ u → Roomy ta tb
       go true e u f = none (λ y. omega (arith, ltb-true (length ta) (16 * limit) e, y .atoms))
@@ -146,7 +146,7 @@ module _ (kind : ℕ) (s : Bytes) (ta tb ta′ tb′ : List ℤ) (n m chiral len
       go : (i : ℕ) → kind ≡ i → Found kind s ta tb
       go zero e = at-kind molfile e (omega arith)
       go (suc zero) e = at-kind sdfile e (omega arith)
-      go (suc (suc i)) e = apart _ 1 (p .other-kind (omega arith) .0)
+      go (suc (suc i)) e = accepted-refused (p .other-kind (omega arith) .0)
 
   pub record-holds : (k : FileKind) → kind ≡ kindNumber k → Roomy ta tb → (x : Raw) → Begins k s x → Holds x n m tb′
   unfolding atomsSaid bondsSaid
@@ -175,38 +175,34 @@ promise-split kind s ta tb was q ta′ tb′ n m chiral len lines h a b r after 
           let d = record-holds kind s ta tb ta′ tb′ n m chiral len lines h a b (subst (λ (z : RecordRead). ReadPromise kind s ta tb z ta′ tb′) e p) k f room x g in
           subst (λ (bs : List Bond). SplitInto (x .molecule .counts .atoms) bs r after) (d .bonds)
           (subst (λ (j : ℕ). SplitInto j (bondsIn tb′ m) r after) (d .atoms) i);
-      refuses = λ e₀ line column f. apart-read (sym e ∙ f);
+      refuses = λ e₀ line column f. accepted-refused (sym (ap R.numbersOf e) ∙ f);
     }
-  where
-    apart-read : {X : Type 0} {e₀ line column : ℕ} → RecordRead.Read n m chiral len lines h a b ≡ RecordRead.Refused e₀ line column → X
-    apart-read z = absurd (let y : _≡_ {A = ℕ} 0 1 = cc in omega arith)
-
-asSplit : RecordRead → RecordSplit
-asSplit (RecordRead.Read n m chiral len lines h a b) = RecordSplit.Pieces 0 0
-asSplit (RecordRead.Refused e i column) = RecordSplit.Refused e i column
-
-numberOf : RecordRead → ℕ
-numberOf (RecordRead.Read n m chiral len lines h a b) = 0
-numberOf (RecordRead.Refused e i column) = e
 
 pub promise-refused : (kind : ℕ) (s : Bytes) (ta tb : List ℤ) (was : Lists) (q : RecordRead) (ta′ tb′ : List ℤ) (e₀ line column : ℕ) (r : RecordSplit) (after : Lists) →
     ReadPromise kind s ta tb q ta′ tb′ → q ≡ RecordRead.Refused e₀ line column → r ≡ RecordSplit.Refused e₀ line column → after ≡ listsAfter e₀ was →
     SplitPromise kind s ta tb was r ta′ tb′ after
-unfolding asSplit numberOf
 promise-refused kind s ta tb was q ta′ tb′ e₀ line column r after p e f g =
     record {
       reading = q;
       reads = p;
-      splits = λ k i room x d. apart-read (sym (p .reads k i room .accepts (replyOf k s x) .1 (x, d, begins-told k s x d)) ∙ ap numbersOf e);
+      splits = λ k i room x d. accepted-refused (sym (p .reads k i room .accepts (replyOf k s x) .1 (x, d, begins-told k s x d)) ∙ ap R.numbersOf e);
       refuses = λ e₁ line′ column′ h.
-          let z : RecordRead.Refused e₀ line column ≡ RecordRead.Refused e₁ line′ column′ = sym e ∙ h in
-          (f ∙ ap asSplit z, g ∙ ap (λ (y : RecordRead). listsAfter (numberOf y) was) z);
+          same-reason (λ (n j d : ℕ). (numbersOf r ≡ refused n j d) × (after ≡ listsAfter n was)) (sym (ap R.numbersOf e) ∙ h) (ap numbersOf f, g);
     }
-  where
-    apart-read : {X : Type 0} {w : Reply} → accepted w ≡ refused e₀ line column → X
-    apart-read z = absurd (let y : _≡_ {A = ℕ} 0 1 = cc in omega arith)
 
 -- ---- One answer and one memory
+
+backOf : Verdict Counts → RecordSplit
+backOf (accepted c) = RecordSplit.Pieces (c .atoms) (c .pieces)
+backOf (refused e line column) = RecordSplit.Refused e line column
+
+same-split : (r r′ : RecordSplit) → numbersOf r ≡ numbersOf r′ → r ≡ r′
+unfolding backOf
+same-split r r′ e = sym (back r) ∙ ap backOf e ∙ back r′
+  where
+    back : (r : RecordSplit) → backOf (numbersOf r) ≡ r
+    back (RecordSplit.Pieces n c) = refl
+    back (RecordSplit.Refused e line column) = refl
 
 module _ (kind : ℕ) (s : Bytes) (ta tb : List ℤ) (was : Lists) (r r′ : RecordSplit) (a b a′ b′ : List ℤ) (l l′ : Lists)
     (p : SplitPromise kind s ta tb was r a b l) (q : SplitPromise kind s ta tb was r′ a′ b′ l′) where
@@ -219,13 +215,13 @@ module _ (kind : ℕ) (s : Bytes) (ta tb : List ℤ) (was : Lists) (r r′ : Rec
       let ls = one-labels n bs (l .labels) (l′ .labels) (l .heads) (l′ .heads) (l .sizes) (l′ .sizes) (i .count) (j .count) few (i .rooms .0, j .rooms .0) (i .rooms .1, j .rooms .1) (i .rooms .2, j .rooms .2) (i .split) (j .split) in
       let hs = one-heads n bs (l .labels) (l′ .labels) (l .heads) (l′ .heads) (l .sizes) (l′ .sizes) (i .count) (j .count) few (i .rooms .0, j .rooms .0) (i .rooms .1, j .rooms .1) (i .rooms .2, j .rooms .2) (i .split) (j .split) in
       let ss = one-sizes n bs (l .labels) (l′ .labels) (l .heads) (l′ .heads) (l .sizes) (l′ .sizes) (i .count) (j .count) few (i .rooms .0, j .rooms .0) (i .rooms .1, j .rooms .1) (i .rooms .2, j .rooms .2) (i .split) (j .split) in
-      (i .answer ∙ ap (λ (c : ℕ). RecordSplit.Pieces n c) one-of ∙ sym (j .answer), λ z. record { labels = ls z; heads = hs z; sizes = ss z })
+      (same-split r r′ (i .answer ∙ ap (λ (c : ℕ). accepted (record { atoms = n; pieces = c })) one-of ∙ sym (j .answer)), λ z. record { labels = ls z; heads = hs z; sizes = ss z })
 
   same-lists : (d : RecordRead) → p .reading ≡ d → (r ≡ r′) × (l ≡ l′)
   same-lists (RecordRead.Refused e i c) h =
-      let x = p .refuses e i c h in
-      let y = q .refuses e i c (sym (same-reading .0) ∙ h) in
-      (x .0 ∙ sym (y .0), x .1 ∙ sym (y .1))
+      let x = p .refuses e i c (ap R.numbersOf h) in
+      let y = q .refuses e i c (ap R.numbersOf (sym (same-reading .0) ∙ h)) in
+      (same-split r r′ (x .0 ∙ sym (y .0)), x .1 ∙ sym (y .1))
   same-lists (RecordRead.Read n m chiral len lines hd at to) h =
       let f = found kind s ta tb a b n m chiral len lines hd at to (subst (λ (z : RecordRead). ReadPromise kind s ta tb z a b) h (p .reads)) in
       let x = f .x in

@@ -5,7 +5,9 @@ use mathlib.Core.Path.{_≡_, refl, sym, ap, ap₂, _∙_, subst}
 use lib.ListN.{length, drop}
 use Rattle.text.specs.Text.{Bytes}
 use Rattle.judge_file.specs.Place.{sdfile}
-use Rattle.reader_walk.specs.Promise.{Said, Checked, checked-one, verdict-checked}
+use Rattle.judge_file.specs.Verdict.{Verdict}
+use Rattle.judge_file.specs.SameVerdict.{accepted-refused, same-reason}
+use Rattle.reader_walk.specs.Promise.{Checked, checked-one, verdict-checked}
 use Rattle.reader_walk.specs.Checking.{saidOf}
 use Rattle.reader_feed.specs.declared.Counter.{Counter}
 use Rattle.reader_feed.specs.Fed.{begun, fedOf}
@@ -19,8 +21,8 @@ use Rattle.reader_feed.specs.Goes.{Small, says, Goes, call-goes}
 
 -- what the check of the whole input promises, if every record ends within the room; else the number of the first that does not
 abbrev pub Writes : ℕ → Bytes → Told → Type 0
-Writes room t (accepted n) = Checked sdfile t (Said.accepted n) × ((k : ℕ) → ¬ TooLong room t k)
-Writes room t (refused e i column) = Checked sdfile t (Said.refused e i column) × ((k : ℕ) → ¬ TooLong room t k)
+Writes room t (accepted n) = Checked sdfile t (Verdict.accepted n) × ((k : ℕ) → ¬ TooLong room t k)
+Writes room t (refused e i column) = Checked sdfile t (Verdict.refused e i column) × ((k : ℕ) → ¬ TooLong room t k)
 Writes room t (too-long k) = TooLong room t k
 
 -- ---- Any sequence of calls says that
@@ -55,16 +57,16 @@ pub counter-says : (room : ℕ) (t : Bytes) (told : Told) → length t + 1 < 2 ^
 unfolding counterSays
 counter-says room t told few f = feeds-say f (record { records = omega (arith, few); lines = omega (arith, few) })
 
-checked-said : (t : Bytes) (s : Said) → saidOf sdfile t ≡ s → Checked sdfile t s
+checked-said : (t : Bytes) (s : Verdict ℕ) → saidOf sdfile t ≡ s → Checked sdfile t s
 checked-said t s e = subst (Checked sdfile t) e (verdict-checked t sdfile)
 
 says-writes : (room : ℕ) (t : Bytes) (told : Told) → counterSays room t ≡ told → Writes room t told
 says-writes room t (accepted n) e = (
-  checked-said t (Said.accepted n) (subst (λ (x : Told). AsChecked x (saidOf sdfile t)) e (as-checked room t)),
+  checked-said t (Verdict.accepted n) (subst (λ (x : Told). AsChecked x (saidOf sdfile t)) e (as-checked room t)),
   λ k l. absurd (let q : accepted n ≡ too-long k = sym e ∙ says-too-long room t k .1 l in let z : _≡_ {A = ℕ} 0 1 = cc in omega arith),
 )
 says-writes room t (refused n i column) e = (
-  checked-said t (Said.refused n i column) (subst (λ (x : Told). AsChecked x (saidOf sdfile t)) e (as-checked room t)),
+  checked-said t (Verdict.refused n i column) (subst (λ (x : Told). AsChecked x (saidOf sdfile t)) e (as-checked room t)),
   λ k l. absurd (let q : refused n i column ≡ too-long k = sym e ∙ says-too-long room t k .1 l in let z : _≡_ {A = ℕ} 0 1 = cc in omega arith),
 )
 says-writes room t (too-long k) e = says-too-long room t k .0 e
@@ -76,20 +78,16 @@ counter-writes room t told few f = says-writes room t told (sym (counter-says ro
 
 pub writes-one : (room : ℕ) (t : Bytes) (a b : Told) → Writes room t a → Writes room t b → a ≡ b
 writes-one room t (accepted n) (accepted m) v w =
-    let e : Said.accepted n ≡ Said.accepted m = checked-one 1 t (Said.accepted n) (Said.accepted m) (v .0) (w .0) in
+    let e : Verdict.accepted n ≡ Verdict.accepted m = checked-one 1 t (Verdict.accepted n) (Verdict.accepted m) (v .0) (w .0) in
     let nm : n ≡ m = cc in
     ap accepted nm
 writes-one room t (accepted n) (refused e i c) v w =
-    let q : Said.accepted n ≡ Said.refused e i c = checked-one 1 t (Said.accepted n) (Said.refused e i c) (v .0) (w .0) in
-    absurd (let z : _≡_ {A = ℕ} 0 1 = cc in omega arith)
+    accepted-refused (checked-one 1 t (Verdict.accepted n) (Verdict.refused e i c) (v .0) (w .0))
 writes-one room t (accepted n) (too-long k) v w = absurd (v .1 k w)
 writes-one room t (refused e i c) (accepted n) v w =
-    let q : Said.accepted n ≡ Said.refused e i c = checked-one 1 t (Said.accepted n) (Said.refused e i c) (w .0) (v .0) in
-    absurd (let z : _≡_ {A = ℕ} 0 1 = cc in omega arith)
+    accepted-refused (checked-one 1 t (Verdict.accepted n) (Verdict.refused e i c) (w .0) (v .0))
 writes-one room t (refused e i c) (refused e′ i′ c′) v w =
-    let q : Said.refused e i c ≡ Said.refused e′ i′ c′ = checked-one 1 t (Said.refused e i c) (Said.refused e′ i′ c′) (v .0) (w .0) in
-    let same : refused e i c ≡ refused e′ i′ c′ = cc in
-    same
+    same-reason (λ (n j d : ℕ). refused e i c ≡ refused n j d) (checked-one 1 t (Verdict.refused e i c) (Verdict.refused e′ i′ c′) (v .0) (w .0)) refl
 writes-one room t (refused e i c) (too-long k) v w = absurd (v .1 k w)
 writes-one room t (too-long k) (accepted n) v w = absurd (w .1 k v)
 writes-one room t (too-long k) (refused e i c) v w = absurd (w .1 k v)

@@ -11,9 +11,10 @@ use borrow.Author.Tests.{lt-ltb, le-ltb, ltb-true, ltb-false}
 use Rattle.text.specs.Text.{Bytes}
 use Rattle.rules.specs.Record.{Raw}
 use Rattle.judge_file.specs.Place.{sdfile}
+use Rattle.judge_file.specs.Verdict.{Verdict}
 use Rattle.judge_file.specs.WalkText.{afterLines}
 use Rattle.reader_walk.specs.Outcome.{Outcome, ofOne, outcomeOf}
-use Rattle.reader_walk.specs.Promise.{Said, saidBy}
+use Rattle.reader_walk.specs.Promise.{saidBy}
 use Rattle.reader_walk.specs.Checking.{saidOf}
 use Rattle.reader_cursor.specs.declared.Cursor.{Cursor}
 use Rattle.reader_cursor.specs.Walk.{fresh, past}
@@ -92,9 +93,9 @@ module _ (room c i : ℕ) (t : Bytes) (some : 0 < length t) where
 -- ---- The check of the whole input
 
 -- what is written is what the check says; a record that is too long is another matter
-abbrev pub AsChecked : Told → Said → Type 0
-AsChecked (accepted n) s = s ≡ Said.accepted n
-AsChecked (refused e i column) s = s ≡ Said.refused e i column
+abbrev pub AsChecked : Told → Verdict ℕ → Type 0
+AsChecked (accepted n) s = s ≡ Verdict.accepted n
+AsChecked (refused e i column) s = s ≡ Verdict.refused e i column
 AsChecked (too-long k) s = Unit {0}
 
 -- what is found in the first bytes is found in the text
@@ -116,7 +117,7 @@ module _ (room : ℕ) (s : Bytes) where
   ends : (xs : List Raw) (d : Cursor) → After s xs d → length s ≤ d .at → Checks xs d
   ends xs d g h =
       as-told (ap (saysFrom room (d .records) (d .lines) 0) (drop-of-length-le s h) ∙ says-end room (d .records) (d .lines))
-      (ap saidBy (after-good s xs d g h) ∙ ap Said.accepted (sym (g .count)))
+      (ap saidBy (after-good s xs d g h) ∙ ap Verdict.accepted (sym (g .count)))
 
   module _ (xs : List Raw) (d : Cursor) (g : After s xs d) (more : d .at < length s) where
     abbrev u : Bytes
@@ -137,12 +138,12 @@ module _ (room : ℕ) (s : Bytes) where
     unfolding outcomeOf
     stops e k column h = go (pieceOf (take room u)) refl
       where
-        said : saidOf sdfile s ≡ Said.refused e (d .lines + k) column
+        said : saidOf sdfile s ≡ Verdict.refused e (d .lines + k) column
         said = ap saidBy (after-verdict s xs d g more e k column h)
 
-        same : {n j c : ℕ} → Outcome.refused e k column ≡ Outcome.refused n j c → saidOf sdfile s ≡ Said.refused n (d .lines + j) c
+        same : {n j c : ℕ} → Outcome.refused e k column ≡ Outcome.refused n j c → saidOf sdfile s ≡ Verdict.refused n (d .lines + j) c
         same {n} {j} {c} q =
-            let r : Said.refused e (d .lines + k) column ≡ Said.refused n (d .lines + j) c = cc in
+            let r : _≡_ {A = Verdict ℕ} (Verdict.refused e (d .lines + k) column) (Verdict.refused n (d .lines + j) c) = cc in
             said ∙ r
 
         go : (q : Piece) → pieceOf (take room u) ≡ q → Checks xs d

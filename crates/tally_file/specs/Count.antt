@@ -69,7 +69,7 @@ abbrev pub byOutcome : ℕ → Outcome → Said
 byOutcome k (B.whole d) = added k d
 byOutcome k (B.stopped e i) = refused e 0 0 i
 
-abbrev pub byVerdict : Book → Verdict → Said
+abbrev pub byVerdict : Book → Verdict (List Raw) → Said
 byVerdict b (Verdict.accepted xs) = byOutcome (length xs) (tallied b xs)
 byVerdict b (Verdict.refused e i column) = refused e i column 0
 

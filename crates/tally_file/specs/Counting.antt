@@ -20,7 +20,6 @@ use Rattle.reader_walk.specs.Outcome.{outcomeOf}
 use Rattle.reader_walk.specs.Walked.{walkedBy, walkOf}
 use Rattle.reader_check.specs.declared.Answer.{Answer}
 use Rattle.reader_check.specs.Promised.{Promised, numbersOf}
-use Rattle.reader_walk.specs.Promise as W
 use Rattle.reader_walk.specs.Promise.{saidBy}
 use Rattle.reader_cursor.specs.declared.Cursor.{Cursor}
 use Rattle.reader_cursor.specs.Walk.{fresh, past, Countable}
@@ -273,7 +272,7 @@ module _ (s : Bytes) (m : Memory) (t : Totals) (a : Answer) (p : Promised 1 s a)
   pub file-good : ListReady m t → (k : ℕ) → a ≡ Answer.Accepted k → FileReady s m t
   file-good g k e = go (verdict sdfile limit s) refl (sym (p .judged) ∙ ap numbersOf e)
     where
-      go : (v : Verdict) → verdict sdfile limit s ≡ v → saidBy v ≡ W.accepted k → FileReady s m t
+      go : (v : Verdict (List Raw)) → verdict sdfile limit s ≡ v → saidBy v ≡ Verdict.accepted k → FileReady s m t
       go (Verdict.accepted xs) h z = record { sized = g .sized; good = g .good; zs = xs; is = h }
       go (Verdict.refused n i c) h z = absurd (let z : _≡_ {A = ℕ} 0 1 = cc in omega arith)
 
@@ -281,7 +280,7 @@ module _ (s : Bytes) (m : Memory) (t : Totals) (a : Answer) (p : Promised 1 s a)
   unfolding saidOf
   file-bad z e i c q = go (verdict sdfile limit s) refl (sym (p .judged) ∙ ap numbersOf q)
     where
-      go : (v : Verdict) → verdict sdfile limit s ≡ v → saidBy v ≡ W.refused e i c → (Tallied.Refused e i c 0 ≡ toldOf (byVerdict (bookOf m t) v)) × Left (byVerdict (bookOf m t) v) m m
+      go : (v : Verdict (List Raw)) → verdict sdfile limit s ≡ v → saidBy v ≡ Verdict.refused e i c → (Tallied.Refused e i c 0 ≡ toldOf (byVerdict (bookOf m t) v)) × Left (byVerdict (bookOf m t) v) m m
       go (Verdict.accepted xs) h y = absurd (let z : _≡_ {A = ℕ} 0 1 = cc in omega arith)
       go (Verdict.refused n j d) h y =
           let a : n ≡ e = cc in

@@ -14,7 +14,6 @@ use Rattle.rules.specs.Record.{Raw, GoodSDfile, limit}
 use Rattle.judge_file.specs.Place.{sdfile}
 use Rattle.judge_file.specs.Verdict.{Verdict, verdict}
 use Rattle.judge_file.specs.Promise.{accepted-sd}
-use Rattle.reader_walk.specs.Promise as W
 use Rattle.reader_walk.specs.Promise.{CheckedAs, Checked, saidBy, verdict-checked, checked-one}
 use Rattle.tally_rules.specs.declared.Tally.{Tally}
 use Rattle.tally_rules.specs.declared.Totals.{Totals}
@@ -38,17 +37,17 @@ told s b = go (verdict sdfile limit s) refl
     by xs g (B.whole d) e = Tells.whole g e
     by xs g (B.stopped n k) e = Tells.stopped g e
 
-    go : (v : Verdict) → verdict sdfile limit s ≡ v → Tells s b (byVerdict b v)
+    go : (v : Verdict (List Raw)) → verdict sdfile limit s ≡ v → Tells s b (byVerdict b v)
     go (Verdict.accepted xs) e = let g = accepted-sd limit s xs .0 e in by xs (g .0, g .1, g .2) (tallied b xs) refl
-    go (Verdict.refused n i c) e = Tells.bad-file (subst (λ (v : Verdict). Checked sdfile s (saidBy v)) e (verdict-checked s sdfile))
+    go (Verdict.refused n i c) e = Tells.bad-file (subst (λ (v : Verdict (List Raw)). Checked sdfile s (saidBy v)) e (verdict-checked s sdfile))
 
 pub tells-said : (s : Bytes) (b : Book) {w : Said} → Tells s b w → saidOf s b ≡ w
 unfolding saidOf
 tells-said s b (Tells.whole {xs = xs} g e) = ap (byVerdict b) (accepted-sd limit s xs .1 (g .0, g .1, g .2)) ∙ ap (byOutcome (length xs)) e
 tells-said s b (Tells.stopped {xs = xs} g e) = ap (byVerdict b) (accepted-sd limit s xs .1 (g .0, g .1, g .2)) ∙ ap (byOutcome (length xs)) e
-tells-said s b (Tells.bad-file {e = e} {i = i} {column = c} k) = go (verdict sdfile limit s) (checked-one 1 s (W.refused e i c) (saidBy (verdict sdfile limit s)) k (verdict-checked s sdfile))
+tells-said s b (Tells.bad-file {e = e} {i = i} {column = c} k) = go (verdict sdfile limit s) (checked-one 1 s (Verdict.refused e i c) (saidBy (verdict sdfile limit s)) k (verdict-checked s sdfile))
   where
-    go : (v : Verdict) → W.refused e i c ≡ saidBy v → byVerdict b v ≡ refused e i c 0
+    go : (v : Verdict (List Raw)) → Verdict.refused e i c ≡ saidBy v → byVerdict b v ≡ refused e i c 0
     go (Verdict.accepted xs) h = absurd (let z : _≡_ {A = ℕ} 0 1 = cc in omega arith)
     go (Verdict.refused n j d) h =
         let x : n ≡ e = cc in

@@ -5,8 +5,8 @@ use mathlib.Core.List.{List, [], _∷_, _++_}
 use lib.ListN.{length, take, drop}
 use Rattle.text.specs.Text.{Bytes}
 use Rattle.rules.specs.Record.{Raw, GoodSDfile}
+use Rattle.judge_file.specs.Verdict.{Verdict}
 use Rattle.reader_walk.specs.Promise.{CheckedAs}
-use Rattle.reader_walk.specs.Promise as W
 use Rattle.tally_rules.specs.declared.Totals.{Totals}
 use Rattle.tally_rules.specs.Tally.{mostSuppliers}
 use Rattle.tally_rules.specs.Book.{Book, Good, tallied}
@@ -33,7 +33,7 @@ over n xs ys = take n xs ++ drop n ys
 -- ---- What is said of a file
 
 pub data Tells (s : Bytes) (b : Book) : Said → Type 0 where
-  bad-file : {e i column : ℕ} → CheckedAs 1 s (W.refused e i column) → Tells s b (refused e i column 0)
+  bad-file : {e i column : ℕ} → CheckedAs 1 s (Verdict.refused e i column) → Tells s b (refused e i column 0)
   whole : {xs : List Raw} {d : Book} → GoodSDfile s xs → tallied b xs ≡ B.whole d → Tells s b (added (length xs) d)
   stopped : {xs : List Raw} {e k : ℕ} → GoodSDfile s xs → tallied b xs ≡ B.stopped e k → Tells s b (refused e 0 0 k)
 
