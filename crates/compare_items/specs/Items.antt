@@ -2,7 +2,7 @@
 use Prim.Native.Nat.{ℕ, suc, _+_, _-_, _*_, _^_, _≤_, _<_}
 use native.Mathlib.Omega.{arith}
 use native.Mathlib.Numerals.{add-one}
-use mathlib.Core.Path.{_≡_, refl, sym, ap, ap₂, _∙_, subst}
+use mathlib.Core.Path.{_≡_, refl, sym, ap, ap₂, _∙_}
 use mathlib.Core.List.{List, [], _∷_, _++_}
 use lib.ListN.{length, take, drop}
 use lib.IntN.{ℤ, pos}
@@ -10,7 +10,7 @@ use mir.Syntax.{w64}
 use mir.Val.{Fits}
 use Rattle.text.specs.Text.{Bytes, Line}
 use Rattle.text.specs.Find.{lineAt}
-use Rattle.text.specs.Cut.{cut, line-cut, line-rest, line-within}
+use Rattle.text.specs.Cut.{line-cut, line-rest, line-within}
 use Rattle.text.specs.declared.LineAt.{LineAt}
 use Rattle.rules.specs.Record.{Item}
 use Rattle.judge_line.specs.Judge.{itemOf}
@@ -19,13 +19,13 @@ use Rattle.line_text.specs.Within.{title-order, title-end}
 use Rattle.line_text.specs.declared.ItemRead.{ItemRead}
 use Rattle.compare_rules.specs.declared.Place.{Place}
 use Rattle.compare_rules.specs.declared.Count.{Count}
-use Rattle.compare_rules.specs.Along.{Compared, along}
+use Rattle.compare_rules.specs.Along.{along}
 use Rattle.compare_rules.specs.Differences.{Difference, place, texts, leftOnly, rightOnly, linewise, itemwise}
 use Rattle.compare_rules.specs.Log.{Log, log, noted, Small}
 use Rattle.compare_rules.specs.Noted.{noted-joined, noted-length}
 use Rattle.compare_items.specs.declared.Both.{Both}
 use Rattle.compare_items.specs.declared.Span.{Span}
-use Rattle.compare_items.specs.Part.{nameBy, nameOn, valuesOf, inItems, pastItem, itemsAt, valuesAt, pastAt}
+use Rattle.compare_items.specs.Part.{nameBy, nameOn, inItems, itemsAt, valuesAt, pastAt}
 use Rattle.compare_items.specs.Pairing.{SmallItem}
 use Rattle.compare_items.specs.Resting.{Passed, Valued}
 

@@ -2,24 +2,23 @@
 use Prim.Native.Nat.{ℕ, suc, _+_, _-_, _*_, _^_, _≤_, _<_}
 use native.Mathlib.Omega.{arith}
 use native.Mathlib.Numerals.{add-one}
-use mathlib.Core.Path.{_≡_, refl, sym, ap, ap₂, _∙_, subst}
-use mathlib.Core.List.{List, [], _∷_, _++_, append-nil}
+use mathlib.Core.Path.{_≡_, refl, sym, ap, ap₂, _∙_}
+use mathlib.Core.List.{List, []}
 use lib.ListN.{length, take, drop}
-use lib.IntN.{ℤ, pos}
+use lib.IntN.{ℤ}
 use mir.Syntax.{w64}
 use mir.Val.{Fits}
 use Rattle.text.specs.Text.{Bytes, Line}
-use Rattle.rules.specs.Record.{Item}
 use Rattle.compare_rules.specs.declared.Place.{Place}
 use Rattle.compare_rules.specs.declared.Count.{Count}
 use Rattle.compare_rules.specs.Along.{Compared, along}
-use Rattle.compare_rules.specs.Differences.{Difference, place, texts, only, leftOnly, rightOnly, valueLine, linewise}
+use Rattle.compare_rules.specs.Differences.{Difference, place, texts, linewise}
 use Rattle.compare_rules.specs.Log.{Log, log, noted, Small}
 use Rattle.compare_rules.specs.Noted.{noted-joined, noted-length}
 use Rattle.compare_items.specs.declared.Value.{Value}
 use Rattle.compare_items.specs.declared.Both.{Both}
-use Rattle.compare_items.specs.Part.{itemsAt, valuesAt, pastAt}
-use Rattle.compare_items.specs.Ahead.{LineAhead, OverAhead, ValueIs, line-ahead, over-ahead}
+use Rattle.compare_items.specs.Part.{valuesAt, pastAt}
+use Rattle.compare_items.specs.Ahead.{ValueIs, line-ahead, over-ahead}
 
 -- record and item have numbers that an i64 holds
 pub record SmallItem (p : Place) : Type 0 where

@@ -1,7 +1,6 @@
 -- The items of a good part, by its lines; and by positions in its text.
 use Prim.Native.Nat.{ℕ}
-use native.Mathlib.Omega.{arith}
-use mathlib.Core.Path.{_≡_, refl, sym, ap, ap₂, _∙_}
+use mathlib.Core.Path.{_≡_, refl, ap, ap₂, _∙_}
 use mathlib.Core.List.{List, [], _∷_}
 use mathlib.Core.Bool.{Bool, true, false, cond}
 use lib.ListN.{drop}
@@ -9,7 +8,7 @@ use Rattle.text.specs.Text.{Bytes, Line, Lines}
 use Rattle.text.specs.Find.{isBlank}
 use Rattle.text.specs.Agree.{blank-is}
 use Rattle.text.specs.Cut.{cut, lines-cut}
-use Rattle.rules.specs.Forms.{DataHeader, ValueLine, BlankLine}
+use Rattle.rules.specs.Forms.{ValueLine}
 use Rattle.rules.specs.Record.{Item, Values}
 use Rattle.rules.specs.Canon.{ItemPart}
 use Rattle.judge_line.specs.Got.{Got, got, bad}

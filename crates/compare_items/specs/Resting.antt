@@ -1,27 +1,26 @@
 -- Value lines on one side only; and the two sides together.
-use Prim.Native.Nat.{ℕ, suc, _+_, _-_, _*_, _^_, _≤_, _<_}
+use Prim.Native.Nat.{ℕ, _+_, _*_, _^_, _≤_, _<_}
 use native.Mathlib.Omega.{arith}
 use native.Mathlib.Numerals.{add-one}
-use mathlib.Core.Path.{_≡_, refl, sym, ap, ap₂, _∙_, subst}
+use mathlib.Core.Path.{_≡_, refl, sym, ap, ap₂, _∙_}
 use mathlib.Core.List.{List, [], _∷_, _++_, append-nil}
-use lib.ListN.{length, take, drop}
+use lib.ListN.{length}
 use lib.IntN.{ℤ, pos}
 use mir.Syntax.{w64}
 use mir.Val.{Fits}
 use Rattle.text.specs.Text.{Bytes, Line}
-use Rattle.rules.specs.Record.{Item}
 use Rattle.compare_rules.specs.declared.Place.{Place}
 use Rattle.compare_rules.specs.declared.Count.{Count}
-use Rattle.compare_rules.specs.Along.{Compared, along}
-use Rattle.compare_rules.specs.Differences.{Difference, place, only, leftOnly, rightOnly, linewise}
+use Rattle.compare_rules.specs.Along.{along}
+use Rattle.compare_rules.specs.Differences.{Difference, place, leftOnly, rightOnly}
 use Rattle.compare_rules.specs.Log.{Log, log, noted, Small}
 use Rattle.compare_rules.specs.Noted.{noted-joined, noted-length}
 use Rattle.compare_items.specs.declared.Value.{Value}
 use Rattle.compare_items.specs.declared.Both.{Both}
 use Rattle.compare_items.specs.declared.Rest.{Rest}
 use Rattle.compare_items.specs.Part.{itemsAt, valuesAt, pastAt}
-use Rattle.compare_items.specs.Ahead.{LineAhead, OverAhead, ValueIs, line-ahead, over-ahead}
-use Rattle.compare_items.specs.Pairing.{SmallItem, linesOf, OneOver, Pairing, Paired, line-less}
+use Rattle.compare_items.specs.Ahead.{ValueIs, line-ahead, over-ahead}
+use Rattle.compare_items.specs.Pairing.{SmallItem, linesOf, OneOver, Paired, line-less}
 
 -- value lines on one side only, the first with number k, of item i of record r
 unfoldable pub alone : ℕ → ℕ → ℕ → ℕ → List Line → List Difference

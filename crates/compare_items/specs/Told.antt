@@ -1,12 +1,11 @@
 -- Two texts held against each other.
 use Prim.Native.Nat.{ℕ}
-use native.Mathlib.Omega.{arith}
 use mathlib.Core.Path.{_≡_, refl, sym, ap, _∙_}
-use mathlib.Core.List.{List, [], _∷_}
-use mathlib.Core.Bool.{Bool, true, false, cond}
+use mathlib.Core.List.{[], _∷_}
+use mathlib.Core.Bool.{Bool, true, false}
 use lib.ListN.{length}
 use lib.IntN.{pos}
-use Rattle.text.specs.Text.{Bytes, Line}
+use Rattle.text.specs.Text.{Bytes}
 use Rattle.text.specs.Columns.{columnsFor}
 use Rattle.text.specs.Find.{sameBytes, hasText}
 use Rattle.text.specs.Agree.{same-bytes, columns-whole}

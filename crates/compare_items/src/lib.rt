@@ -1,7 +1,6 @@
 // The items of two records compared in lock-step: names, value lines, items on one side only.
 ghost use mathlib.Core.Path.{_≡_};
-ghost use mathlib.Core.List.{[], _∷_};
-ghost use Prim.Native.Nat.{_+_, _-_, _≤_, _<_, _^_};
+ghost use Prim.Native.Nat.{_+_, _≤_, _<_, _^_};
 ghost use lib.ListN.{length};
 ghost use Rattle.text.specs.Find.{sameBytes};
 ghost use Rattle.compare_rules.specs.Along.{along};

@@ -1,20 +1,20 @@
 -- Header lines of two records, and the record as a whole.
-use Prim.Native.Nat.{ℕ, _+_, _-_, _*_, _^_, _≤_, _<_}
+use Prim.Native.Nat.{ℕ, _-_, _≤_}
 use native.Mathlib.Omega.{arith}
-use mathlib.Core.Path.{_≡_, refl, sym, ap, ap₂, _∙_}
+use mathlib.Core.Path.{_≡_, sym, ap, ap₂, _∙_}
 use mathlib.Core.List.{List, [], _∷_, _++_}
-use lib.ListN.{length, getD, take, drop}
-use lib.IntN.{ℤ, pos}
+use lib.ListN.{length, take, drop}
+use lib.IntN.{ℤ}
 use Rattle.text.specs.Text.{Bytes, Line, Lines}
 use Rattle.text.specs.Find.{lineAt}
 use Rattle.text.specs.Cut.{Cut, cut, lines-cut, line-cut, line-rest, line-within}
 use Rattle.text.specs.declared.LineAt.{LineAt}
-use Rattle.rules.specs.Record.{Headers, Item}
+use Rattle.rules.specs.Record.{Headers}
 use Rattle.rules.specs.Meaning.{Reading}
 use Rattle.rules.specs.Rows.{rowsOf}
 use Rattle.compare_rules.specs.Along.{along}
 use Rattle.compare_rules.specs.Differences.{Difference, place, texts, rowwise, itemwise, headersApart, countsApart, recordsApart}
-use Rattle.compare_rules.specs.Log.{Log, log, noted, Small}
+use Rattle.compare_rules.specs.Log.{Log, noted}
 use Rattle.compare_rules.specs.Noted.{noted-joined}
 use Rattle.compare_items.specs.Part.{itemsAt}
 use Rattle.compare_record.specs.declared.Numbers.{Numbers}

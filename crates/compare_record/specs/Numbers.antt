@@ -1,17 +1,17 @@
 -- Counts and tables of two records.
-use Prim.Native.Nat.{ℕ, zero, suc, _+_, _*_, _^_, _≤_, _<_}
+use Prim.Native.Nat.{ℕ, zero, suc, _*_, _^_, _≤_, _<_}
 use native.Mathlib.Omega.{arith}
 use mathlib.Core.Path.{_≡_, refl, sym, ap, ap₂, _∙_}
 use mathlib.Core.List.{List, [], _∷_, _++_}
-use lib.ListN.{length, take, drop}
+use lib.ListN.{take, drop}
 use lib.IntN.{ℤ, pos}
 use mir.Syntax.{w32}
-use mir.Val.{SFits, ofZ, toZ}
+use mir.Val.{toZ}
 use mir.Facts.{toZ-ofZ}
 use Rattle.rules.specs.Rows.{rowsOf}
 use Rattle.compare_rules.specs.Along.{along}
 use Rattle.compare_rules.specs.Differences.{Difference, place, figures, rowwise}
-use Rattle.compare_rules.specs.Log.{Log, log, noted, Small}
+use Rattle.compare_rules.specs.Log.{Log, noted, Small}
 use Rattle.compare_rules.specs.Noted.{noted-joined}
 use Rattle.compare_tables.specs.Smaller.{Smaller}
 use Rattle.compare_record.specs.declared.Numbers.{Numbers}

@@ -1,7 +1,6 @@
 // Two records compared: header lines, counts, tables, items.
 ghost use mathlib.Core.Path.{_≡_};
-ghost use mathlib.Core.List.{_++_};
-ghost use Prim.Native.Nat.{_+_, _-_, _*_, _≤_, _<_, _^_};
+ghost use Prim.Native.Nat.{_-_, _*_, _≤_, _<_, _^_};
 ghost use lib.ListN.{length, take, drop};
 ghost use Rattle.rules.specs.Rows.{rowsOf};
 ghost use Rattle.compare_rules.specs.Along.{along};

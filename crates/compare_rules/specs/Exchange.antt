@@ -1,7 +1,7 @@
 -- Comparing the other way round gives the same list with sides exchanged.
 use Prim.Native.Nat.{ℕ, zero, suc}
 use mathlib.Core.Path.{_≡_, refl, sym, ap, _∙_}
-use mathlib.Core.List.{List, [], _∷_, _++_, map}
+use mathlib.Core.List.{List, [], _∷_, map}
 use mathlib.Core.Bool.{Bool, true, false, cond}
 use lib.Dec.{eqb}
 use lib.IntN.{ℤ, pos, negsuc}
@@ -11,8 +11,8 @@ use Rattle.text.specs.Find.{sameBytes}
 use Rattle.rules.specs.Record.{Headers, Item}
 use Rattle.rules.specs.Meaning.{Reading}
 use Rattle.compare_rules.specs.declared.Place.{Place}
-use Rattle.compare_rules.specs.Along.{Compared, along}
-use Rattle.compare_rules.specs.Differences.{anAtom, aBond, valueLine, itemName, anItem, Difference, place, sameFigure, figures, texts, only, fieldwise, rowwise, linewise, itemwise}
+use Rattle.compare_rules.specs.Along.{along}
+use Rattle.compare_rules.specs.Differences.{anAtom, aBond, valueLine, itemName, Difference, place, sameFigure, figures, texts, fieldwise, rowwise, linewise, itemwise}
 use Rattle.compare_rules.specs.Differences.{headersApart, countsApart, recordsApart, recordwise, differencesOf, otherSide, exchanged}
 use Rattle.compare_rules.specs.AlongLaws.{map-joined, Turns, along-turned}
 

@@ -1,18 +1,18 @@
 -- What a lent list holds in the end: all differences, one row after the other, where there is room for all; and how many there are, up to 2 ^ 60.
 use Prim.Native.Nat.{ℕ, zero, suc, _+_, _*_, _/_, _^_, _<_, _≤_}
 use native.Mathlib.Omega.{arith}
-use mathlib.Core.Path.{_≡_, refl, sym, ap, ap₂, _∙_, subst}
+use mathlib.Core.Path.{_≡_, refl, sym, ap, ap₂, _∙_}
 use mathlib.Core.Logic.{_↔_}
 use mathlib.Core.List.{List, [], _∷_, _++_}
-use mathlib.Core.Bool.{Bool, true, false, cond}
+use mathlib.Core.Bool.{Bool, true, false}
 use lib.Dec.{ltb}
 use lib.ListN.{length, set, drop}
 use lib.Seq.{sets, length-sets}
-use lib.IntN.{ℤ, pos}
-use borrow.Author.Tests.{lt-ltb, le-ltb, ltb-true, ltb-false}
+use lib.IntN.{ℤ}
+use borrow.Author.Tests.{lt-ltb, ltb-true, ltb-false}
 use Rattle.compare_rules.specs.Differences.{Difference, row}
-use Rattle.compare_rules.specs.Log.{Log, log, seen, up, putAt, noted}
-use Rattle.compare_rules.specs.Noted.{up-more, up-most, noted-length}
+use Rattle.compare_rules.specs.Log.{log, seen, up, putAt, noted}
+use Rattle.compare_rules.specs.Noted.{up-more, up-most}
 
 -- the rows of a list, one after the other
 unfoldable pub flat : List Difference → List ℤ

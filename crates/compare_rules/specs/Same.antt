@@ -3,7 +3,7 @@ use Prim.Native.Nat.{ℕ}
 use native.Mathlib.Omega.{arith}
 use mathlib.Core.Path.{_≡_, refl, sym, ap, ap₂, _∙_, subst}
 use mathlib.Core.Logic.{_≢_, _↔_}
-use mathlib.Core.List.{List, [], _∷_, _++_}
+use mathlib.Core.List.{List, [], _∷_}
 use mathlib.Core.Bool.{Bool, true, false, cond}
 use lib.ListN.{length}
 use lib.IntN.{ℤ, pos, negsuc}
@@ -15,8 +15,8 @@ use Rattle.rules.specs.Record.{Headers, Item}
 use Rattle.rules.specs.Meaning.{Reading}
 use Rattle.rules.specs.Canon.{Rows, Good, AllGood}
 use Rattle.compare_rules.specs.declared.Place.{Place}
-use Rattle.compare_rules.specs.Along.{Compared, along}
-use Rattle.compare_rules.specs.Differences.{anAtom, aBond, valueLine, itemName, anItem, Difference, place, sameFigure, figures, texts, only, fieldwise, rowwise, linewise, itemwise}
+use Rattle.compare_rules.specs.Along.{along}
+use Rattle.compare_rules.specs.Differences.{anAtom, aBond, valueLine, itemName, Difference, place, sameFigure, figures, texts, only, fieldwise, rowwise, linewise, itemwise}
 use Rattle.compare_rules.specs.Differences.{headersApart, countsApart, recordsApart, recordwise, differencesOf}
 use Rattle.compare_rules.specs.AlongLaws.{both-empty, along-self, along-many, along-same, All, all-of}
 

@@ -2,9 +2,9 @@
 use Prim.Native.Nat.{ℕ}
 use Prim.Native.String.{String}
 use mathlib.Core.Path.{_≡_, refl}
-use mathlib.Core.List.{List, [], _∷_, _++_, map}
+use mathlib.Core.List.{List, [], _∷_, map}
 use lib.IntN.{ℤ, pos, negsuc}
-use Rattle.text.specs.Text.{Line, bytes}
+use Rattle.text.specs.Text.{bytes}
 use Rattle.text.specs.Find.{sameBytes}
 use Rattle.rules.specs.Record.{Item}
 use Rattle.rules.specs.Meaning.{Reading}

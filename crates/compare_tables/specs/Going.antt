@@ -4,14 +4,14 @@ use native.Mathlib.Omega.{arith}
 use native.Mathlib.Nat.{mul-suc}
 use native.Mathlib.Numerals.{add-one}
 use mathlib.Core.Path.{_≡_, refl, sym, ap, ap₂, _∙_}
-use mathlib.Core.List.{List, [], _∷_, _++_}
+use mathlib.Core.List.{List, [], _∷_}
 use lib.ListN.{length, getD, take, drop, drop-of-length-le}
 use lib.Seq.{drop-cons}
 use lib.IntN.{ℤ, pos}
-use mir.Syntax.{w32, w64}
+use mir.Syntax.{w32}
 use mir.Val.{SFits, ofZ, toZ}
 use mir.Facts.{toZ-ofZ}
-use Rattle.rules.specs.Rows.{rowsOf, rowAt, rows-length, rows-at}
+use Rattle.rules.specs.Rows.{rowsOf, rows-length, rows-at}
 use Rattle.compare_rules.specs.declared.Place.{Place}
 use Rattle.compare_rules.specs.declared.Count.{Count}
 use Rattle.compare_rules.specs.Along.{Compared, along}

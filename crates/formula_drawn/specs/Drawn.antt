@@ -1,7 +1,7 @@
 -- The symbols in a table of atoms, and how many there are of each.
 use Prim.Native.Nat.{ℕ, zero, suc, _+_, _*_}
 use mathlib.Core.List.{List, [], _∷_}
-use mathlib.Core.Bool.{Bool, true, false, cond, _&&_}
+use mathlib.Core.Bool.{Bool, true, cond, _&&_}
 use lib.Dec.{eqb, leb}
 use lib.ListN.{getD, set}
 use lib.IntN.{ℤ, pos, negsuc}

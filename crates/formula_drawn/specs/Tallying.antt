@@ -1,23 +1,22 @@
 -- The atoms counted: the loop, and what its table says.
-use Prim.Native.Nat.{ℕ, zero, suc, _+_, _*_, _-_, _≤_, _<_, _^_}
+use Prim.Native.Nat.{ℕ, zero, suc, _+_, _*_, _-_, _≤_, _<_}
 use native.Mathlib.Omega.{arith}
-use native.Mathlib.Nat.{mul-le-mul}
-use mathlib.Core.Path.{_≡_, refl, sym, ap, _∙_, subst}
+use mathlib.Core.Path.{_≡_, refl, sym, ap, _∙_}
 use mathlib.Core.List.{List, [], _∷_}
-use mathlib.Core.Bool.{Bool, true, false, cond, _&&_}
-use lib.Dec.{T, eqb, leb}
+use mathlib.Core.Bool.{Bool, true, false, cond}
+use lib.Dec.{eqb, leb}
 use lib.ListN.{length, getD, set, length-set}
 use lib.Seq.{getD-set-same, getD-set-other}
-use lib.IntN.{ℤ, pos, negsuc, natAbs}
+use lib.IntN.{ℤ, pos, natAbs}
 use lib.Signed.{ltZ}
 use mir.Syntax.{w32}
 use mir.Val.{SFits, toZ, ofZ}
-use borrow.Author.Tests.{le-leb, lt-leb, leb-true, eqb-true, eqb-false}
+use borrow.Author.Tests.{le-leb, lt-leb, eqb-true, eqb-false}
 use Rattle.text.specs.Laws.{and-true}
-use Rattle.field_numbers.specs.Signs.{Below as BelowZero, below, Above, above, same-sign, same-cast, same-size}
+use Rattle.field_numbers.specs.Signs.{below, above, same-sign, same-cast, same-size}
 use Rattle.formula_rules.specs.Formula.{elements}
 use Rattle.formula_rules.specs.Sums.{sat, Below}
-use Rattle.formula_rules.specs.Capped.{sat-small, below-at, below-here}
+use Rattle.formula_rules.specs.Capped.{sat-small, below-at}
 use Rattle.formula_drawn.specs.Drawn.{plain, symbolAt, symbolsFrom, onlyElements, howMany, tallied}
 
 -- ---- A symbol

@@ -1,16 +1,16 @@
 -- What follows the rules is read, and read in one way.
-use Prim.Native.Nat.{ℕ, zero, suc, _+_, _*_, _-_, _≤_, _<_}
+use Prim.Native.Nat.{ℕ, zero, suc, _+_, _-_, _≤_, _<_}
 use mathlib.Core.Path.{_≡_, refl, sym, ap, _∙_}
 use mathlib.Core.List.{List}
-use mathlib.Core.Bool.{Bool, true, false, cond, _&&_}
+use mathlib.Core.Bool.{Bool, true, false, cond}
 use mathlib.Core.Logic.{_⊎_, inl, inr}
 use native.Mathlib.Omega.{arith}
-use lib.Dec.{eqb, ltb, leb}
+use lib.Dec.{eqb}
 use lib.ListN.{length, List·getD-eq-default}
 use borrow.Author.Tests.{eq-eqb, ne-eqb, lt-ltb, eqb-true, eqb-false}
 use Rattle.formula_rules.specs.Formula.{byteAt, between, isDigit, Element, Tree, Trees, Count, Symbol, Units, Formula}
 use Rattle.formula_rules.specs.Formula as F
-use Rattle.formula_rules.specs.Parse.{CountRead, count, UnitRead, unit, UnitsRead, units, counted, countAt, symbolEnd, elementAt, elementUnit, symbolAt, closed, onto, after, chosen, unitsOf, groupOf, wholeOf, formulaOf}
+use Rattle.formula_rules.specs.Parse.{CountRead, count, unit, UnitsRead, units, counted, countAt, symbolEnd, elementAt, elementUnit, symbolAt, onto, unitsOf, wholeOf, formulaOf}
 use Rattle.formula_rules.specs.Bytes.{isCapital, isSmall, between-from, between-is, inside}
 use Rattle.formula_rules.specs.Element.{one-letter, two-letters, short-capital, long-letters}
 use Rattle.formula_rules.specs.Fuel.{units-is, group-is}

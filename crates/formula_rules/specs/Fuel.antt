@@ -1,13 +1,13 @@
 -- A reading ends behind where it starts and in the text; and more calls than bytes and depth give no other reading.
 use Prim.Native.Nat.{ℕ, zero, suc, _+_, _-_, _≤_, _<_}
-use mathlib.Core.Path.{_≡_, refl, sym, ap, ap₂, _∙_}
+use mathlib.Core.Path.{_≡_, refl, ap, _∙_}
 use mathlib.Core.List.{List}
 use mathlib.Core.Bool.{Bool, true, false, cond, _&&_, and-eq-true-iff}
 use native.Mathlib.Omega.{arith}
 use lib.Dec.{eqb, ltb}
 use lib.ListN.{length}
-use borrow.Author.Tests.{eqb-true, ltb-true}
-use Rattle.formula_rules.specs.Formula.{byteAt, Tree, Trees}
+use borrow.Author.Tests.{eqb-true}
+use Rattle.formula_rules.specs.Formula.{byteAt, Tree}
 use Rattle.formula_rules.specs.Formula as F
 use Rattle.formula_rules.specs.Parse.{UnitRead, unit, UnitsRead, units, counted, countAt, symbolAt, closed, onto, after, chosen, unitsBy, groupBy, enough, unitsOf, groupOf}
 use Rattle.formula_rules.specs.Bytes.{isCapital, between-from, inside}

@@ -1,16 +1,15 @@
 -- Texts that are formulas, and texts that are not, with their numbers; and what differs.
-use Prim.Native.Nat.{ℕ, suc, zero}
+use Prim.Native.Nat.{ℕ}
 use Prim.Native.String.{String}
 use mathlib.Core.Path.{_≡_, refl}
 use mathlib.Core.List.{List, [], _∷_, map}
-use Rattle.text.specs.Text.{Bytes, bytes}
+use Rattle.text.specs.Text.{bytes}
 use Rattle.text.specs.Columns.{columnsFor}
 use Rattle.text.specs.Find.{sameBytes}
 use Rattle.field_symbols.specs.Read.{symbolIn, among}
-use Rattle.formula_rules.specs.Formula.{between, Trees}
+use Rattle.formula_rules.specs.Formula.{between}
 use Rattle.formula_rules.specs.Element.{elementOf}
 use Rattle.formula_rules.specs.Parse.{countAt, symbolEnd, elementAt, symbolAt, unitsBy, unitsOf, formulaOf}
-use Rattle.formula_rules.specs.Total.{countTree}
 use Rattle.formula_rules.specs.Sums.{sat, addTree, addedUnits}
 use Rattle.formula_rules.specs.Judged.{sumsOf, crowded, treesOf, shallowOf, verdictOf, numberOf}
 

@@ -1,15 +1,14 @@
 -- What is read follows the rules.
-use Prim.Native.Nat.{ℕ, zero, suc, _+_, _-_, _≤_, _<_}
-use mathlib.Core.Path.{_≡_, refl, sym, ap, _∙_}
+use Prim.Native.Nat.{ℕ, zero, suc, _+_, _≤_, _<_}
+use mathlib.Core.Path.{_≡_, refl, sym}
 use mathlib.Core.List.{List}
 use mathlib.Core.Bool.{Bool, true, false, cond, _&&_, and-eq-true-iff}
 use native.Mathlib.Omega.{arith}
 use lib.Dec.{eqb, ltb}
-use lib.ListN.{length}
 use borrow.Author.Tests.{eqb-true, eqb-false, ltb-true}
 use Rattle.formula_rules.specs.Formula.{byteAt, between, isDigit, Tree, Trees, Count, Symbol, Units, Formula}
 use Rattle.formula_rules.specs.Formula as F
-use Rattle.formula_rules.specs.Parse.{CountRead, count, UnitRead, unit, UnitsRead, units, counted, countAt, symbolEnd, elementAt, elementUnit, symbolAt, closed, onto, after, chosen, unitsBy, groupBy, enough, unitsOf, groupOf, wholeOf, formulaOf}
+use Rattle.formula_rules.specs.Parse.{CountRead, count, UnitRead, unit, UnitsRead, units, counted, countAt, symbolEnd, elementAt, elementUnit, symbolAt, closed, onto, after, chosen, unitsBy, groupBy, enough, unitsOf}
 use Rattle.formula_rules.specs.Bytes.{isCapital, isSmall, between-from, between-is}
 use Rattle.formula_rules.specs.Element.{elementOf, element-is, found-one, found-two}
 use Rattle.formula_rules.specs.Ends.{CountView, count-view}

@@ -1,22 +1,22 @@
 -- The sums in the facts that the code has.
 use Prim.Native.Nat.{ℕ, zero, suc, _+_, _*_, _-_, _≤_, _<_}
 use mathlib.Core.Path.{_≡_, refl, sym, ap, _∙_, subst}
-use mathlib.Core.List.{List, [], _∷_}
+use mathlib.Core.List.{List, []}
 use mathlib.Core.Bool.{Bool, true, false, cond, _&&_, and-eq-true-iff}
 use native.Mathlib.Omega.{arith}
 use native.Mathlib.Nat.{mul-le-mul}
-use lib.Dec.{eqb, leb, ltb}
+use lib.Dec.{eqb, ltb}
 use lib.ListN.{length, getD, set}
 use mir.Syntax.{w32}
 use mir.Val.{Fits}
 use borrow.Author.Tests.{eqb-true, lt-ltb, le-ltb}
-use Rattle.formula_rules.specs.Formula.{byteAt, between, isDigit, Tree, Trees, atom, group, more}
+use Rattle.formula_rules.specs.Formula.{byteAt, between, isDigit, Tree, Trees, group}
 use Rattle.formula_rules.specs.Element.{elementOf, element-le}
 use Rattle.formula_rules.specs.Parse.{CountRead, count, UnitRead, unit, UnitsRead, units, counted, countAt, symbolEnd, elementAt, elementUnit, symbolAt, closed, onto, after, unitsOf, groupOf, wholeOf, formulaOf}
 use Rattle.formula_rules.specs.Bytes.{between-from, inside}
 use Rattle.formula_rules.specs.Ends.{CountView, count-view}
 use Rattle.formula_rules.specs.Fuel.{group-none}
-use Rattle.formula_rules.specs.Sums.{sat, Below, addTree, addTrees, readUnits, readUnit, addedUnits, addedUnit}
+use Rattle.formula_rules.specs.Sums.{sat, Below, addTree, readUnits, readUnit, addedUnits, addedUnit}
 use Rattle.formula_rules.specs.Capped.{sat-small, sat-big}
 use Rattle.formula_rules.specs.Judged.{empty, empty-below, crowded, sumsOf, counts-none, verdictOf, shallowOf, countsOf, numberOf}
 use Rattle.formula_text.specs.Steps.{units-open, units-symbol, units-none, group-step}

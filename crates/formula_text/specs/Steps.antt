@@ -1,20 +1,20 @@
 -- The readings in the facts that the code has.
 use Prim.Native.Nat.{ℕ, zero, suc, _+_, _-_, _≤_, _<_}
-use mathlib.Core.Path.{_≡_, refl, sym, ap, _∙_, subst}
+use mathlib.Core.Path.{_≡_, refl, sym, ap, _∙_}
 use mathlib.Core.List.{List, [], _∷_}
 use mathlib.Core.Bool.{Bool, true, false, cond}
 use native.Mathlib.Omega.{arith}
-use lib.Dec.{eqb, ltb, leb}
+use lib.Dec.{eqb}
 use lib.ListN.{length, List·getD-eq-default}
 use borrow.Author.Tests.{eq-eqb, ne-eqb, lt-ltb, le-ltb, le-leb, lt-leb}
 use Rattle.formula_rules.specs.Formula.{byteAt, between, Tree, Trees}
-use Rattle.formula_rules.specs.Parse.{CountRead, count, UnitRead, unit, UnitsRead, units, counted, countAt, symbolEnd, elementAt, elementUnit, symbolAt, closed, onto, after, chosen, unitsOf, groupOf, wholeOf, formulaOf}
+use Rattle.formula_rules.specs.Parse.{CountRead, count, UnitRead, unit, UnitsRead, units, counted, countAt, symbolEnd, elementAt, elementUnit, symbolAt, closed, onto, after, unitsOf, groupOf, wholeOf, formulaOf}
 use Rattle.formula_rules.specs.Bytes.{isSmall, inside, between-from}
 use Rattle.formula_rules.specs.Element.{onlyElement, elementOf}
 use Rattle.text.specs.Columns.{columns, columnsFor}
 use Rattle.field_symbols.specs.Read.{symbolIn}
 use Rattle.field_symbols.specs.declared.SymbolRead.{SymbolRead}
-use Rattle.formula_rules.specs.Ends.{CountIn, UnitIn, count-in, symbol-end, symbol-in}
+use Rattle.formula_rules.specs.Ends.{UnitIn, symbol-end, symbol-in}
 use Rattle.formula_rules.specs.Fuel.{UnitsIn, units-is, group-is, group-none, units-of-in, group-of-in}
 use Rattle.formula_text.specs.Told.{toldCount, toldUnit, toldUnits}
 use Rattle.formula_text.specs.declared.Parsed.{Parsed}

@@ -32,7 +32,7 @@ use Rattle.reader_state.specs.declared.Reader.{Reader}
 use Rattle.reader_state.specs.Went as W
 use Rattle.reader_state.specs.Went.{Went, moved, counted, headerIn, lineIn, wentOf, tableAt, emptiedBy, enteredBy}
 use Rattle.reader_places.specs.Places.{bondsOwed, atomsOwed}
-use Rattle.reader_pairs.specs.Keys.{keyOf, keysOf, SmallEnds, AllSmall, small-more}
+use Rattle.reader_pairs.specs.Keys.{keyOf, keysOf, SmallEnds, small-more}
 use Rattle.reader_walk.specs.Stands.{placeOf, bondsIn, Listing, Counted}
 use Rattle.reader_walk.specs.Follow.{both-within, both-then}
 use Rattle.mend_judge.specs.Standing.{Keyed, Stands}

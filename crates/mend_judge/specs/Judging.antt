@@ -1,10 +1,10 @@
 -- Laws on judging a line: what the reader's step answered decides what is told.
-use Prim.Native.Nat.{ℕ, _+_, _*_, _≤_, _<_}
+use Prim.Native.Nat.{ℕ, _*_, _≤_}
 use native.Mathlib.Omega.{arith}
 use mathlib.Core.Path.{_≡_, refl, sym, ap, _∙_, subst}
 use mathlib.Core.List.{List, [], _∷_, _++_}
-use mathlib.Core.Bool.{Bool, true, false}
-use lib.ListN.{length, take, set, length-set}
+use mathlib.Core.Bool.{Bool, true}
+use lib.ListN.{length, take, length-set}
 use Rattle.text.specs.Text.{Line}
 use Rattle.rules.specs.Forms as R
 use Rattle.rules.specs.Record.{Raw, limit}
@@ -18,20 +18,20 @@ use Rattle.line_counts_bonds.specs.declared.Bond.{Bond}
 use Rattle.line_property.specs.Listed.{places}
 use Rattle.judge_file.specs.Place.{sdfile, turnOf}
 use Rattle.judge_file.specs.Place as J
-use Rattle.judge_file.specs.Place.{first, second, third, counts, atoms, bonds, properties, over, items, values, Turn, next, done}
+use Rattle.judge_file.specs.Place.{first, second, third, counts, atoms, bonds, properties, over, items, values, done}
 use Rattle.reader_state.specs.declared.Reader.{Reader}
 use Rattle.reader_state.specs.declared.Step.{Step}
 use Rattle.reader_state.specs.Parts.{begun}
 use Rattle.reader_state.specs.Went as W
 use Rattle.reader_state.specs.Went.{Went, stepGot, wentOf, tableAt, Kept, Sane}
 use Rattle.reader_pairs.specs.Keys.{pairKey, keyOf, AllSmall, taken-keys}
-use Rattle.reader_walk.specs.Stands.{placeOf, bondsIn, Counted}
-use Rattle.mend_rules.specs.Mend.{some, Left, went, fell, leftBy, left}
+use Rattle.reader_walk.specs.Stands.{placeOf, Counted}
+use Rattle.mend_rules.specs.Mend.{some, leftBy, left}
 use Rattle.mend_judge.specs.declared.Judge.{Judge}
 use Rattle.mend_judge.specs.declared.Judged.{Judged}
-use Rattle.mend_judge.specs.Standing.{fresh, Keyed, Stands, Standing, Placed, Tells, Judges}
+use Rattle.mend_judge.specs.Standing.{fresh, Stands, Standing, Placed, Tells, Judges}
 use Rattle.mend_judge.specs.Follow.{Onto, Pending, Goes, follow}
-use Rattle.mend_judge.specs.Bonds.{Bonding, bonded, BondJudged}
+use Rattle.mend_judge.specs.Bonds.{Bonding, BondJudged}
 
 -- the start of a record
 pub fresh-stands : (t keys : List ℕ) → Stands (fresh true .reader) 0 t keys first

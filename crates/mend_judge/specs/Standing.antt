@@ -1,7 +1,7 @@
 -- When the state, the table of listed numbers and the keys stand for a place of the judge, and what judging a line tells.
-use Prim.Native.Nat.{ℕ, suc, _+_, _*_, _≤_}
+use Prim.Native.Nat.{ℕ, _*_, _≤_}
 use mathlib.Core.Path.{_≡_}
-use mathlib.Core.List.{List, []}
+use mathlib.Core.List.{List}
 use mathlib.Core.Bool.{Bool, true}
 use lib.ListN.{length, take}
 use Rattle.text.specs.Text.{Line}

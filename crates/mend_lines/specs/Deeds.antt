@@ -3,21 +3,21 @@ use Prim.Native.Nat.{ℕ, suc, _-_, _≤_, _<_}
 use native.Mathlib.Omega.{arith}
 use mathlib.Core.Path.{_≡_, refl, sym, ap, ap₂, _∙_, subst}
 use mathlib.Core.List.{List, [], _∷_, map}
-use mathlib.Core.Bool.{Bool, true, false, cond, _&&_, and-eq-true-iff}
+use mathlib.Core.Bool.{Bool, true, false, cond, _&&_}
 use lib.Dec.{eqb, leb}
 use lib.ListN.{length, getD, take, drop}
-use borrow.Author.Tests.{eq-eqb, ne-eqb, eqb-true, eqb-false}
+use borrow.Author.Tests.{eq-eqb, ne-eqb}
 use Rattle.text.specs.Text.{Bytes, Line, CR}
 use Rattle.text.specs.Find.{lineAt, isBlank}
 use Rattle.text.specs.Cut.{ended}
 use Rattle.text.specs.declared.LineAt.{LineAt}
-use Rattle.rules.specs.Record.{Raw, Molecule, Item, limit}
+use Rattle.rules.specs.Record.{Raw, Molecule, Item}
 use Rattle.judge_line.specs.Got.{Got, got, bad, need}
 use Rattle.text.specs.Find.{badColumn}
 use Rattle.text.specs.declared.Found.{Found}
 use Rattle.judge_line.specs.Field.{within, noneFound}
 use Rattle.judge_line.specs.Agree.{within-got, within-is}
-use Rattle.judge_line.specs.Judge.{blankb, ItemOrEnd, itemOf}
+use Rattle.judge_line.specs.Judge.{blankb, itemOf}
 use Rattle.line_text.specs.Answer.{itemGot}
 use Rattle.line_text.specs.declared.ItemRead.{ItemRead}
 use Rattle.judge_file.specs.Place as J
@@ -27,7 +27,7 @@ use Rattle.reader_places.specs.declared.Place.the-variants as P
 use Rattle.reader_places.specs.declared.LineJudged.{LineJudged}
 use Rattle.reader_places.specs.Places.{lineGot}
 use Rattle.reader_walk.specs.Stands.{placeOf}
-use Rattle.mend_rules.specs.Mend.{Action, keep, put, lose, found, itemLine, allBlank, some, actionAt}
+use Rattle.mend_rules.specs.Mend.{keep, put, lose, found, itemLine, allBlank, some, actionAt}
 use Rattle.mend_rules.specs.Text.{pieces}
 use Rattle.mend_rules.specs.Pieces.{PieceIs, ended-piece, open-cr, open-plain, no-piece}
 use Rattle.mend_judge.specs.declared.Judge.{Judge}

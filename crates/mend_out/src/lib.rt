@@ -5,7 +5,7 @@ ghost use Prim.Native.Nat.{_+_, _-_, _*_, _^_, _≤_, _<_};
 ghost use lib.ListN.{length, set};
 ghost use lib.Seq.{sets};
 ghost use Rattle.text.specs.Text.{LF};
-ghost use Rattle.mend_out.specs.Out.{begun, notedBy, passedBy, laidBy, putBy, droppedBy, endedBy, keptBy, CanNote, CanPut, CanKeep, late, Kept};
+ghost use Rattle.mend_out.specs.Out.{begun, notedBy, passedBy, laidBy, putBy, droppedBy, endedBy, CanNote, CanPut, CanKeep, late, Kept};
 use mend_lines::Piece;
 
 // Where the walk stands: position and line of the file as it came, bytes and line of the mended text, and how many repairs are listed.

@@ -1,20 +1,20 @@
 -- The walk that mends says of the mended lines what the judge says of them.
 use Prim.Native.Nat.{ℕ, suc}
-use mathlib.Core.Path.{_≡_, refl, sym, ap, _∙_}
+use mathlib.Core.Path.{_≡_, refl, _∙_}
 use mathlib.Core.List.{List, [], _∷_, _++_, map}
 use mathlib.Core.Bool.{Bool, true, false, cond, _&&_}
 use native.Mathlib.Omega.{arith}
 use Rattle.text.specs.Text.{Line}
 use Rattle.rules.specs.Record.{Raw}
-use Rattle.judge_line.specs.Got.{Got, got, bad, then}
-use Rattle.judge_line.specs.Judge.{blankb, valueOf}
+use Rattle.judge_line.specs.Got.{Got, got, bad}
+use Rattle.judge_line.specs.Judge.{blankb}
 use Rattle.judge_file.specs.Place.{sdfile, Place, first, second, third, counts, atoms, bonds, properties, over, items, values}
-use Rattle.judge_file.specs.Place.{Turn, next, done, turnOf, lineOf}
-use Rattle.judge_file.specs.Verdict.{Run, at, stopped, run}
+use Rattle.judge_file.specs.Place.{Turn, next, done, turnOf}
+use Rattle.judge_file.specs.Verdict.{stopped, run}
 use Rattle.judge_file.specs.Runs.{run-next, run-done, run-stop}
 use Rattle.judge_file.specs.Takes.{Takes, takes-turn}
 use Rattle.judge_file.specs.Witness.{blank-line}
-use Rattle.mend_rules.specs.Mend.{Action, keep, put, lose, itemLine, allBlank, some, actionAt, emptied, Left, went, fell, leftBy, left, actionsOf, applied, mendedLines, walkFrom}
+use Rattle.mend_rules.specs.Mend.{Action, keep, put, lose, allBlank, some, actionAt, emptied, Left, went, fell, leftBy, left, actionsOf, applied, walkFrom}
 
 module _ (limit : ℕ) where
   -- ---- a line that stays

@@ -1,7 +1,7 @@
 -- The list in lent numbers: two for each fix, its line and what was done.
-use Prim.Native.Nat.{ℕ, suc, _+_, _*_}
+use Prim.Native.Nat.{ℕ, _*_}
 use native.Mathlib.Omega.{arith}
-use mathlib.Core.Path.{_≡_, refl, sym, ap, _∙_}
+use mathlib.Core.Path.{_≡_, refl, ap}
 use mathlib.Core.List.{List, [], _∷_, _++_}
 use lib.ListN.{length}
 use Rattle.mend_rules.specs.Named.{Deed, line-put, blank-dropped, lf-added, Fix}

@@ -6,7 +6,7 @@ use Rattle.text.specs.Text.{Line}
 use Rattle.rules.specs.Record.{Raw}
 use Rattle.judge_line.specs.Got.{Got, got, bad}
 use Rattle.judge_line.specs.Field.{within}
-use Rattle.judge_line.specs.Judge.{ItemOrEnd, itemOf, blankb}
+use Rattle.judge_line.specs.Judge.{itemOf, blankb}
 use Rattle.judge_file.specs.Place.{sdfile, Place, first, second, third, counts, atoms, bonds, properties, over, items, values}
 use Rattle.judge_file.specs.Place.{Turn, next, done, turnOf}
 use Rattle.judge_file.specs.Verdict.{Run, at, stopped}

@@ -1,10 +1,9 @@
 -- The lines of a text by positions, each as it came; what is unfinished is the last.
 use Prim.Native.Nat.{ℕ, suc, _+_, _-_, _≤_, _<_}
 use native.Mathlib.Omega.{arith}
-use mathlib.Core.Path.{_≡_, refl, sym, ap, _∙_, subst}
-use mathlib.Core.List.{List, [], _∷_, _++_, map, append-nil, append-assoc}
+use mathlib.Core.Path.{_≡_, refl, sym, ap, _∙_}
+use mathlib.Core.List.{List, [], _∷_, _++_, append-nil, append-assoc}
 use mathlib.Core.Bool.{Bool, true, false, cond, _&&_}
-use lib.Dec.{eqb, ltb}
 use lib.ListN.{length, getD, take, drop, length-drop, length-append, drop-of-length-le}
 use lib.Seq.{split-at, getD-drop, drop-drop, take-at, length-take-le, take-suc, take-all, getD-at}
 use borrow.Author.Tests.{ne-eqb, eqb-true, eqb-false}

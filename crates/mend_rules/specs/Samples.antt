@@ -1,12 +1,7 @@
 -- Damaged files, mended.
-use Prim.Native.Nat.{ℕ, zero, suc, _-_}
-use Prim.Native.String.{String}
 use mathlib.Core.Path.{_≡_, refl}
-use mathlib.Core.Bool.{Bool, true, false}
 use mathlib.Core.List.{List, [], _∷_, _++_, map}
-use lib.ListN.{length, getD}
-use lib.IntN.{ℤ, pos, negsuc}
-use Rattle.text.specs.Text.{Bytes, LF, bytes}
+use Rattle.text.specs.Text.{Bytes, bytes}
 use Rattle.text.specs.Columns.{columnsFor}
 use Rattle.text.specs.Find.{firstFrom, badColumn, inkColumn}
 use Rattle.text.specs.Cut.{ended, split, cut}
@@ -15,16 +10,16 @@ use Rattle.field_numbers.specs.Read.{allDigits, afterSpaces, beforeSpaces, digi
 use Rattle.field_coordinates.specs.Read.{pointRead, beforePoint, inked, coordinateIn}
 use Rattle.field_symbols.specs.Read.{among, symbolIn}
 use Rattle.text.specs.Find.{sameBytes}
-use Rattle.rules.specs.Record.{Item, Raw, listed, limit}
+use Rattle.rules.specs.Record.{listed, limit}
 use Rattle.judge_pairs.specs.Taken.{pairTaken}
 use Rattle.judge_line.specs.Got.{then, need}
 use Rattle.judge_line.specs.Field.{numberAt, signedAt, elem, listedAt, elemSigned, signedListedAt, coordinateAt, symbolAt, spaceAt, spacesFrom, within}
 use Rattle.judge_line.specs.Judge.{begins, contains, firstHeaderOf, countsOf, atomOf, bondOf, entryNumberAt, entriesOf, listOf, propertyOf, blankb, nameOn, opened}
 use Rattle.judge_line.specs.Judge.{spaced, arrowed, headerOf, itemOf, valueOf}
-use Rattle.judge_file.specs.Place.{FileKind, molfile, sdfile, toBonds, toAtoms, lineOf, turnOf}
+use Rattle.judge_file.specs.Place.{toBonds, toAtoms, lineOf, turnOf}
 use Rattle.judge_file.specs.Samples.{lines, drumLines}
 use Rattle.mend_rules.specs.Mend.{itemLine, allBlank, actionAt, emptied, left, actionsOf, applied}
-use Rattle.mend_rules.specs.Named.{Deed, line-put, blank-dropped, lf-added, Fix, fix, fixesFrom}
+use Rattle.mend_rules.specs.Named.{line-put, blank-dropped, lf-added, Fix, fix, fixesFrom}
 use Rattle.mend_rules.specs.Text.{pieces, joined, actions, mendedPieces, mendedText, fixes}
 
 pub record Sample : Type 0 where

@@ -8,7 +8,7 @@ use lib.ListN.{length, length-append}
 use Rattle.text.specs.Text.{Bytes, LF}
 use Rattle.text.specs.Cut.{split}
 use Rattle.mend_rules.specs.Mend.{Action, keep, put, lose, applied}
-use Rattle.mend_rules.specs.Named.{Fix, deeds, none, fixesFrom}
+use Rattle.mend_rules.specs.Named.{deeds, fixesFrom}
 use Rattle.mend_rules.specs.Text.{tailOf, pieces, joined, actions, mendedPieces, mendedText, fixes, unfinished, joined-split, actions-many}
 
 pub joined-append : (a b : List Bytes) → joined (a ++ b) ≡ joined a ++ joined b

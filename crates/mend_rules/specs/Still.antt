@@ -1,8 +1,8 @@
 -- The walk that mends, line by line: what stands between two lines, and how each line carries it on or ends it.
-use Prim.Native.Nat.{ℕ, suc, _+_}
-use mathlib.Core.Path.{_≡_, refl, sym, ap, ap₂, _∙_, subst}
+use Prim.Native.Nat.{ℕ, suc}
+use mathlib.Core.Path.{_≡_, refl, sym, ap, _∙_}
 use mathlib.Core.List.{List, [], _∷_, _++_, map, append-nil, append-assoc}
-use mathlib.Core.Bool.{Bool, true, false, cond, _&&_, and-eq-true-iff}
+use mathlib.Core.Bool.{Bool, true, false, cond, _&&_}
 use native.Mathlib.Omega.{arith}
 use lib.ListN.{length, length-append}
 use Rattle.text.specs.Text.{Bytes, Line}
@@ -10,9 +10,9 @@ use Rattle.text.specs.Cut.{ended, split}
 use Rattle.rules.specs.Record.{Raw}
 use Rattle.judge_line.specs.Judge.{blankb}
 use Rattle.judge_file.specs.Place.{sdfile, Place, first, second, third, counts, atoms, bonds, properties, over, items, values}
-use Rattle.judge_file.specs.Verdict.{Run, at, stopped, Verdict, accepted, refused, conclude, endSDfile, verdict}
+use Rattle.judge_file.specs.Verdict.{stopped, refused, endSDfile, verdict}
 use Rattle.mend_rules.specs.Mend.{Action, keep, put, lose, itemLine, allBlank, some, actionAt, emptied, Left, went, fell, left, actionsOf, applied, walkFrom}
-use Rattle.mend_rules.specs.Named.{Fix, fix, line-put, blank-dropped, lineEnd, deeds, none, fixesFrom, actions-length}
+use Rattle.mend_rules.specs.Named.{Fix, fix, line-put, blank-dropped, lineEnd, none, fixesFrom, actions-length}
 use Rattle.mend_rules.specs.Text.{pieces, unfinished, actions, mendedPieces, mendedText, fixes, judged-text}
 use Rattle.mend_rules.specs.Unchanged.{item-not-blank}
 

@@ -1,21 +1,20 @@
 -- A text mended.
-use Prim.Native.Nat.{ℕ, suc, _+_, _<_}
-use mathlib.Core.Path.{_≡_, refl, sym, ap, ap₂, _∙_, subst}
+use Prim.Native.Nat.{ℕ, suc}
+use mathlib.Core.Path.{_≡_, refl, sym, ap, _∙_}
 use mathlib.Core.Logic.{_≢_}
-use mathlib.Core.List.{List, [], _∷_, _++_, map, append-nil, append-assoc}
-use mathlib.Core.Bool.{Bool, true, false, cond, _&&_, and-eq-true-iff}
-use native.Mathlib.Omega.{arith}
+use mathlib.Core.List.{List, [], _∷_, _++_, map, append-nil}
+use mathlib.Core.Bool.{Bool, true, false}
 use lib.Dec.{eqb}
 use lib.ListN.{length, length-map}
 use borrow.Author.Tests.{eqb-true, eqb-false}
-use Rattle.text.specs.Text.{Bytes, Line, LF, Each, Without, Lines}
+use Rattle.text.specs.Text.{Bytes, Line, LF, Each, Without}
 use Rattle.text.specs.Cut.{Cut, ended, onto, onByte, split, cut, cut-line, cut-rest, lines-cut}
 use Rattle.rules.specs.Record.{Raw}
 use Rattle.judge_file.specs.Place.{sdfile, first}
-use Rattle.judge_file.specs.Verdict.{Run, at, run, Verdict, accepted, conclude, verdict}
+use Rattle.judge_file.specs.Verdict.{at, run, accepted, conclude, verdict}
 use Rattle.judge_file.specs.Agree.{accepts-sd}
 use Rattle.judge_file.specs.Promise.{accepted-sd}
-use Rattle.mend_rules.specs.Mend.{Action, keep, put, lose, actionsOf, piece, applied, walkFrom}
+use Rattle.mend_rules.specs.Mend.{Action, keep, put, lose, actionsOf, applied, walkFrom}
 use Rattle.mend_rules.specs.Judged.{judged-as}
 use Rattle.mend_rules.specs.Unchanged.{good-unchanged, applied-kept}
 use Rattle.mend_rules.specs.Named.{Fix, fixesFrom, byList, Rising, in-order, actions-length, kept-lines, no-fixes}

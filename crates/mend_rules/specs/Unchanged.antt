@@ -1,11 +1,11 @@
 -- In a good file every line stays.
 use Prim.Native.Nat.{ℕ, zero, suc}
-use mathlib.Core.Path.{_≡_, refl, sym, ap, _∙_, subst}
-use mathlib.Core.List.{List, [], _∷_, _++_, map, append-nil}
+use mathlib.Core.Path.{_≡_, refl, sym, ap, _∙_}
+use mathlib.Core.List.{List, [], _∷_, _++_, map}
 use mathlib.Core.Bool.{Bool, true, false, cond, not, _&&_, and-eq-true-iff}
 use native.Mathlib.Omega.{arith}
-use lib.Dec.{eqb, leb}
-use lib.ListN.{getD, length, drop}
+use lib.Dec.{eqb}
+use lib.ListN.{getD, drop}
 use borrow.Author.Tests.{eqb-true}
 use Rattle.text.specs.Text.{Bytes, Line, bytes}
 use Rattle.text.specs.Columns.{columnsFor, Within}
@@ -18,12 +18,11 @@ use Rattle.judge_line.specs.Agree.{within-got, title-agrees, close-agrees, coun
 use Rattle.judge_line.specs.Field.{within}
 use Rattle.judge_line.specs.Judge.{begins, blankb, headerOf, HeaderRead, named, none, titleGot, notHeader, isClose, ItemOrEnd, title, close, itemOf, ValueOrBlank, valueOf, reserved, firstHeaderOf, countsOf}
 use Rattle.judge_file.specs.Place.{sdfile, Place, first, second, third, counts, atoms, bonds, properties, over, items, values}
-use Rattle.judge_file.specs.Place.{Turn, next, done, turnOf, lineOf, afterValue}
-use Rattle.judge_file.specs.Verdict.{Run, at, stopped, run}
+use Rattle.judge_file.specs.Place.{Turn, next, done, turnOf, lineOf}
+use Rattle.judge_file.specs.Verdict.{at, run}
 use Rattle.judge_file.specs.Runs.{run-next, run-done, run-stop, at-stopped, at-place}
 use Rattle.judge_file.specs.Ending.{isFirst}
-use Rattle.judge_file.specs.Takes.{Takes, turn-takes}
-use Rattle.mend_rules.specs.Mend.{Action, keep, put, lose, itemLine, allBlank, some, actionAt, emptied, Left, went, fell, leftBy, left, actionsOf, applied, mendedLines}
+use Rattle.mend_rules.specs.Mend.{Action, keep, put, lose, itemLine, allBlank, some, actionAt, left, actionsOf, applied, mendedLines}
 
 -- ---- blank lines
 

@@ -1,12 +1,12 @@
 -- Pairs entered in the rows, one after the other, each by its key and in the rows of both its ends: the rows then say the pairs.
-use Prim.Native.Nat.{ℕ, zero, suc, _+_, _-_, _*_, _/_, _%_, _≤_, _<_, _^_}
+use Prim.Native.Nat.{ℕ, suc, _+_, _-_, _*_, _/_, _%_, _≤_, _<_, _^_}
 use native.Mathlib.Omega.{arith}
 use native.Mathlib.Nat.{zero-div}
 use mathlib.Core.Path.{_≡_, refl, sym, ap, _∙_, subst}
 use mathlib.Core.List.{List, [], _∷_, _++_}
 use mathlib.Core.Bool.{Bool, true, false, cond, _&&_, _||_}
 use lib.Dec.{eqb, ltb}
-use lib.ListN.{length, getD, set, drop, replicate, length-append, length-replicate, length-drop, length-set, getD-replicate}
+use lib.ListN.{length, getD, set, drop, replicate, length-append, length-replicate, length-drop, getD-replicate}
 use lib.Seq.{drop-set-lt, drop-at, getD-set-same, getD-set-other, getD-take, take-at, set-out}
 use borrow.Author.Tests.{eq-eqb, ne-eqb, eqb-true, eqb-false, ltb-true, ltb-false}
 use Rattle.rules.specs.Forms.{Bond}

@@ -1,5 +1,5 @@
 -- One memory says the pairs of a list: two rows that say the same are the same words.
-use Prim.Native.Nat.{ℕ, zero, suc, _+_, _-_, _*_, _/_, _%_, _≤_, _<_, _^_}
+use Prim.Native.Nat.{ℕ, zero, suc, _+_, _-_, _*_, _/_, _%_, _<_, _^_}
 use native.Mathlib.Omega.{arith}
 use native.Mathlib.Nat.{pow-suc}
 use mathlib.Core.Path.{_≡_, refl, sym, ap, _∙_}
@@ -9,11 +9,10 @@ use lib.Dec.{eqb, ltb}
 use lib.ListN.{length, getD, drop}
 use lib.Seq.{ext-getD, getD-drop}
 use lib.Pow.{shr-shr}
-use borrow.Author.Tests.{eqb-true, eqb-false, eq-eqb, ne-eqb, ltb-true, ltb-false}
+use borrow.Author.Tests.{eqb-true, eqb-false, ltb-true, ltb-false}
 use Rattle.rules.specs.Forms.{Bond}
-use Rattle.rules.specs.Record.{limit}
 use Rattle.sets_words.specs.Bits.{bitAt, hasBit, inRow}
-use Rattle.reader_rows.specs.Says.{rowPlaces, joined, Says}
+use Rattle.reader_rows.specs.Says.{rowPlaces, Says}
 
 -- words with the same bits
 same-word : (n v w : ℕ) → v < 2 ^ n → w < 2 ^ n → ((k : ℕ) → k < n → v / 2 ^ k % 2 ≡ w / 2 ^ k % 2) → v ≡ w

@@ -2,18 +2,18 @@
 use Prim.Native.Nat.{ℕ, zero, suc, _+_, _/_, _%_, _≤_, _<_}
 use native.Mathlib.Omega.{arith}
 use native.Mathlib.Numerals.{add-one}
-use mathlib.Core.Path.{_≡_, refl, sym, ap, _∙_, subst}
-use mathlib.Core.List.{List, [], _∷_, _++_}
+use mathlib.Core.Path.{_≡_, refl, sym, ap, _∙_}
+use mathlib.Core.List.{List, [], _∷_}
 use mathlib.Core.Bool.{Bool, true, false, cond, not}
 use lib.Dec.{eqb}
 use lib.ListN.{length, getD, take, drop, set, drop-of-length-le}
 use lib.Seq.{take-suc-set, getD-take, length-take-le}
-use borrow.Author.Tests.{eq-eqb, ne-eqb}
+use borrow.Author.Tests.{eq-eqb}
 use Rattle.rules.specs.Forms.{Bond}
 use Rattle.rules.specs.Record.{limit}
 use Rattle.sets_words.specs.Bits.{hasBit, inRow}
 use Rattle.judge_line.specs.Field.{elem}
-use Rattle.reader_pairs.specs.Keys.{keysOf, AllSmall, Missed, Searching}
+use Rattle.reader_pairs.specs.Keys.{keysOf, AllSmall, Searching}
 use Rattle.reader_rows.specs.Says.{rowPlaces, Says, emptied}
 use Rattle.reader_rows.specs.Marked.{withKey, PairKey, marked, AllPairs, Blank, marked-none, pairs-none, marked-more, pairs-more, marked-length, marked-past, marked-asks, marked-says, emptied-blank, emptied-length}
 

@@ -1,5 +1,5 @@
 -- A counts line that is taken counts no more atoms than the limit.
-use Prim.Native.Nat.{ℕ, _≤_}
+use Prim.Native.Nat.{_≤_}
 use mathlib.Core.Path.{_≡_, subst}
 use Rattle.text.specs.Text.{Line}
 use Rattle.rules.specs.Forms.{Counts}

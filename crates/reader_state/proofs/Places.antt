@@ -1,12 +1,12 @@
 -- Laws on a step, place by place: what a callee answered decides what the step is.
-use Prim.Native.Nat.{ℕ, suc, _+_, _*_, _-_, _≤_, _<_}
+use Prim.Native.Nat.{ℕ, suc, _+_, _*_, _-_, _≤_}
 use native.Mathlib.Omega.{arith}
 use mathlib.Core.Path.{_≡_, refl, sym, ap, _∙_, subst}
 use mathlib.Core.List.{List, []}
 use mathlib.Core.Bool.{Bool, true, false}
-use lib.Dec.{eqb, leb}
+use lib.Dec.{leb}
 use lib.ListN.{length, take, drop}
-use borrow.Author.Tests.{eq-eqb, ne-eqb, le-leb, lt-leb}
+use borrow.Author.Tests.{ne-eqb}
 use Rattle.text.specs.Text.{Line}
 use Rattle.text.specs.Find.{badColumn}
 use Rattle.text.specs.declared.Found.{Found}
@@ -41,7 +41,7 @@ use Rattle.reader_state.specs.declared.Reader.{Reader}
 use Rattle.reader_state.specs.declared.Step.{Step}
 use Rattle.reader_places.specs.declared.LineJudged.{LineJudged}
 use Rattle.reader_places.specs.Places.{bondsOwed, atomsOwed, afterEnd, longestIn, lineGot}
-use Rattle.reader_state.specs.Went.{emptiedBy, Went, on, headed, atom, bond, ended, title, value, blank, done, moved, counted, afterProperty, enteredBy, headerIn, lineIn, wentOf, tableAt, Kept, Owing, Sane}
+use Rattle.reader_state.specs.Went.{emptiedBy, Went, on, headed, atom, bond, ended, title, value, blank, done, moved, counted, afterProperty, enteredBy, headerIn, lineIn, wentOf, Kept, Owing, Sane}
 use Rattle.reader_state.specs.Parts.{titleIn, KeptAt}
 
 -- ---- a step that is no title

@@ -1,7 +1,7 @@
 -- Where a line that is not refused leads: the place it stood at, the place after it, and that the state after it is sane again.
-use Prim.Native.Nat.{ℕ, suc, _-_, _≤_}
+use Prim.Native.Nat.{ℕ, _-_, _≤_}
 use native.Mathlib.Omega.{arith}
-use mathlib.Core.Path.{_≡_, refl, sym, ap, _∙_, subst}
+use mathlib.Core.Path.{_≡_, refl, ap, _∙_, subst}
 use mathlib.Core.List.{List}
 use mathlib.Core.Bool.{Bool, true, false, cond}
 use lib.Dec.{eqb}
@@ -10,7 +10,7 @@ use Rattle.text.specs.Text.{Bytes, Line}
 use Rattle.text.specs.Columns.{Within}
 use Rattle.rules.specs.Forms as R
 use Rattle.rules.specs.Record.{limit}
-use Rattle.judge_line.specs.Got.{Got, got, bad, then}
+use Rattle.judge_line.specs.Got.{Got, got, then}
 use Rattle.judge_line.specs.GotLaws.{got-inj, bad-got, then-got}
 use Rattle.judge_line.specs.AgreeField.{within-got}
 use Rattle.judge_line.specs.AgreeLine.{counts-got}

@@ -1,7 +1,7 @@
 -- One step of the reader's state: what a line was, and the state after it. The tables beside the state hold what has been read.
 use Prim.Native.Nat.{ℕ, _+_, _-_, _≤_}
 use mathlib.Core.Path.{_≡_}
-use mathlib.Core.List.{List, [], _∷_}
+use mathlib.Core.List.{List}
 use mathlib.Core.Bool.{cond}
 use lib.Dec.{eqb}
 use lib.ListN.{take, drop}
@@ -12,7 +12,7 @@ use Rattle.judge_line.specs.Got.{Got, got, bad, then}
 use Rattle.judge_line.specs.Field.{within}
 use Rattle.judge_line.specs.Judge as J
 use Rattle.line_atom.specs.Answer.{atomIs}
-use Rattle.line_counts_bonds.specs.Answer.{countsIs, bondIs}
+use Rattle.line_counts_bonds.specs.Answer.{bondIs}
 use Rattle.line_counts_bonds.specs.declared.Counts.{Counts}
 use Rattle.line_property.specs.Listed.{seenOf, enter, emptied}
 use Rattle.reader_places.specs.declared.Place.{Place}

@@ -1,9 +1,9 @@
 -- The record at the front of a text, in the rules' words and by the judge.
-use Prim.Native.Nat.{ℕ, zero, suc, _+_, _-_, _≤_, _<_}
+use Prim.Native.Nat.{ℕ, suc, _+_, _-_, _≤_, _<_}
 use native.Mathlib.Omega.{arith}
-use mathlib.Core.Path.{_≡_, refl, sym, ap, _∙_, subst}
+use mathlib.Core.Path.{_≡_, sym, ap, _∙_, subst}
 use mathlib.Core.List.{List, [], _∷_, _++_}
-use lib.ListN.{length, take, drop, length-append, length-take, length-drop}
+use lib.ListN.{length, take}
 use lib.Seq.{take-append-add}
 use Rattle.text.specs.Text.{Bytes, Line}
 use Rattle.text.specs.Cut.{Cut, cut, cut-is, lines-cut}

@@ -1,6 +1,6 @@
 -- Every record of an SDfile, whatever became of those before it. A record is judged from its start. After an accepted one the next begins behind its `$$$$` line;
 -- after a refused one behind the next line, from its refused line on, that begins `$$$$`.
-use Prim.Native.Nat.{ℕ, zero, suc, _+_, _≤_, _<_}
+use Prim.Native.Nat.{ℕ, suc, _+_, _≤_, _<_}
 use mathlib.Core.Path.{_≡_}
 use mathlib.Core.List.{List, [], _∷_, _++_}
 use lib.ListN.{length, take}

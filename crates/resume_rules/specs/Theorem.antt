@@ -14,9 +14,9 @@ use Rattle.rules.specs.Record.{Raw, GoodSDfile}
 use Rattle.judge_refusals.specs.NoRecord.{NoRecord}
 use Rattle.reader_feed.specs.Fed.{Piece, pieceOf}
 use Rattle.reader_feed.specs.Pieces.{piece-room}
-use Rattle.reader_feed.specs.Says.{Told, accepted, refused, too-long, saysFrom, counterSays, says-end, says-whole, says-refused, says-short, says-long, whole-there}
+use Rattle.reader_feed.specs.Says.{refused, too-long, saysFrom, counterSays, says-end, says-whole, says-refused, says-short, says-long, whole-there}
 use Rattle.reader_feed.specs.TooLong.{piece-good}
-use Rattle.resume_rules.specs.Resume.{Behind, Part, good, bad, long, Dealt, bytesOf, joined, linesOf, firstTold}
+use Rattle.resume_rules.specs.Resume.{Behind, Part, good, bad, long, Dealt, joined, firstTold}
 use Rattle.resume_rules.specs.Passed.{passed, passed-some, behind-passed, behind}
 use Rattle.resume_rules.specs.Fronts.{NotWhole, not-whole, no-dead, no-open, dead-line, dead-number, open-line, good-front}
 

@@ -2,7 +2,7 @@
 use Prim.Native.Nat.{ℕ, _+_}
 use mathlib.Core.Path.{_≡_}
 use mathlib.Core.List.{List, [], _∷_}
-use lib.ListN.{length, getD}
+use lib.ListN.{getD}
 use lib.IntN.{pos, _-ℤ_}
 use Rattle.store_log.specs.Log.{Event}
 use Rattle.store_log.specs.Store.{Store, Told}

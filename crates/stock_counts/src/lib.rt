@@ -1,7 +1,6 @@
 // The last count of each lot, kept in lent memory.
 ghost use mathlib.Core.Path.{_≡_};
 ghost use Prim.Native.Nat.{_+_, _<_};
-ghost use Rattle.stock_counts.specs.Note.{noted};
 ghost use Rattle.stock_counts.specs.Promise.{Promise};
 use store_event::Key;
 use store_lots::KEYS;

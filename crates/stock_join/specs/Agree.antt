@@ -1,28 +1,27 @@
 -- Fate and step keep their promises.
-use Prim.Native.Nat.{ℕ, _+_, _≤_, _<_}
+use Prim.Native.Nat.{ℕ, _+_}
 use native.Mathlib.Omega.{arith}
 use native.Mathlib.Nat.{add-zero, zero-add}
 use mathlib.Core.Path.{_≡_, refl, sym, ap, ap₂, _∙_, subst}
 use mathlib.Core.List.{List, [], _∷_, _++_}
 use mathlib.Core.Bool.{Bool, true, false, cond, not}
-use lib.Dec.{ltb}
 use lib.ListN.{length}
 use borrow.Author.Tests.{lt-ltb, le-ltb}
 use Rattle.store_log.specs.Log.{Bytes}
 use Rattle.store_log.specs.Store.{Store, known, placeOf, mostLots}
 use Rattle.store_event.specs.Scan.{keyAt}
 use Rattle.store_event.specs.Twelve.{Twelve}
-use Rattle.store_lots.specs.Memory.{Words, placeFrom}
+use Rattle.store_lots.specs.Memory.{Words}
 use Rattle.store_lots.specs.Places.{place-is, known-is}
 use Rattle.stock_rules.specs.Key.{Fault, Which, Keyed}
 use Rattle.stock_rules.specs.Lots.{place-below}
-use Rattle.stock_rules.specs.Join.{Entry, isNever, isKeyless, hasKey, neverIn, keylessIn}
+use Rattle.stock_rules.specs.Join.{Entry, isNever, isKeyless, neverIn, keylessIn}
 use Rattle.stock_rules.specs.EachOnce.{anyRecord, under}
 use Rattle.stock_key.specs.declared.KeyRead.{KeyRead}
 use Rattle.stock_key.specs.Promise.{readOf}
 use Rattle.stock_join.specs.declared.Fate.{Fate}
 use Rattle.stock_join.specs.declared.Join.{Join}
-use Rattle.stock_join.specs.Step.{placeIn, fateOf, most, upTo, marked, After, after, underAt, nextOf}
+use Rattle.stock_join.specs.Step.{placeIn, fateOf, upTo, After, underAt, nextOf}
 use Rattle.stock_join.specs.Stands.{fateIn, MarksFrom, Stood, entryAt, Short, Moves}
 use Rattle.stock_join.specs.Promise.{TwelveIn, Held, FatePromise, Promise}
 use Rattle.stock_join.specs.More.{length-one, length-same, total, total-more}

@@ -1,14 +1,13 @@
 -- One record more at the end of a list.
-use Prim.Native.Nat.{ℕ, _+_, _≤_, _<_}
+use Prim.Native.Nat.{ℕ, _+_, _≤_}
 use native.Mathlib.Omega.{arith}
-use mathlib.Core.Path.{_≡_, refl, sym, ap, _∙_}
+use mathlib.Core.Path.{_≡_, refl, ap, _∙_}
 use mathlib.Core.List.{List, [], _∷_, _++_, append-nil}
 use mathlib.Core.Bool.{Bool, true, false, cond}
-use lib.Dec.{eqb}
 use lib.ListN.{length, length-append}
 use Rattle.store_log.specs.Store.{Store}
 use Rattle.store_log.specs.Entries.{OneEach}
-use Rattle.stock_rules.specs.Join.{Place, Entry, picked, firstPlace, neverIn, keylessIn}
+use Rattle.stock_rules.specs.Join.{Entry, picked, firstPlace, neverIn, keylessIn}
 use Rattle.stock_rules.specs.EachOnce.{anyRecord, under, all-picked, each-once}
 
 pub picked-more : (f : Entry → Bool) (es : List Entry) (e : Entry) → picked f (es ++ (e ∷ [])) ≡ picked f es ++ cond (f e) (e ∷ []) []

@@ -3,9 +3,7 @@ use Prim.Native.Nat.{ℕ, _≤_}
 use mathlib.Core.Path.{_≡_}
 use mathlib.Core.List.{List}
 use lib.ListN.{length}
-use Rattle.store_log.specs.Log.{Bytes}
 use Rattle.store_log.specs.Store.{Store}
-use Rattle.store_event.specs.Scan.{keyAt}
 use Rattle.store_event.specs.Twelve.{Twelve}
 use Rattle.store_lots.specs.Memory.{Words}
 use Rattle.store_lots.specs.Holds.{Holds}

@@ -1,27 +1,25 @@
 -- The steps over all records of all files make the join of the log and the catalogue.
 use Prim.Native.Nat.{ℕ, zero, suc, _+_, _≤_, _<_}
 use native.Mathlib.Omega.{arith}
-use native.Mathlib.Nat.{add-zero, zero-add}
 use mathlib.Core.Path.{_≡_, refl, sym, ap, ap₂, _∙_, subst}
 use mathlib.Core.List.{List, [], _∷_, _++_, map, append-nil, append-assoc}
 use lib.ListN.{length, getD, replicate, length-append}
-use Rattle.text.specs.Text.{Line, Lines}
-use Rattle.rules.specs.Record.{Raw, SDfile, limit, GoodSDfile}
+use Rattle.rules.specs.Record.{Raw, GoodSDfile}
 use Rattle.store_log.specs.Log.{Bytes, Event}
-use Rattle.store_log.specs.Store.{Lot, Store, Told}
+use Rattle.store_log.specs.Store.{Store, Told}
 use Rattle.store_log.specs.Read.{readAll, replayLog}
 use Rattle.store_log.specs.Entries.{OneEach, one-each}
 use Rattle.store_log.specs.Limits.{sound}
 use Rattle.store_lots.specs.Memory.{Words}
 use Rattle.store_replay.specs.Runs.{Replays}
 use Rattle.stock_rules.specs.Key.{Keyed, Terms, recordKey}
-use Rattle.stock_rules.specs.Join.{Entry, entriesIn, entriesFrom, entriesOf, picked, neverIn, keylessIn, LotLine, Join, lotLines, joinOf}
+use Rattle.stock_rules.specs.Join.{Entry, entriesIn, entriesFrom, entriesOf, picked, LotLine, Join, lotLines, joinOf}
 use Rattle.stock_rules.specs.EachOnce.{anyRecord, under, recordsIn, records-under}
 use Rattle.stock_key.specs.declared.KeyRead.{KeyRead}
 use Rattle.stock_key.specs.Promise.{readOf}
 use Rattle.stock_join.specs.declared.Join as J
-use Rattle.stock_join.specs.Step.{fateOf, most, upTo, fresh, nextFile, After, after, nextOf}
-use Rattle.stock_join.specs.Stands.{fateIn, MarkAt, MarksFrom, Stood, entryAt, Short, Moves}
+use Rattle.stock_join.specs.Step.{fateOf, most, fresh, nextFile, After, after, nextOf}
+use Rattle.stock_join.specs.Stands.{MarksFrom, Stood, entryAt, Short, Moves}
 use Rattle.stock_join.specs.Promise.{TwelveIn, Held}
 use Rattle.stock_join.specs.Counting.{up-one}
 use Rattle.stock_join.specs.Agree.{fate-promised, promised}

@@ -1,5 +1,5 @@
 -- Memory and state that say what the join says of the records taken so far.
-use Prim.Native.Nat.{ℕ, _+_, _^_, _<_, _≤_}
+use Prim.Native.Nat.{ℕ, _+_, _<_, _≤_}
 use mathlib.Core.Path.{_≡_}
 use mathlib.Core.List.{List, [], _∷_, _++_}
 use mathlib.Core.Bool.{cond}
@@ -8,7 +8,7 @@ use Rattle.store_log.specs.Store.{Store, known, placeOf}
 use Rattle.store_log.specs.Entries.{OneEach}
 use Rattle.store_lots.specs.Memory.{Words}
 use Rattle.stock_rules.specs.Key.{Keyed}
-use Rattle.stock_rules.specs.Join.{Place, Entry, recordsOf, neverIn, keylessIn, firstPlace}
+use Rattle.stock_rules.specs.Join.{Entry, recordsOf, neverIn, keylessIn, firstPlace}
 use Rattle.stock_rules.specs.EachOnce.{anyRecord, under}
 use Rattle.stock_join.specs.declared.Fate.{Fate}
 use Rattle.stock_join.specs.declared.Join.{Join}

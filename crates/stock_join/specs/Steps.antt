@@ -1,7 +1,7 @@
 -- Ends of the code: each gives the definition's answer.
 use Prim.Native.Nat.{ℕ, _+_, _≤_, _<_}
 use mathlib.Core.Path.{_≡_, refl, sym, ap, _∙_}
-use lib.ListN.{length, getD, set}
+use lib.ListN.{getD, set}
 use borrow.Author.Tests.{eq-eqb, ne-eqb, lt-ltb, le-ltb}
 use Rattle.store_log.specs.Store.{mostLots}
 use Rattle.store_event.specs.declared.Key.{Key}

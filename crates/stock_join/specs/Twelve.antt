@@ -1,17 +1,17 @@
 -- The key of a record of the format has twelve bytes.
-use Prim.Native.Nat.{ℕ, zero, suc, _+_, _-_, _≤_, _<_}
+use Prim.Native.Nat.{ℕ, zero, suc, _-_, _<_}
 use native.Mathlib.Omega.{arith}
-use mathlib.Core.Path.{_≡_, refl, sym, ap, _∙_, subst}
+use mathlib.Core.Path.{_≡_, refl, subst}
 use mathlib.Core.List.{List, [], _∷_, _++_}
 use mathlib.Core.Bool.{Bool, true, false, cond}
-use lib.ListN.{length, getD, replicate, length-append}
+use lib.ListN.{length, replicate, length-append}
 use Rattle.text.specs.Text.{Bytes, Line, Each}
 use Rattle.text.specs.First.{each-as}
 use Rattle.text.specs.Laws.{each-append}
 use Rattle.text.specs.Find.{sameBytes}
 use Rattle.rules.specs.Record.{Item, Raw, Values, Items, Record, SDfile, limit}
-use Rattle.store_event.specs.Twelve.{AllBytes, Twelve}
-use Rattle.stock_rules.specs.Key.{Fault, Part, filled, keyOf, lineOf, partOf, Which, Keyed, keyBy, Terms, recordKey}
+use Rattle.store_event.specs.Twelve.{AllBytes}
+use Rattle.stock_rules.specs.Key.{Part, filled, lineOf, partOf, keyBy, Terms, recordKey}
 use Rattle.stock_rules.specs.OneKey.{key-whole, key-length}
 use Rattle.stock_join.specs.Promise.{TwelveIn}
 

@@ -1,7 +1,7 @@
 // The join of the store and the catalogue, one step a record, over memory that the caller lends.
 ghost use mathlib.Core.Path.{_≡_};
 ghost use Prim.Native.Nat.{_<_};
-ghost use Rattle.stock_join.specs.Step.{upTo, marked, placeIn, fateOf, fresh, nextFile, after, underAt, nextOf};
+ghost use Rattle.stock_join.specs.Step.{upTo, marked, placeIn, fresh, nextFile, after, underAt};
 ghost use Rattle.stock_join.specs.Promise.{FatePromise, Promise};
 use stock_key::KeyRead;
 use store_event::Key;

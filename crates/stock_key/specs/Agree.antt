@@ -1,8 +1,8 @@
 -- The answer keeps the promise.
-use Prim.Native.Nat.{ℕ, _+_, _-_, _≤_, _<_}
+use Prim.Native.Nat.{ℕ, _+_, _-_, _≤_}
 use native.Mathlib.Omega.{arith}
 use native.Mathlib.Nat.{add-zero}
-use mathlib.Core.Path.{_≡_, refl, sym, ap, ap₂, _∙_, subst}
+use mathlib.Core.Path.{_≡_, refl, sym, ap, _∙_, subst}
 use mathlib.Core.List.{List, [], _∷_, _++_}
 use mathlib.Core.Bool.{Bool, true, false, cond, _&&_}
 use lib.Dec.{eqb, ltb}
@@ -20,7 +20,7 @@ use Rattle.reader_item.specs.Promise.{RefusedAt}
 use Rattle.reader_item.specs.Agree.{promised}
 use Rattle.reader_first_line.specs.declared.FirstLine.{FirstLine}
 use Rattle.reader_first_line.specs.First.{lineFrom, firstOf}
-use Rattle.reader_first_line.specs.Promise.{FirstAt, FirstPromise}
+use Rattle.reader_first_line.specs.Promise.{FirstAt}
 use Rattle.reader_first_line.specs.Agree.{first-found, first-refused}
 use Rattle.store_event.specs.declared.Key.{Key}
 use Rattle.store_event.specs.Scan.{wordAt, keyAt}

@@ -2,13 +2,10 @@
 use Prim.Native.Nat.{ℕ, _+_, _-_, _*_, _≤_, _<_}
 use native.Mathlib.Omega.{arith}
 use mathlib.Core.Path.{_≡_, refl, sym, ap, _∙_}
-use mathlib.Core.Bool.{Bool, true, false}
-use lib.Dec.{eqb}
 use lib.ListN.{length, getD}
 use borrow.Author.Tests.{eq-eqb, ne-eqb, lt-ltb, le-ltb}
 use Rattle.text.specs.Text.{Bytes}
 use Rattle.reader_first_line.specs.declared.FirstLine.{FirstLine}
-use Rattle.reader_first_line.specs.First.{firstOf}
 use Rattle.reader_first_line.specs.Promise.{FirstAt, FirstPromise}
 use Rattle.store_event.specs.declared.Key.{Key}
 use Rattle.stock_key.specs.declared.Fault.{Fault}
@@ -16,7 +13,7 @@ use Rattle.stock_key.specs.declared.TextAt.{TextAt}
 use Rattle.stock_key.specs.declared.KeyRead.{KeyRead}
 use Rattle.stock_key.specs.Read.{byteOf, wordOf, textIn, absentBy, textBy, textOf, lotBy, lotOf, keyBy, keyReadOf}
 use Rattle.stock_key.specs.Promise.{KeyPromise}
-use Rattle.stock_key.specs.Agree.{TextSays, text-found, key-promised}
+use Rattle.stock_key.specs.Agree.{text-found, key-promised}
 
 -- ---- Bytes
 

@@ -1,19 +1,19 @@
 -- Each record of the catalogue is counted under exactly one lot, or listed exactly once in one of the two lists; and the papers of the lots make the log's books.
-use Prim.Native.Nat.{ℕ, zero, suc, _+_}
+use Prim.Native.Nat.{ℕ, _+_}
 use native.Mathlib.Omega.{arith}
-use mathlib.Core.Path.{_≡_, refl, sym, ap, ap₂, _∙_, subst}
+use mathlib.Core.Path.{_≡_, refl, sym, ap, ap₂, _∙_}
 use mathlib.Core.List.{List, [], _∷_, map}
 use mathlib.Core.Bool.{Bool, true, false, cond, not}
 use lib.ListN.{length}
 use Rattle.store_log.specs.Log.{Bytes, Event, Close, Logged}
-use Rattle.store_log.specs.Store.{Lot, Store, sameBytes, known, Told}
+use Rattle.store_log.specs.Store.{Store, sameBytes, known, Told}
 use Rattle.store_log.specs.Replay.{receivedBy, issuedBy, sumOf, papersIn}
 use Rattle.store_log.specs.Read.{readAll, replayLog}
 use Rattle.store_log.specs.Books.{log-books}
 use Rattle.store_log.specs.Lots.{same-bytes}
 use Rattle.store_log.specs.Entries.{OneEach, one-each}
 use Rattle.stock_rules.specs.Key.{Keyed}
-use Rattle.stock_rules.specs.Join.{Entry, hasKey, isNever, isKeyless, picked, recordsOf, neverIn, keylessIn, LotLine, Join, lotLines, joinOf}
+use Rattle.stock_rules.specs.Join.{Entry, hasKey, isNever, isKeyless, picked, recordsOf, neverIn, keylessIn, LotLine, lotLines, joinOf}
 
 -- how many of these meet a test
 abbrev pub howMany : (Entry → Bool) → List Entry → ℕ

@@ -2,16 +2,16 @@
 use Prim.Native.Nat.{ℕ}
 use mathlib.Core.Path.{_≡_, refl}
 use mathlib.Core.List.{List, [], _∷_, _++_, map}
-use lib.IntN.{pos, negsuc}
+use lib.IntN.{pos}
 use Rattle.text.specs.Text.{Bytes, bytes}
 use Rattle.text.specs.Find as F
 use Rattle.rules.specs.Record.{Item}
 use Rattle.store_log.specs.Log.{Kind, letter}
-use Rattle.store_log.specs.Store.{Lot, sameBytes, known, paperOf, placeOf, withPaper, receipt, issue, count, eventOn}
+use Rattle.store_log.specs.Store.{sameBytes, known, paperOf, placeOf, withPaper, receipt, issue, count, eventOn}
 use Rattle.store_log.specs.Replay.{replayFrom}
 use Rattle.store_log.specs.Read.{bodyOf, readBody, readOf, readFrom, readAll, replayLog}
 use Rattle.stock_rules.specs.Key.{Fault, Part, endsIn, filled, keyOf, partOf, Which, Keyed, Terms, recordKey}
-use Rattle.stock_rules.specs.Join.{Entry, Count, LotLine, Join, picked, lastCount, lotLines, joinOf}
+use Rattle.stock_rules.specs.Join.{Entry, Count, picked, lastCount, lotLines, joinOf}
 
 -- ---- Texts of a lot
 

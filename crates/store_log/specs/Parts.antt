@@ -1,8 +1,8 @@
 -- A log that comes in parts: where fifteen bytes of it are there, or all that is left, the part tells the event that the whole log has there.
-use Prim.Native.Nat.{ℕ, suc, _≤_, _<_}
+use Prim.Native.Nat.{_≤_}
 use native.Mathlib.Omega.{arith}
-use mathlib.Core.Path.{_≡_, refl, sym, ap, _∙_, subst}
-use mathlib.Core.List.{List, [], _∷_, _++_, append-assoc, append-nil}
+use mathlib.Core.Path.{_≡_, sym, ap, _∙_, subst}
+use mathlib.Core.List.{[], _∷_, _++_, append-assoc, append-nil}
 use lib.ListN.{length}
 use Rattle.store_log.specs.Log.{Bytes, Event, Begins, Close, Closes, letter, dayLetter, a-scan, a-day, no-byte, no-kind, cut-scan, cut-day}
 use Rattle.store_log.specs.Read.{Reading, readOf}

@@ -1,7 +1,6 @@
 -- The books in memory: after the replay of a log the papers of its lots, summed there, are the accepted receipts minus the accepted issues of the log.
 use Prim.Native.Nat.{ℕ, zero, suc, _+_}
-use native.Mathlib.Omega.{arith}
-use mathlib.Core.Path.{_≡_, refl, sym, ap, ap₂, _∙_}
+use mathlib.Core.Path.{_≡_, refl, ap, ap₂, _∙_}
 use mathlib.Core.List.{List, [], _∷_}
 use lib.ListN.{length, getD}
 use Rattle.store_log.specs.Log.{Bytes, Event, Close, Logged}
@@ -10,7 +9,7 @@ use Rattle.store_log.specs.Replay.{receivedBy, issuedBy, sumOf, papersIn}
 use Rattle.store_log.specs.Read.{replayLog}
 use Rattle.store_log.specs.Books.{log-books}
 use Rattle.store_lots.specs.Memory.{Words}
-use Rattle.store_lots.specs.Holds.{HoldsFrom, Holds}
+use Rattle.store_lots.specs.Holds.{HoldsFrom}
 use Rattle.store_replay.specs.Runs.{Replays}
 
 -- of n lots from place i on

@@ -23,7 +23,7 @@ use Rattle.store_lots.specs.Memory.{Words, placeFrom, putKey}
 use Rattle.store_event.specs.Scan.{keyAt, scanAt}
 use Rattle.store_replay.specs.Next.{fresh, past, After, after, receiptAt, issueAt, countAt, nextBy, nextAt, Stands, nextOf}
 use Rattle.store_event.specs.Twelve.{AllBytes, Twelve}
-use Rattle.store_lots.specs.Holds.{HoldsFrom, Holds}
+use Rattle.store_lots.specs.Holds.{HoldsFrom}
 use Rattle.store_replay.specs.Says.{Said, saidOf, closing, Says}
 use Rattle.store_replay.specs.Promise.{Stood, Usual, Goes, Promise}
 use Rattle.store_replay.specs.Runs.{Runs, stop, more, Replays}

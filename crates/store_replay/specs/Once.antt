@@ -1,8 +1,8 @@
 -- There is one such run: what it tells, how it stops, and the state and memories then are fixed by the log, the state and the memories before.
 use Prim.Native.Nat.{ℕ, _+_}
 use native.Mathlib.Omega.{arith}
-use mathlib.Core.Path.{_≡_, refl, sym, ap, ap₂, _∙_, subst}
-use mathlib.Core.List.{List, [], _∷_}
+use mathlib.Core.Path.{_≡_, refl, sym, ap₂, _∙_, subst}
+use mathlib.Core.List.{List, _∷_}
 use Rattle.store_log.specs.Log.{Bytes, Close}
 use Rattle.store_log.specs.Store.{Told}
 use Rattle.store_lots.specs.Memory.{Words}

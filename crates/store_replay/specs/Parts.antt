@@ -7,14 +7,14 @@ use lib.ListN.{length, drop}
 use Rattle.store_log.specs.Log.{Bytes, Event, Begins, Events, Close, Closes, none, more}
 use Rattle.store_log.specs.Store.{Store, Told, eventOn}
 use Rattle.store_log.specs.Replay.{replayFrom}
-use Rattle.store_log.specs.Read.{readAll, replayLog}
+use Rattle.store_log.specs.Read.{replayLog}
 use Rattle.store_log.specs.OneReading.{read-logged}
 use Rattle.store_log.specs.Parts.{Enough, Begun, part-event, part-close}
 use Rattle.store_lots.specs.Memory.{Words}
 use Rattle.store_lots.specs.Holds.{HoldsFrom, Holds}
 use Rattle.store_replay.specs.declared.Replay.{Replay}
 use Rattle.store_replay.specs.Next.{After, nextOf}
-use Rattle.store_replay.specs.Says.{Said, saidOf, closing, Says}
+use Rattle.store_replay.specs.Says.{Said, closing, Says}
 use Rattle.store_replay.specs.Promise.{Stood, Usual, Goes}
 use Rattle.store_replay.specs.Follows.{next-promise}
 use Rattle.store_replay.specs.Once.{closing-one, tells-one, apart}

@@ -1,5 +1,5 @@
 -- What a step promises, in the words of the log and the store.
-use Prim.Native.Nat.{ℕ, _+_, _^_, _≤_, _<_}
+use Prim.Native.Nat.{_+_, _^_, _≤_, _<_}
 use mathlib.Core.Path.{_≡_}
 use lib.ListN.{length, drop}
 use Rattle.store_log.specs.Log.{Bytes, Event, Begins, Close, Closes}

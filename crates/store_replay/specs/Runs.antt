@@ -1,5 +1,5 @@
 -- Steps from a fresh state over a log: what they tell of each event, where they stop, and the memory they leave.
-use Prim.Native.Nat.{ℕ, _+_}
+use Prim.Native.Nat.{_+_}
 use mathlib.Core.Path.{_≡_}
 use mathlib.Core.List.{List, [], _∷_}
 use lib.ListN.{length}

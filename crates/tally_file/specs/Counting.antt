@@ -1,10 +1,10 @@
 -- The walk over a good file: what is counted from the start is counted from here.
-use Prim.Native.Nat.{ℕ, suc, _+_, _-_, _*_, _^_, _≤_, _<_}
+use Prim.Native.Nat.{ℕ, _+_, _-_, _*_, _^_, _≤_, _<_}
 use native.Mathlib.Omega.{arith}
 use mathlib.Core.Path.{_≡_, refl, sym, ap, ap₂, _∙_, subst}
 use mathlib.Core.List.{List, [], _∷_, _++_, append-assoc}
-use mathlib.Core.Bool.{Bool, true, false, cond, false≢true}
-use lib.ListN.{length, take, drop, length-append, drop-of-length-le}
+use mathlib.Core.Bool.{Bool, true, false, false≢true}
+use lib.ListN.{length, take, drop, drop-of-length-le}
 use lib.Seq.{drop-at, take-append-seam}
 use mir.Syntax.{w64}
 use mir.Val.{Fits}
@@ -33,7 +33,7 @@ use Rattle.tally_rules.specs.Kept.{OneMore, record-more, tally-next, tally-stop
 use Rattle.tally_flat.specs.Flat.{Memory, Sized, talliesFrom, talliesIn, laid}
 use Rattle.tally_flat.specs.Memory.{tallies-length, tallies-take}
 use Rattle.tally_good.specs.Judge.{bookOf, goodBook}
-use Rattle.tally_good.specs.Agree.{few-entries, good-told, told-good}
+use Rattle.tally_good.specs.Agree.{few-entries, good-told}
 use Rattle.tally_file.specs.declared.Step.{Step}
 use Rattle.tally_file.specs.declared.Tallied.{Tallied}
 use Rattle.tally_file.specs.Count.{ListReady, FileReady, PastReady, supplierBy, supplierAt, totalsOf, stepOf, laidStep, Stepped, Said, added, refused, byOutcome, byVerdict, saidOf, toldOf, answerOf, Left, LeftList, pastBy, pastRecord}

@@ -22,7 +22,7 @@ use Rattle.reader_answer.specs.Told.{begins-outcome}
 use Rattle.reader_first_line.specs.declared.FirstLine.{FirstLine}
 use Rattle.reader_first_line.specs.First.{lineFrom, firstBy, firstOf}
 use Rattle.reader_first_line.specs.Promise.{FirstAt, FirstPromise}
-use Rattle.tally_rules.specs.Tally.{supplierName, Supplier, missing, named, supplierIn, supplierOf}
+use Rattle.tally_rules.specs.Tally.{supplierName, missing, named, supplierIn, supplierOf}
 use Rattle.tally_rules.specs.Tally as T
 use Rattle.tally_file.specs.Count.{supplierBy, supplierAt}
 

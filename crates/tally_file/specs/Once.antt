@@ -1,5 +1,5 @@
 -- What is said keeps the promise, and nothing else does: one answer, and one memory, for every input.
-use Prim.Native.Nat.{ℕ, zero, suc, _+_, _*_, _-_, _≤_, _<_}
+use Prim.Native.Nat.{ℕ, zero, suc, _+_, _*_, _≤_, _<_}
 use native.Mathlib.Omega.{arith}
 use native.Mathlib.Numerals.{add-one}
 use mathlib.Core.Path.{_≡_, refl, sym, ap, ap₂, _∙_, subst}
@@ -7,20 +7,20 @@ use mathlib.Core.List.{List, [], _∷_, _++_, map, append-nil}
 use mathlib.Core.Bool.{Bool, true, false, cond, true≢false, false≢true}
 use lib.Dec.{leb}
 use lib.ListN.{length, getD, take, drop, replicate, length-replicate, length-append, length-drop, take-append-drop, drop-of-length-le}
-use lib.Seq.{take-add, drop-drop, drop-cons, length-take-le, take-take, take-all, take-at, drop-at}
-use borrow.Author.Tests.{leb-true, leb-false, le-leb}
+use lib.Seq.{take-add, drop-drop, drop-cons, length-take-le, take-all, take-at, drop-at}
+use borrow.Author.Tests.{leb-true, le-leb}
 use Rattle.text.specs.Text.{Bytes}
 use Rattle.rules.specs.Record.{Raw, GoodSDfile, limit}
 use Rattle.judge_file.specs.Place.{sdfile}
 use Rattle.judge_file.specs.Verdict.{Verdict, verdict}
 use Rattle.judge_file.specs.Promise.{accepted-sd}
-use Rattle.reader_walk.specs.Promise.{CheckedAs, Checked, saidBy, verdict-checked, checked-one}
+use Rattle.reader_walk.specs.Promise.{Checked, saidBy, verdict-checked, checked-one}
 use Rattle.tally_rules.specs.declared.Tally.{Tally}
 use Rattle.tally_rules.specs.declared.Totals.{Totals}
 use Rattle.tally_rules.specs.Tally.{mostSuppliers, longest}
 use Rattle.tally_rules.specs.Book.{Book, Good, Outcome, tallied}
 use Rattle.tally_rules.specs.Book as B
-use Rattle.tally_flat.specs.Flat.{Memory, memory, nameBytes, Sized, tallyAt, talliesFrom, talliesIn, laid}
+use Rattle.tally_flat.specs.Flat.{Memory, memory, nameBytes, Sized, talliesFrom, talliesIn}
 use Rattle.tally_good.specs.Judge.{bookOf, goodBook}
 use Rattle.tally_good.specs.Agree.{good-told, told-good}
 use Rattle.tally_file.specs.declared.Tallied.{Tallied}

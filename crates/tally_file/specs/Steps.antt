@@ -1,22 +1,22 @@
 -- One record, in the facts that the code has.
-use Prim.Native.Nat.{ℕ, suc, _+_, _-_, _≤_, _<_}
+use Prim.Native.Nat.{ℕ, _+_, _-_, _≤_, _<_}
 use native.Mathlib.Omega.{arith}
 use mathlib.Core.Path.{_≡_, refl, sym, ap, _∙_, subst}
-use mathlib.Core.List.{List, [], _∷_, _++_}
+use mathlib.Core.List.{List, _++_}
 use mathlib.Core.Bool.{Bool, true, false, cond}
-use lib.Dec.{ltb, leb}
-use lib.ListN.{length, take, drop}
-use lib.Seq.{drop-append-add, drop-drop, take-append-seam}
+use lib.Dec.{ltb}
+use lib.ListN.{length, drop}
+use lib.Seq.{drop-append-add, drop-drop}
 use borrow.Author.Tests.{le-ltb, lt-ltb, le-leb, lt-leb, ltb-false}
 use Rattle.text.specs.Text.{Bytes}
 use Rattle.tally_rules.specs.declared.Tally.{Tally}
 use Rattle.tally_rules.specs.declared.Totals.{Totals}
 use Rattle.tally_rules.specs.Tally.{mostSuppliers, longest, mostRecords, Supplier, missing, named}
 use Rattle.tally_rules.specs.Tally as T
-use Rattle.tally_rules.specs.Book.{Book, Good, withName, bySupplier, recordOn}
+use Rattle.tally_rules.specs.Book.{Book, withName, bySupplier, recordOn}
 use Rattle.tally_rules.specs.Book as B
 use Rattle.tally_flat.specs.declared.Added.{Added}
-use Rattle.tally_flat.specs.Flat.{Memory, Sized, talliesFrom, talliesIn, AddReady, addedOf, laid, laidBy, AddedTo}
+use Rattle.tally_flat.specs.Flat.{Memory, talliesFrom, talliesIn, AddReady, addedOf, laid, AddedTo}
 use Rattle.tally_flat.specs.Memory.{tallies-length, front-add, front-drop}
 use Rattle.tally_good.specs.Judge.{bookOf}
 use Rattle.tally_good.specs.Agree.{short-one, small-one, few-entries}

@@ -1,8 +1,8 @@
 -- One record more of a supplier: the list in flat memory is the one of the rules.
-use Prim.Native.Nat.{ℕ, zero, suc, _+_, _*_, _-_, _≤_, _<_}
+use Prim.Native.Nat.{ℕ, _+_, _-_, _≤_, _<_}
 use native.Mathlib.Omega.{arith}
 use mathlib.Core.Path.{_≡_, refl, sym, ap, ap₂, _∙_, subst}
-use mathlib.Core.List.{List, [], _∷_, _++_}
+use mathlib.Core.List.{List, _∷_, _++_}
 use mathlib.Core.Bool.{Bool, true, false, cond}
 use lib.Dec.{ltb, leb}
 use lib.ListN.{length, getD, set, take, drop, length-set, length-append}
@@ -10,10 +10,10 @@ use lib.Seq.{set-append-left}
 use borrow.Author.Tests.{le-ltb, lt-ltb, leb-true, leb-false}
 use Rattle.text.specs.Text.{Bytes}
 use Rattle.tally_rules.specs.declared.Tally.{Tally}
-use Rattle.tally_rules.specs.Tally.{mostSuppliers, longest, mostRecords, fresh, oneMore, added}
+use Rattle.tally_rules.specs.Tally.{mostSuppliers, fresh, oneMore, added}
 use Rattle.tally_flat.specs.declared.Slot.{Slot}
 use Rattle.tally_flat.specs.declared.Added.{Added}
-use Rattle.tally_flat.specs.Flat.{Memory, memory, Sized, tallyAt, talliesFrom, talliesIn, namesFrom, Looked, slotFrom, inserted, Near, Placed, newOf, afterNew, AddReady, addedOf, laid, nowOf, laidBy, AddedTo}
+use Rattle.tally_flat.specs.Flat.{Memory, memory, tallyAt, talliesFrom, talliesIn, namesFrom, Looked, slotFrom, inserted, Near, Placed, newOf, afterNew, AddReady, addedOf, laid, AddedTo}
 use Rattle.tally_flat.specs.Slots.{noTally, namesOf, HereAt, NewAt, slot-here, slot-new}
 use Rattle.tally_flat.specs.Memory.{tallies-length, tallies-take, front-add, front-drop, front-at, names-are, inserted-sized, inserted-tallies, risen-sized, risen-tallies}
 

@@ -2,16 +2,16 @@
 use Prim.Native.Nat.{ℕ, zero, suc, _+_, _*_, _-_, _≤_, _<_}
 use native.Mathlib.Omega.{arith}
 use mathlib.Core.Path.{_≡_, refl, sym, ap, ap₂, _∙_, subst}
-use mathlib.Core.List.{List, [], _∷_, _++_, append-assoc}
+use mathlib.Core.List.{List, _∷_, _++_, append-assoc}
 use mathlib.Core.Bool.{Bool, true, false}
 use lib.Dec.{eqb}
-use lib.ListN.{length, getD, set, take, drop, replicate, length-set, length-append}
-use lib.Seq.{getD-set-same, getD-set-other, take-at, drop-at, take-take, ext-getD, set-append-left}
+use lib.ListN.{length, getD, set, take, drop, length-set}
+use lib.Seq.{getD-set-same, getD-set-other, take-at, drop-at, take-take, ext-getD}
 use borrow.Author.Tests.{eqb-true, eqb-false}
 use Rattle.text.specs.Text.{Bytes}
 use Rattle.tally_rules.specs.declared.Tally.{Tally}
-use Rattle.tally_rules.specs.Tally.{mostSuppliers, longest, nameOf, fresh, oneMore}
-use Rattle.tally_flat.specs.Flat.{Memory, memory, nameBytes, Sized, tallyAt, talliesFrom, talliesIn, namesFrom, shifted, putFrom, inserted, Placed, laid}
+use Rattle.tally_rules.specs.Tally.{mostSuppliers, longest, fresh, oneMore}
+use Rattle.tally_flat.specs.Flat.{Memory, memory, nameBytes, Sized, tallyAt, talliesFrom, talliesIn, namesFrom, shifted, inserted, Placed}
 use Rattle.tally_flat.specs.Slots.{noTally, namesOf}
 use Rattle.tally_flat.specs.Windows.{shifted-length, shifted-low, shifted-high, shifted-up, put-length, put-before, put-after, put-there, window-same, window-padded}
 

@@ -1,13 +1,13 @@
 -- Where a search ends, the record is added: one more for the tally that has the name, or a new one before those that come after it.
-use Prim.Native.Nat.{ℕ, zero, suc, _+_, _-_, _≤_, _<_}
+use Prim.Native.Nat.{ℕ, suc, _+_, _≤_, _<_}
 use native.Mathlib.Omega.{arith}
-use mathlib.Core.Path.{_≡_, refl, sym, ap, _∙_, subst}
+use mathlib.Core.Path.{_≡_, refl, sym, ap}
 use mathlib.Core.List.{List, [], _∷_, _++_, map}
 use lib.ListN.{length, getD, set, take, drop, replicate}
 use Rattle.text.specs.Text.{Bytes}
 use Rattle.tally_rules.specs.declared.Order.{Order}
 use Rattle.tally_rules.specs.declared.Tally.{Tally}
-use Rattle.tally_rules.specs.Tally.{order, nameOf, fresh, oneMore, addedBy, added}
+use Rattle.tally_rules.specs.Tally.{order, nameOf, fresh, oneMore, added}
 use Rattle.tally_flat.specs.declared.Slot.{Slot}
 use Rattle.tally_flat.specs.Flat.{slotBy, slotFrom}
 

@@ -1,11 +1,10 @@
 -- The loops in the facts that the code has.
 use Prim.Native.Nat.{ℕ, zero, suc, _+_, _*_, _-_, _≤_, _<_}
 use native.Mathlib.Omega.{arith}
-use mathlib.Core.Path.{_≡_, refl, sym, ap, ap₂, _∙_, subst}
-use mathlib.Core.List.{List, [], _∷_, _++_}
-use mathlib.Core.Bool.{Bool, true, false, cond}
-use lib.Dec.{ltb, leb}
-use lib.ListN.{length, getD, set, take, drop, length-set, length-drop, drop-of-length-le}
+use mathlib.Core.Path.{_≡_, refl, sym, ap, ap₂, _∙_}
+use mathlib.Core.List.{List, [], _∷_}
+use mathlib.Core.Bool.{true, false}
+use lib.ListN.{length, getD, set, take, drop, length-set, drop-of-length-le}
 use lib.Seq.{drop-cons}
 use native.Mathlib.Numerals.{add-one}
 use borrow.Author.Tests.{le-ltb, lt-ltb, le-leb, lt-leb}
@@ -17,7 +16,7 @@ use Rattle.tally_rules.specs.Tally.{mostSuppliers, longest, order}
 use Rattle.tally_rules.specs.Order.{order-by}
 use Rattle.tally_flat.specs.declared.Slot.{Slot}
 use Rattle.tally_flat.specs.declared.Added.{Added}
-use Rattle.tally_flat.specs.Flat.{Memory, memory, nameBytes, nameAt, namesFrom, Looked, slotBy, slotFrom, shifted, putFrom, inserted, newOf, afterNew}
+use Rattle.tally_flat.specs.Flat.{Memory, memory, nameAt, namesFrom, Looked, slotBy, slotFrom, shifted, putFrom, inserted, newOf, afterNew}
 
 -- ---- Two names: what is said of the whole is said from byte i on
 

@@ -1,22 +1,21 @@
 -- The test says that a list is good exactly if it is by the rules; and what it says of flat memory.
 use Prim.Native.Nat.{ℕ, zero, suc, _+_, _≤_, _<_}
 use native.Mathlib.Omega.{arith}
-use mathlib.Core.Path.{_≡_, refl, sym, ap, ap₂, _∙_, subst}
-use mathlib.Core.List.{List, [], _∷_, map}
-use mathlib.Core.Bool.{Bool, true, false, cond, true≢false, false≢true}
+use mathlib.Core.Path.{_≡_, refl, sym, ap, _∙_, subst}
+use mathlib.Core.List.{List, [], _∷_}
+use mathlib.Core.Bool.{Bool, true, false, cond, false≢true}
 use lib.Dec.{eqb, ltb}
 use lib.ListN.{length, getD}
 use borrow.Author.Tests.{eq-eqb, eqb-true, le-ltb, ltb-false}
-use Rattle.text.specs.Text.{Bytes}
 use Rattle.tally_rules.specs.declared.Order.{Order}
 use Rattle.tally_rules.specs.declared.Tally.{Tally}
 use Rattle.tally_rules.specs.declared.Totals.{Totals}
 use Rattle.tally_rules.specs.Tally.{mostSuppliers, longest, mostRecords, order, nameOf, Rising, Short, sumOf}
 use Rattle.tally_rules.specs.Book.{Book, Good}
-use Rattle.tally_flat.specs.Flat.{Memory, tallyAt, talliesFrom, namesFrom}
+use Rattle.tally_flat.specs.Flat.{Memory, talliesFrom}
 use Rattle.tally_flat.specs.Slots.{namesOf}
-use Rattle.tally_flat.specs.Memory.{tallies-length, names-are}
-use Rattle.tally_good.specs.Judge.{bookOf, isBefore, risingNames, shortNames, goodBook, shortFrom, sumFrom, namesGood}
+use Rattle.tally_flat.specs.Memory.{tallies-length}
+use Rattle.tally_good.specs.Judge.{bookOf, isBefore, risingNames, shortNames, goodBook, shortFrom, sumFrom}
 
 before-true : (o : Order) → isBefore o ≡ true → o ≡ Order.Before
 before-true Order.Before h = refl

@@ -1,19 +1,18 @@
 -- The test in the facts that the code has.
 use Prim.Native.Nat.{ℕ, zero, suc, _+_, _*_, _-_, _≤_, _<_}
 use native.Mathlib.Omega.{arith}
-use mathlib.Core.Path.{_≡_, refl, sym, ap, ap₂, _∙_, subst}
-use mathlib.Core.List.{List, [], _∷_}
+use mathlib.Core.Path.{_≡_, refl, sym, ap, ap₂, _∙_}
+use mathlib.Core.List.{List}
 use mathlib.Core.Bool.{Bool, true, false, cond, false≢true}
 use lib.Dec.{eqb, ltb}
 use lib.ListN.{length, getD, take, drop}
 use borrow.Author.Tests.{eq-eqb, ne-eqb, eqb-true, le-ltb, lt-ltb}
 use mir.Syntax.{w64}
 use mir.Val.{Fits}
-use Rattle.text.specs.Text.{Bytes}
 use Rattle.tally_rules.specs.declared.Order.{Order}
 use Rattle.tally_rules.specs.declared.Totals.{Totals}
-use Rattle.tally_rules.specs.Tally.{mostSuppliers, longest, mostRecords, order, sumOf}
-use Rattle.tally_flat.specs.Flat.{Memory, memory, nameBytes, Sized, talliesFrom, nameAt, namesFrom, Looked}
+use Rattle.tally_rules.specs.Tally.{mostSuppliers, longest, mostRecords, order}
+use Rattle.tally_flat.specs.Flat.{Memory, Sized, talliesFrom, nameAt, namesFrom, Looked}
 use Rattle.tally_flat.specs.Slots.{namesOf}
 use Rattle.tally_flat.specs.Memory.{tallies-length, names-are}
 use Rattle.tally_good.specs.Judge.{bookOf, isBefore, risingNames, shortNames, goodBook, shortFrom, sumFrom, namesGood}

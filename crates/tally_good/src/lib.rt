@@ -3,7 +3,7 @@ ghost use mathlib.Core.Path.{_≡_};
 ghost use Prim.Native.Nat.{_+_, _≤_, _<_};
 ghost use lib.Dec.{eqb};
 ghost use lib.ListN.{length};
-ghost use Rattle.tally_rules.specs.Tally.{order, mostSuppliers};
+ghost use Rattle.tally_rules.specs.Tally.{order};
 ghost use Rattle.tally_flat.specs.Flat.{memory, Sized, nameAt, namesFrom, Looked};
 ghost use Rattle.tally_good.specs.Judge.{bookOf, shortFrom, risingNames, sumFrom, namesGood, goodBook};
 use tally_rules::Order;

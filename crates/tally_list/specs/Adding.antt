@@ -1,7 +1,7 @@
 -- A record added to a list of tallies: found, then one more; or a new tally inserted. The list is then what the flat layer leaves, and the rules say.
 use Prim.Native.Nat.{ℕ, zero, suc, _+_, _-_, _≤_, _<_}
 use native.Mathlib.Omega.{arith}
-use mathlib.Core.Path.{_≡_, refl, sym, ap, ap₂, _∙_, subst}
+use mathlib.Core.Path.{_≡_, sym, ap, ap₂, _∙_}
 use mathlib.Core.List.{List, [], _∷_, _++_, append-assoc}
 use lib.ListN.{length, getD, set, take, drop, length-set, length-append, length-drop, take-append-drop}
 use lib.Seq.{take-set-le, drop-set-lt, drop-set-add, drop-cons, getD-set-same, getD-drop, take-suc, append-snoc, set-at, length-take-le, take-take, take-add, drop-at, set-append-left, getD-take}

@@ -14,7 +14,6 @@ use Rattle.tally_rules.specs.declared.Order.{Order}
 use Rattle.tally_rules.specs.declared.Tally.{Tally}
 use Rattle.tally_rules.specs.Tally.{mostSuppliers, longest, mostRecords, order, nameOf, fresh, oneMore}
 use Rattle.tally_flat.specs.declared.Added.{Added}
-use Rattle.tally_list.specs.declared.Change.{Change}
 use Rattle.tally_list.specs.Change.{sameAs, within, isHere, changeOf, Ready}
 
 abbrev number : Bool → ℕ

@@ -1,7 +1,7 @@
 -- A record added is one more for its supplier, none for the others, and one more in all.
 use Prim.Native.Nat.{ℕ, _+_, _≤_}
 use native.Mathlib.Omega.{arith}
-use mathlib.Core.Path.{_≡_, refl, sym, ap, _∙_}
+use mathlib.Core.Path.{_≡_, refl, ap}
 use mathlib.Core.List.{List, [], _∷_}
 use mathlib.Core.Bool.{Bool, cond}
 use lib.ListN.{length}
@@ -9,7 +9,7 @@ use Rattle.text.specs.Text.{Bytes}
 use Rattle.text.specs.Find.{sameBytes}
 use Rattle.tally_rules.specs.declared.Order.{Order}
 use Rattle.tally_rules.specs.declared.Tally.{Tally}
-use Rattle.tally_rules.specs.Tally.{longest, order, nameOf, fresh, oneMore, addedBy, added, Short, sumOf}
+use Rattle.tally_rules.specs.Tally.{longest, order, nameOf, addedBy, added, Short, sumOf}
 use Rattle.tally_rules.specs.Order.{order-same, fresh-name}
 
 pub sum-added : (n : Bytes) (ts : List Tally) → sumOf (added n ts) ≡ sumOf ts + 1

@@ -1,7 +1,7 @@
 -- A file's records added to a good list leave a good list, which has each of them once: under its supplier, or as missing.
 use Prim.Native.Nat.{ℕ, _+_, _≤_}
 use native.Mathlib.Omega.{arith}
-use mathlib.Core.Path.{_≡_, refl, sym, ap, _∙_, subst}
+use mathlib.Core.Path.{_≡_, refl, sym, _∙_, subst}
 use mathlib.Core.List.{List, [], _∷_}
 use mathlib.Core.Bool.{Bool, true, false, cond}
 use lib.Dec.{ltb, leb}
@@ -10,8 +10,8 @@ use borrow.Author.Tests.{ltb-false, leb-false}
 use Rattle.text.specs.Text.{Bytes}
 use Rattle.text.specs.Find.{sameBytes}
 use Rattle.rules.specs.Record.{Raw}
-use Rattle.tally_rules.specs.Tally.{mostSuppliers, longest, mostRecords, added, Supplier, missing, named, supplierOf, sumOf}
-use Rattle.tally_rules.specs.Book.{Book, Good, Step, counted, refused, bySupplier, recordOn, Outcome, whole, stopped, tallyFrom}
+use Rattle.tally_rules.specs.Tally.{mostSuppliers, longest, mostRecords, added, Supplier, missing, named, supplierOf}
+use Rattle.tally_rules.specs.Book.{Book, Good, Step, counted, refused, bySupplier, recordOn, whole, stopped, tallyFrom}
 use Rattle.tally_rules.specs.Order.{order-kept}
 use Rattle.tally_rules.specs.Counts.{sum-added, length-added, short-added, countOf, count-added}
 

@@ -1,17 +1,16 @@
 -- Byte order tells names apart by their bytes, and a list in rising order stays so.
 use Prim.Native.Nat.{ℕ}
 use native.Mathlib.Omega.{arith}
-use mathlib.Core.Path.{_≡_, refl, sym, ap, ap₂, _∙_}
-use mathlib.Core.List.{List, [], _∷_, _++_}
+use mathlib.Core.Path.{_≡_, refl, ap₂}
+use mathlib.Core.List.{List, [], _∷_}
 use mathlib.Core.Bool.{Bool, true, false, cond}
 use lib.Dec.{ltb}
-use lib.ListN.{length, take, replicate}
 use lib.Seq.{take-append-seam}
-use borrow.Author.Tests.{ltb-true, ltb-false, lt-ltb, le-ltb}
+use borrow.Author.Tests.{ltb-false, le-ltb}
 use Rattle.text.specs.Text.{Bytes}
 use Rattle.tally_rules.specs.declared.Order.{Order}
 use Rattle.tally_rules.specs.declared.Tally.{Tally}
-use Rattle.tally_rules.specs.Tally.{longest, order, nameOf, fresh, oneMore, addedBy, added, Rising}
+use Rattle.tally_rules.specs.Tally.{order, nameOf, fresh, oneMore, addedBy, added, Rising}
 
 -- ---- Two names
 

@@ -1,13 +1,13 @@
 -- Small lists and what is added to them: one table for the names, one for the steps, one for a report.
 use Prim.Native.Nat.{ℕ}
 use mathlib.Core.Path.{_≡_, refl}
-use mathlib.Core.List.{List, [], _∷_, _++_}
+use mathlib.Core.List.{[], _∷_, _++_}
 use lib.ListN.{replicate}
-use Rattle.text.specs.Text.{Bytes, LF, bytes}
+use Rattle.text.specs.Text.{LF, bytes}
 use Rattle.field_numbers.specs.Write.{textBy}
 use Rattle.tally_rules.specs.declared.Order.{Order}
 use Rattle.tally_rules.specs.declared.Tally.{Tally}
-use Rattle.tally_rules.specs.Tally.{order, nameOf, added, Supplier}
+use Rattle.tally_rules.specs.Tally.{order, added, Supplier}
 use Rattle.tally_rules.specs.Book.{Book, Step, recordOn}
 use Rattle.tally_rules.specs.Report.{supplierLines, reportOf}
 

@@ -6,31 +6,24 @@ use Rattle.compare_items.proofs.name_in.Reads as reads
 use Rattle.compare_items.proofs.name_in.Lts as lts
 use Rattle.line_text.proofs.item_line.Reads as item-line-reads
 
--- src/lib.rt:191:11
 item-line-requires : tie.Need-item-line-requires
 item-line-requires c κs = search needs
 
--- src/lib.rt:192:27
 enum-known-from : tie.Need-enum-known-from
 enum-known-from c = search needs
 
--- src/lib.rt:193:28
 enum-told : tie.Need-enum-told
 enum-told c = search needs
 
--- src/lib.rt:194:47
 enum-told-2 : tie.Need-enum-told-2
 enum-told-2 c = search needs
 
--- src/lib.rt:188:1
 returns : tie.Need-returns
 returns c = search (needs, name-laws)
 
--- src/lib.rt:188:1
 returns-2 : tie.Need-returns-2
 returns-2 c = search (needs, name-laws)
 
--- src/lib.rt:188:1
 returns-3 : tie.Need-returns-3
 returns-3 c = search (needs, name-laws)
 

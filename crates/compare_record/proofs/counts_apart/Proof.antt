@@ -6,47 +6,36 @@ use Rattle.compare_record.proofs.counts_apart.Reads as reads
 use Rattle.compare_record.proofs.counts_apart.Lts as lts
 use Rattle.compare_tables.proofs.figures.Reads as figures-reads
 
--- src/lib.rt:31:46
 cast-figures : tie.Need-cast-figures
 cast-figures c = search needs
 
--- src/lib.rt:31:58
 cast-figures-2 : tie.Need-cast-figures-2
 cast-figures-2 c = search needs
 
--- src/lib.rt:31:9
 figures-requires : tie.Need-figures-requires
 figures-requires c κs = search needs
 
--- src/lib.rt:38:42
 cast-figures-3 : tie.Need-cast-figures-3
 cast-figures-3 c = search needs
 
--- src/lib.rt:38:54
 cast-figures-4 : tie.Need-cast-figures-4
 cast-figures-4 c = search needs
 
--- src/lib.rt:38:9
 figures-requires-2 : tie.Need-figures-requires-2
 figures-requires-2 c κs = search needs
 
--- src/lib.rt:45:34
 cast-figures-5 : tie.Need-cast-figures-5
 cast-figures-5 c = search needs
 
--- src/lib.rt:45:51
 cast-figures-6 : tie.Need-cast-figures-6
 cast-figures-6 c = search needs
 
--- src/lib.rt:45:5
 figures-requires-3 : tie.Need-figures-requires-3
 figures-requires-3 c κs = search needs
 
--- src/lib.rt:21:1
 same-length : tie.Need-same-length
 same-length c = search needs
 
--- src/lib.rt:21:1
 returns : tie.Need-returns
 returns c = search (needs, counts-are)
 

@@ -8,50 +8,39 @@ use Rattle.compare_record.proofs.headers_apart.Lts as lts
 use Rattle.compare_record.proofs.head_at.Reads as head-at-reads
 use Rattle.compare_record.proofs.line_apart.Reads as line-apart-reads
 
--- src/lib.rt:104:9
 head-at-requires : tie.Need-head-at-requires
 head-at-requires c κs = search needs
 
--- src/lib.rt:105:9
 head-at-requires-2 : tie.Need-head-at-requires-2
 head-at-requires-2 c κs = search needs
 
--- src/lib.rt:106:9
 line-apart-requires : tie.Need-line-apart-requires
 line-apart-requires c κs = search needs
 
--- src/lib.rt:107:9
 head-at-requires-3 : tie.Need-head-at-requires-3
 head-at-requires-3 c κs = search needs
 
--- src/lib.rt:108:9
 head-at-requires-4 : tie.Need-head-at-requires-4
 head-at-requires-4 c κs = search needs
 
--- src/lib.rt:109:9
 line-apart-requires-2 : tie.Need-line-apart-requires-2
 line-apart-requires-2 c κs = search needs
 
--- src/lib.rt:110:9
 head-at-requires-5 : tie.Need-head-at-requires-5
 head-at-requires-5 c κs = search needs
 
--- src/lib.rt:111:9
 head-at-requires-6 : tie.Need-head-at-requires-6
 head-at-requires-6 c κs = search needs
 
--- src/lib.rt:112:5
 line-apart-requires-3 : tie.Need-line-apart-requires-3
 line-apart-requires-3 c κs =
     let x = c .before .before .head-at5 .ensures in
     let y = c .before .head-at6 .ensures in
     (c .before .before .before .before .before .before .before .before .before .before .before .before .before .before .before .pre, omega arith, x .start, x .inside, y .start, y .inside)
 
--- src/lib.rt:100:1
 same-length : tie.Need-same-length
 same-length c = search needs
 
--- src/lib.rt:100:1
 returns : tie.Need-returns
 returns c =
     let v = c .before .before in

@@ -9,31 +9,24 @@ use Rattle.compare_record.proofs.counts_apart.Reads as counts-apart-rea
 use Rattle.compare_record.proofs.headers_apart.Reads as headers-apart-reads
 use Rattle.compare_record.proofs.rows_apart.Reads as rows-apart-reads
 
--- src/lib.rt:135:9
 headers-apart-requires : tie.Need-headers-apart-requires
 headers-apart-requires c κs = search needs
 
--- src/lib.rt:136:9
 counts-apart-requires : tie.Need-counts-apart-requires
 counts-apart-requires c κs = search needs
 
--- src/lib.rt:143:9
 rows-apart-requires : tie.Need-rows-apart-requires
 rows-apart-requires c κs = search needs
 
--- src/lib.rt:150:9
 rows-apart-requires-2 : tie.Need-rows-apart-requires-2
 rows-apart-requires-2 c κs = search needs
 
--- src/lib.rt:151:5
 items-apart-requires : tie.Need-items-apart-requires
 items-apart-requires c κs = c .before .before .before .before .before .before .before .before .before .before .before .before .before .before .before .before .before .pre .0 .0
 
--- src/lib.rt:116:1
 same-length : tie.Need-same-length
 same-length c = search needs
 
--- src/lib.rt:116:1
 returns : tie.Need-returns
 returns c =
     let s = c .before .before .before .before .before .before .before .before .before .before .before .before .before .before .before .before .before .before .before .args in

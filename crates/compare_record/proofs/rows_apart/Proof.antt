@@ -7,19 +7,15 @@ use Rattle.compare_record.proofs.rows_apart.Lts as lts
 use Rattle.compare_tables.proofs.table_apart.Reads as table-apart-reads
 use Rattle.compare_tables.proofs.smaller.Reads as smaller-reads
 
--- src/lib.rt:62:9
 smaller-requires : tie.Need-smaller-requires
 smaller-requires c κs = search needs
 
--- src/lib.rt:63:5
 table-apart-requires : tie.Need-table-apart-requires
 table-apart-requires c κs = search (needs, number-laws)
 
--- src/lib.rt:58:1
 same-length : tie.Need-same-length
 same-length c = search needs
 
--- src/lib.rt:58:1
 returns : tie.Need-returns
 returns c = search (needs, number-laws)
 

@@ -5,11 +5,9 @@ use Rattle.compare_tables.proofs.smaller.Tie as tie
 use Rattle.compare_tables.proofs.smaller.Reads as reads
 use Rattle.compare_tables.proofs.smaller.Lts as lts
 
--- src/lib.rt:52:9
 returns : tie.Need-returns
 returns c = search (needs, smaller-laws)
 
--- src/lib.rt:48:1
 returns-2 : tie.Need-returns-2
 returns-2 c = search (needs, smaller-laws)
 

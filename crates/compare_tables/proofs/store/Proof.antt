@@ -5,23 +5,18 @@ use Rattle.compare_tables.proofs.store.Tie as tie
 use Rattle.compare_tables.proofs.store.Reads as reads
 use Rattle.compare_tables.proofs.store.Lts as lts
 
--- src/lib.rt:38:9
 mul-v : tie.Need-mul-v
 mul-v c = search needs
 
--- src/lib.rt:38:9
 slice-set-from-v : tie.Need-slice-set-from-v
 slice-set-from-v c = search needs
 
--- src/lib.rt:34:1
 same-length : tie.Need-same-length
 same-length c = search needs
 
--- src/lib.rt:34:1
 returns : tie.Need-returns
 returns c = search needs
 
--- src/lib.rt:34:1
 returns-2 : tie.Need-returns-2
 returns-2 c = search (needs, log-laws)
 

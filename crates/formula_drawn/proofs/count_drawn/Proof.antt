@@ -15,41 +15,32 @@ Inv-loop atoms n drawn₀ i₀ drawn i = Tallying atoms n drawn₀ drawn i
 abbrev μ-loop : tie.MeasureT-loop
 μ-loop atoms n drawn₀ i₀ drawn i = n - i
 
--- src/lib.rt:36:5
 loop-holds : tie.Need-loop-holds Inv-loop μ-loop
 loop-holds c = search (needs, tally-laws, below-here)
 
--- src/lib.rt:37:13
 symbol-of-requires : tie.Need-symbol-of-requires Inv-loop μ-loop
 symbol-of-requires c κs = search (needs, tally-laws, below-here)
 
--- src/lib.rt:39:13
 returns : tie.Need-returns Inv-loop μ-loop
 returns c =
     let st = c .before .before .before .before in
     tally-stop (st .args .atoms .now) (st .args .n) (st .args .drawn .now) _ _ (c .before .before .before .loop .inv) (search needs) (c .before .symbol-of .ensures) (search needs)
 
--- src/lib.rt:41:37
 cast-add-at : tie.Need-cast-add-at Inv-loop μ-loop
 cast-add-at c = search (needs, tally-laws, below-here)
 
--- src/lib.rt:41:9
 add-at-requires : tie.Need-add-at-requires Inv-loop μ-loop
 add-at-requires c κs = search (needs, tally-laws, below-here)
 
--- src/lib.rt:42:9
 add-i : tie.Need-add-i Inv-loop μ-loop
 add-i c = search (needs, tally-laws, below-here)
 
--- src/lib.rt:36:5
 loop-less : tie.Need-loop-less Inv-loop μ-loop
 loop-less c = search (needs, tally-laws, below-here)
 
--- src/lib.rt:36:5
 loop-again : tie.Need-loop-again Inv-loop μ-loop
 loop-again c = search (needs, tally-laws, below-here)
 
--- src/lib.rt:30:1
 returns-2 : tie.Need-returns-2 Inv-loop μ-loop
 returns-2 c =
     let st = c .before .before in

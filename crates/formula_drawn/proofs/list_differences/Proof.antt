@@ -13,43 +13,33 @@ Inv-loop written drawn found₀ count₀ k₀ found count k = Listing (entry wri
 abbrev μ-loop : tie.MeasureT-loop
 μ-loop written drawn found₀ count₀ k₀ found count k = 119 - k
 
--- src/lib.rt:76:5
 loop-holds : tie.Need-loop-holds Inv-loop μ-loop
 loop-holds c = search (needs, listing-laws)
 
--- src/lib.rt:77:43
 mul-list-one : tie.Need-mul-list-one Inv-loop μ-loop
 mul-list-one c = search (needs, listing-laws)
 
--- src/lib.rt:77:43
 element-copy-out-list-one : tie.Need-element-copy-out-list-one Inv-loop μ-loop
 element-copy-out-list-one c = search (needs, listing-laws)
 
--- src/lib.rt:77:55
 mul-list-one-2 : tie.Need-mul-list-one-2 Inv-loop μ-loop
 mul-list-one-2 c = search (needs, listing-laws)
 
--- src/lib.rt:77:55
 element-copy-out-list-one-2 : tie.Need-element-copy-out-list-one-2 Inv-loop μ-loop
 element-copy-out-list-one-2 c = search (needs, listing-laws)
 
--- src/lib.rt:77:9
 list-one-requires : tie.Need-list-one-requires Inv-loop μ-loop
 list-one-requires c κs = search (needs, listing-laws)
 
--- src/lib.rt:78:9
 add-k : tie.Need-add-k Inv-loop μ-loop
 add-k c = search (needs, listing-laws)
 
--- src/lib.rt:76:5
 loop-less : tie.Need-loop-less Inv-loop μ-loop
 loop-less c = search (needs, listing-laws)
 
--- src/lib.rt:76:5
 loop-again : tie.Need-loop-again Inv-loop μ-loop
 loop-again c = search (needs, listing-laws)
 
--- src/lib.rt:70:1
 returns : tie.Need-returns Inv-loop μ-loop
 returns c =
     let st = c .before .before in

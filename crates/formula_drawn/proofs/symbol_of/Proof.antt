@@ -5,31 +5,24 @@ use Rattle.formula_drawn.proofs.symbol_of.Tie as tie
 use Rattle.formula_drawn.proofs.symbol_of.Reads as reads
 use Rattle.formula_drawn.proofs.symbol_of.Lts as lts
 
--- src/lib.rt:22:19
 mul-v : tie.Need-mul-v
 mul-v c = search needs
 
--- src/lib.rt:22:19
 add-v : tie.Need-add-v
 add-v c = search needs
 
--- src/lib.rt:22:13
 mul-v-2 : tie.Need-mul-v-2
 mul-v-2 c = search needs
 
--- src/lib.rt:22:13
 shared-slice-copy-out-v : tie.Need-shared-slice-copy-out-v
 shared-slice-copy-out-v c = search needs
 
--- src/lib.rt:24:9
 returns : tie.Need-returns
 returns c = search (needs, symbol-laws)
 
--- src/lib.rt:26:5
 cast-result : tie.Need-cast-result
 cast-result c = search (needs, symbol-laws)
 
--- src/lib.rt:18:1
 returns-2 : tie.Need-returns-2
 returns-2 c = search (needs, symbol-laws)
 

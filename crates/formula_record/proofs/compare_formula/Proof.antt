@@ -8,37 +8,29 @@ use Rattle.formula_record.proofs.compare_read.Reads as compare-read-rea
 use Rattle.formula_record.proofs.refuse.Reads as refuse-reads
 use Rattle.reader_record.proofs.read_record.Reads as read-plain-reads
 
--- src/lib.rt:102:11
 read-plain-requires : tie.Need-read-plain-requires
 read-plain-requires c κs = search needs
 
--- src/lib.rt:104:13
 enum-known-n : tie.Need-enum-known-n
 enum-known-n c = search needs
 
--- src/lib.rt:112:14
 compare-read-requires : tie.Need-compare-read-requires
 compare-read-requires c κs =
     let st = c .before .before .before .before .before .before .before .before .before .before .before in
     record-ready (st .args .s .now) (st .args .atoms .now) (st .args .bonds .now) (st .args .found .now) _ _ _ (c .before .before .before .before .before .before .before .read-plain .ensures .1 .1 .1) _ _ _ _ _ _ _ _ (c .before .before .before .n .given .1)
 
--- src/lib.rt:113:31
 enum-known-no : tie.Need-enum-known-no
 enum-known-no c = search needs
 
--- src/lib.rt:113:53
 refuse-requires : tie.Need-refuse-requires
 refuse-requires c κs = search needs
 
--- src/lib.rt:90:1
 same-length : tie.Need-same-length
 same-length c = search needs
 
--- src/lib.rt:90:1
 same-length-2 : tie.Need-same-length-2
 same-length-2 c = search needs
 
--- src/lib.rt:90:1
 returns : tie.Need-returns
 returns c =
     let st = c .before .before .before .before .before .before .before .before .before .before .before .before in
@@ -46,15 +38,12 @@ returns c =
     let k = record-kept (st .args .s .now) (st .args .atoms .now) (st .args .bonds .now) (st .args .found .now) _ _ _ (g .1 .1 .1) _ _ _ _ _ _ _ _ (c .before .before .before .before .n .given .1) _ _ (c .compare-read .ensures .0) (c .compare-read .ensures .1) in
     (k .0, (k .1, (g .1 .0, (g .1 .1 .0, k .2))))
 
--- src/lib.rt:90:1
 same-length-3 : tie.Need-same-length-3
 same-length-3 c = search needs
 
--- src/lib.rt:90:1
 same-length-4 : tie.Need-same-length-4
 same-length-4 c = search needs
 
--- src/lib.rt:90:1
 returns-2 : tie.Need-returns-2
 returns-2 c =
     let st = c .before .before .before .before .before .before .before .before .before .before .before in

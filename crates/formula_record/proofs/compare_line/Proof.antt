@@ -12,11 +12,9 @@ use Rattle.formula_drawn.proofs.count_drawn.Reads as count-drawn-reads
 use Rattle.formula_drawn.proofs.list_differences.Reads as list-differences-reads
 use Rattle.formula_sums.proofs.count_formula.Reads as count-formula-reads
 
--- src/lib.rt:31:9
 count-formula-requires : tie.Need-count-formula-requires
 count-formula-requires c κs = search needs
 
--- src/lib.rt:33:9
 returns : tie.Need-returns
 returns c =
     let st = c .before .before .before .before in
@@ -25,17 +23,14 @@ returns c =
     let ks = symbolsFrom t 0 n in
     line-refused (st .args .line .now) ks (c .before .count-formula .ensures .0) (c .if1 .taken) (st .args .found .now) (st .pre .2)
 
--- src/lib.rt:40:8
 count-drawn-requires : tie.Need-count-drawn-requires
 count-drawn-requires c κs =
     let st = c .before .before .before .before .before in
     (st .pre .0, empty-below)
 
--- src/lib.rt:41:13
 list-differences-requires : tie.Need-list-differences-requires
 list-differences-requires c κs = search needs
 
--- src/lib.rt:42:9
 returns-2 : tie.Need-returns-2
 returns-2 c =
     let st = c .before .before .before .before .before .before .before .before .before .before .before in
@@ -46,7 +41,6 @@ returns-2 c =
     line-differs (st .args .line .now) ks (c .before .before .before .before .before .before .before .before .count-formula .ensures .0) (c .before .before .before .before .before .before .before .if1 .left) (omega (arith, st .pre .1)) (c .before .before .before .before .before .count-drawn .ensures .0) (c .before .before .before .before .if2 .taken)
     _ _ (c .before .before .before .before .before .before .before .before .count-formula .ensures .1) (c .before .before .before .before .before .count-drawn .ensures .1) _ (c .list-differences .ensures .0) (st .args .found .now) _ (st .pre .2) (c .list-differences .ensures .1)
 
--- src/lib.rt:25:1
 returns-3 : tie.Need-returns-3
 returns-3 c =
     let st = c .before .before .before .before .before .before .before in

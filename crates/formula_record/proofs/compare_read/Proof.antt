@@ -7,32 +7,26 @@ use Rattle.formula_record.proofs.compare_read.Lts as lts
 use Rattle.formula_record.proofs.compare_line.Reads as compare-line-reads
 use Rattle.reader_first_line.proofs.first_line.Reads as first-line-reads
 
--- src/lib.rt:58:44
 slice-aggregate-first-line : tie.Need-slice-aggregate-first-line
 slice-aggregate-first-line c = search needs
 
--- src/lib.rt:58:11
 first-line-requires : tie.Need-first-line-requires
 first-line-requires c κs = search needs
 
--- src/lib.rt:59:27
 enum-known-from : tie.Need-enum-known-from
 enum-known-from c = search needs
 
--- src/lib.rt:59:54
 sub-compare-line : tie.Need-sub-compare-line
 sub-compare-line c =
     let st = c .before .before .before .before .before .before .before in
     line-order (st .args .s .now) (st .args .atoms .now) (st .args .n) (st .pre) _ (search needs) _ _ (c .before .from .given .1)
 
--- src/lib.rt:59:54
 part-compare-line-start : tie.Need-part-compare-line-start
 part-compare-line-start c =
     let st = c .before .before .before .before .before .before .before in
     let h = line-order (st .args .s .now) (st .args .atoms .now) (st .args .n) (st .pre) _ (search needs) _ _ (c .before .from .given .1) in
     search (needs, h)
 
--- src/lib.rt:59:54
 part-compare-line-end : tie.Need-part-compare-line-end
 part-compare-line-end c =
     let st = c .before .before .before .before .before .before .before in
@@ -40,33 +34,27 @@ part-compare-line-end c =
     let i = line-inside (st .args .s .now) (st .args .atoms .now) (st .args .n) (st .pre) _ (search needs) _ _ (c .before .from .given .1) in
     search (needs, h, i)
 
--- src/lib.rt:59:41
 compare-line-requires : tie.Need-compare-line-requires
 compare-line-requires c κs =
     let st = c .before .before .before .before .before .before .before .before .before in
     (st .pre .rows, st .pre .few, zeros-are)
 
--- src/lib.rt:60:29
 enum-told : tie.Need-enum-told
 enum-told c = search needs
 
--- src/lib.rt:69:14
 enum-told-2 : tie.Need-enum-told-2
 enum-told-2 c = search needs
 
--- src/lib.rt:52:1
 returns : tie.Need-returns
 returns c =
     let st = c .before .before .before .before .before .before .before .before .before .before in
     line-said (st .args .s .now) (st .args .atoms .now) (st .args .n) (st .pre) _ (search needs) _ _ (c .before .before .before .before .from .given .1) _ _ (c .compare-line .ensures .0) (c .compare-line .ensures .1)
 
--- src/lib.rt:52:1
 returns-2 : tie.Need-returns-2
 returns-2 c =
     let st = c .before .before .before .before .before .before in
     empty-said (st .args .s .now) (st .args .atoms .now) (st .args .n) (st .pre) _ (search needs) (c .enum-told .given .1) _ zeros-are
 
--- src/lib.rt:52:1
 returns-3 : tie.Need-returns-3
 returns-3 c =
     let st = c .before .before .before .before .before .before in

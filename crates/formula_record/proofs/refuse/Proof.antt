@@ -5,13 +5,11 @@ use Rattle.formula_record.proofs.refuse.Tie as tie
 use Rattle.formula_record.proofs.refuse.Reads as reads
 use Rattle.formula_record.proofs.refuse.Lts as lts
 
--- src/lib.rt:83:9
 returns : tie.Need-returns
 returns c =
     let st = c .before in
     (refl, kept-two (st .args .no) (st .args .found .now) (c .if1 .taken))
 
--- src/lib.rt:78:1
 returns-2 : tie.Need-returns-2
 returns-2 c =
     let st = c .before .before in

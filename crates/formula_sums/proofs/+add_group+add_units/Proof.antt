@@ -1,13 +1,12 @@
-use Prim.Native.Nat.{ℕ, _<_, _+_, _-_, _*_}
+use Prim.Native.Nat.{ℕ, _+_, _-_, _*_}
 use lib.ListN.{length}
 use mathlib.Core.Path.{ap, _∙_}
 use borrow.Author.Needs.{needs}
 use native.Mathlib.Omega.{arith}
 use Rattle.formula_rules.specs.Parse.{groupOf}
-use Rattle.formula_sums.specs.Values.{countValue}
 use Rattle.formula_rules.specs.Sums.{sat}
-use Rattle.formula_text.specs.Steps.{group-ends, symbol-ends, units-ends, open-within, capital-within}
-use Rattle.formula_sums.specs.Adds.{sums, group-read, open-never, open-more, open-added, none-added, symbol-never, symbol-more, symbol-added, flat-never, inner-read, inner-never, inner-within, group-added, symbol-set, value-le, symbol-le, place-small}
+use Rattle.formula_text.specs.Steps.{group-ends, symbol-ends, open-within, capital-within}
+use Rattle.formula_sums.specs.Adds.{sums, group-read, open-never, open-more, symbol-never, symbol-more, symbol-added, flat-never, inner-read, inner-never, inner-within, group-added, symbol-set, value-le, symbol-le, place-small}
 use Rattle.formula_rules.specs.Capped.{below-unit, below-at, below-here, sat-le}
 use borrow.Fn.Kinds.{In}
 use borrow.Fn.PlainCycle.{Measures, is, falls, and}

@@ -8,21 +8,17 @@ use Rattle.formula_sums.proofs.count_formula.Lts as lts
 use Rattle.formula_sums.proofs.count_shallow.Reads as count-shallow-reads
 use Rattle.formula_text.proofs.is_formula.Reads as is-formula-reads
 
--- src/lib.rt:172:8
 is-formula-requires : tie.Need-is-formula-requires
 is-formula-requires c κs = search needs
 
--- src/lib.rt:173:9
 count-shallow-requires : tie.Need-count-shallow-requires
 count-shallow-requires c κs = search needs
 
--- src/lib.rt:173:9
 returns : tie.Need-returns
 returns c =
     let st = c .before .before .before .before .before .before in
     (line-formula (st .args .line .now) (c .before .before .before .is-formula .ensures) (c .before .before .if1 .taken) (c .count-shallow .ensures .0), c .count-shallow .ensures .1)
 
--- src/lib.rt:167:1
 returns-2 : tie.Need-returns-2
 returns-2 c =
     let st = c .before .before .before .before in

@@ -9,34 +9,28 @@ use Rattle.formula_sums.proofs.add_units.Reads as add-units-reads
 use Rattle.formula_sums.proofs.too_many.Reads as too-many-reads
 use Rattle.formula_text.proofs.is_formula.Reads as is-formula-reads
 
--- src/lib.rt:156:8
 is-formula-requires : tie.Need-is-formula-requires
 is-formula-requires c κs = search needs
 
--- src/lib.rt:157:9
 add-units-requires : tie.Need-add-units-requires
 add-units-requires c κs =
     let st = c .before .before .before .before in
     let p = shallow-empty (st .args .line .now) (c .before .before .is-formula .ensures) (c .before .if1 .taken) (st .args .counts .now) (st .pre) in
     (omega arith, p .0, omega arith, p .1)
 
--- src/lib.rt:158:12
 too-many-requires : tie.Need-too-many-requires
 too-many-requires c κs = search needs
 
--- src/lib.rt:159:13
 returns : tie.Need-returns
 returns c =
     let st = c .before .before .before .before .before .before .before .before in
     shallow-many (st .args .line .now) (c .before .before .before .before .before .before .is-formula .ensures) (c .before .before .before .before .before .if1 .taken) (st .args .counts .now) _ (st .pre) (c .before .before .before .add-units .ensures) (c .before .too-many .ensures) (c .if2 .taken)
 
--- src/lib.rt:161:9
 returns-2 : tie.Need-returns-2
 returns-2 c =
     let st = c .before .before .before .before .before .before .before .before in
     shallow-few (st .args .line .now) (c .before .before .before .before .before .before .is-formula .ensures) (c .before .before .before .before .before .if1 .taken) (st .args .counts .now) _ (st .pre) (c .before .before .before .add-units .ensures) (c .before .too-many .ensures) (c .if2 .left)
 
--- src/lib.rt:151:1
 returns-3 : tie.Need-returns-3
 returns-3 c =
     let st = c .before .before .before in

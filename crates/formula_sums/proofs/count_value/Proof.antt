@@ -10,99 +10,75 @@ use Rattle.formula_sums.proofs.digit.Reads as digit-reads
 use Rattle.formula_text.proofs.byte_at.Reads as byte-at-reads
 use Rattle.formula_text.proofs.in_range.Reads as in-range-reads
 
--- src/lib.rt:59:9
 byte-at-requires : tie.Need-byte-at-requires
 byte-at-requires c κs = search needs
 
--- src/lib.rt:60:8
 in-range-requires : tie.Need-in-range-requires
 in-range-requires c κs = search needs
 
--- src/lib.rt:61:41
 add-byte-at : tie.Need-add-byte-at
 add-byte-at c = search needs
 
--- src/lib.rt:61:13
 byte-at-requires-2 : tie.Need-byte-at-requires-2
 byte-at-requires-2 c κs = search needs
 
--- src/lib.rt:62:12
 in-range-requires-2 : tie.Need-in-range-requires-2
 in-range-requires-2 c κs = search needs
 
--- src/lib.rt:63:45
 add-byte-at-2 : tie.Need-add-byte-at-2
 add-byte-at-2 c = search needs
 
--- src/lib.rt:63:17
 byte-at-requires-3 : tie.Need-byte-at-requires-3
 byte-at-requires-3 c κs = search needs
 
--- src/lib.rt:64:16
 in-range-requires-3 : tie.Need-in-range-requires-3
 in-range-requires-3 c κs = search needs
 
--- src/lib.rt:65:30
 digit-requires : tie.Need-digit-requires
 digit-requires c κs = between-from 48 57 (c .before .before .before .before .before .before .before .before .byte-at .result) (sym (c .before .before .before .before .before .before .before .in-range .ensures) ∙ c .before .before .before .before .before .before .if1 .taken)
 
--- src/lib.rt:65:24
 mul-result : tie.Need-mul-result
 mul-result c = search needs
 
--- src/lib.rt:65:46
 digit-requires-2 : tie.Need-digit-requires-2
 digit-requires-2 c κs = between-from 48 57 (c .before .before .before .before .before .before .byte-at2 .result) (sym (c .before .before .before .before .before .in-range2 .ensures) ∙ c .before .before .before .before .if2 .taken)
 
--- src/lib.rt:65:41
 mul-result-2 : tie.Need-mul-result-2
 mul-result-2 c = search needs
 
--- src/lib.rt:65:24
 add-result : tie.Need-add-result
 add-result c = search needs
 
--- src/lib.rt:65:57
 digit-requires-3 : tie.Need-digit-requires-3
 digit-requires-3 c κs = between-from 48 57 (c .before .before .before .before .byte-at3 .result) (sym (c .before .before .before .in-range3 .ensures) ∙ c .before .before .if3 .taken)
 
--- src/lib.rt:65:24
 add-result-2 : tie.Need-add-result-2
 add-result-2 c = search needs
 
--- src/lib.rt:65:17
 returns : tie.Need-returns
 returns c = search (needs, values)
 
--- src/lib.rt:67:25
 digit-requires-4 : tie.Need-digit-requires-4
 digit-requires-4 c κs = between-from 48 57 (c .before .before .before .before .before .before .before .before .byte-at .result) (sym (c .before .before .before .before .before .before .before .in-range .ensures) ∙ c .before .before .before .before .before .before .if1 .taken)
 
--- src/lib.rt:67:20
 mul-result-3 : tie.Need-mul-result-3
 mul-result-3 c = search needs
 
--- src/lib.rt:67:36
 digit-requires-5 : tie.Need-digit-requires-5
 digit-requires-5 c κs = between-from 48 57 (c .before .before .before .before .before .before .byte-at2 .result) (sym (c .before .before .before .before .before .in-range2 .ensures) ∙ c .before .before .before .before .if2 .taken)
 
--- src/lib.rt:67:20
 add-result-3 : tie.Need-add-result-3
 add-result-3 c = search needs
 
--- src/lib.rt:67:13
 returns-2 : tie.Need-returns-2
 returns-2 c = search (needs, values)
 
--- src/lib.rt:69:9
 digit-requires-6 : tie.Need-digit-requires-6
 digit-requires-6 c κs = between-from 48 57 (c .before .before .before .before .before .byte-at .result) (sym (c .before .before .before .before .in-range .ensures) ∙ c .before .before .before .if1 .taken)
 
--- src/lib.rt:69:9
 returns-3 : tie.Need-returns-3
 returns-3 c = search (needs, values)
 
--- src/lib.rt:55:1
 returns-4 : tie.Need-returns-4
 returns-4 c = search (needs, values)
 

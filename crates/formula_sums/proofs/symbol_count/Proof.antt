@@ -8,15 +8,12 @@ use Rattle.formula_sums.proofs.symbol_count.Lts as lts
 use Rattle.formula_sums.proofs.count_value.Reads as count-value-reads
 use Rattle.formula_text.proofs.symbol_end.Reads as symbol-end-reads
 
--- src/lib.rt:89:9
 symbol-end-requires : tie.Need-symbol-end-requires
 symbol-end-requires c κs = search (needs, values, end-within)
 
--- src/lib.rt:90:5
 count-value-requires : tie.Need-count-value-requires
 count-value-requires c κs = search (needs, values, end-within)
 
--- src/lib.rt:85:1
 returns : tie.Need-returns
 returns c = search (needs, values, end-within)
 

@@ -1,8 +1,8 @@
-use Prim.Native.Nat.{ℕ, _<_, _+_, _-_}
+use Prim.Native.Nat.{ℕ, _+_, _-_}
 use lib.ListN.{length}
 use borrow.Author.Needs.{needs}
 use native.Mathlib.Omega.{arith}
-use Rattle.formula_text.specs.Steps.{group-laws, units-laws, group-ends, symbol-ends, units-ends, open-within, capital-within, close-within}
+use Rattle.formula_text.specs.Steps.{group-laws, units-laws, group-ends, symbol-ends, open-within, capital-within, close-within}
 use borrow.Fn.Kinds.{In}
 use borrow.Fn.PlainCycle.{Measures, is, falls, and}
 use Rattle.formula_text.proofs.group.Reads as group

@@ -5,15 +5,12 @@ use Rattle.formula_text.proofs.byte_at.Tie as tie
 use Rattle.formula_text.proofs.byte_at.Reads as reads
 use Rattle.formula_text.proofs.byte_at.Lts as lts
 
--- src/lib.rt:20:16
 shared-slice-read-result : tie.Need-shared-slice-read-result
 shared-slice-read-result c = search needs
 
--- src/lib.rt:20:9
 returns : tie.Need-returns
 returns c = search needs
 
--- src/lib.rt:16:1
 returns-2 : tie.Need-returns-2
 returns-2 c = search (needs, past)
 

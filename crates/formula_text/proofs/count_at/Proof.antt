@@ -7,87 +7,66 @@ use Rattle.formula_text.proofs.count_at.Lts as lts
 use Rattle.formula_text.proofs.byte_at.Reads as byte-at-reads
 use Rattle.formula_text.proofs.in_range.Reads as in-range-reads
 
--- src/lib.rt:39:9
 byte-at-requires : tie.Need-byte-at-requires
 byte-at-requires c κs = search needs
 
--- src/lib.rt:40:8
 in-range-requires : tie.Need-in-range-requires
 in-range-requires c κs = search needs
 
--- src/lib.rt:42:13
 returns : tie.Need-returns
 returns c = search (needs, count-laws)
 
--- src/lib.rt:44:28
 add-byte-at : tie.Need-add-byte-at
 add-byte-at c = search needs
 
--- src/lib.rt:44:13
 byte-at-requires-2 : tie.Need-byte-at-requires-2
 byte-at-requires-2 c κs = search needs
 
--- src/lib.rt:45:12
 in-range-requires-2 : tie.Need-in-range-requires-2
 in-range-requires-2 c κs = search needs
 
--- src/lib.rt:46:32
 add-byte-at-2 : tie.Need-add-byte-at-2
 add-byte-at-2 c = search needs
 
--- src/lib.rt:46:17
 byte-at-requires-3 : tie.Need-byte-at-requires-3
 byte-at-requires-3 c κs = search needs
 
--- src/lib.rt:47:16
 in-range-requires-3 : tie.Need-in-range-requires-3
 in-range-requires-3 c κs = search needs
 
--- src/lib.rt:48:36
 add-byte-at-3 : tie.Need-add-byte-at-3
 add-byte-at-3 c = search needs
 
--- src/lib.rt:48:21
 byte-at-requires-4 : tie.Need-byte-at-requires-4
 byte-at-requires-4 c κs = search needs
 
--- src/lib.rt:49:20
 in-range-requires-4 : tie.Need-in-range-requires-4
 in-range-requires-4 c κs = search needs
 
--- src/lib.rt:50:21
 returns-2 : tie.Need-returns-2
 returns-2 c = search (needs, count-laws)
 
--- src/lib.rt:52:35
 add-t13 : tie.Need-add-t13
 add-t13 c = search needs
 
--- src/lib.rt:52:17
 returns-3 : tie.Need-returns-3
 returns-3 c = let st = c .before .before .before .before .before .before .before .before .before .before .before .before .before .before in search (needs, count-three (st .args .s .now) (st .args .at))
 
--- src/lib.rt:54:31
 add-t11 : tie.Need-add-t11
 add-t11 c = search needs
 
--- src/lib.rt:54:13
 returns-4 : tie.Need-returns-4
 returns-4 c = let st = c .before .before .before .before .before .before .before .before .before .before .before in search (needs, count-two (st .args .s .now) (st .args .at))
 
--- src/lib.rt:57:13
 returns-5 : tie.Need-returns-5
 returns-5 c = search (needs, count-laws)
 
--- src/lib.rt:59:27
 add-t9 : tie.Need-add-t9
 add-t9 c = search needs
 
--- src/lib.rt:59:9
 returns-6 : tie.Need-returns-6
 returns-6 c = let st = c .before .before .before .before .before .before .before .before .before in search (needs, count-one (st .args .s .now) (st .args .at))
 
--- src/lib.rt:35:1
 returns-7 : tie.Need-returns-7
 returns-7 c = search (needs, count-laws)
 

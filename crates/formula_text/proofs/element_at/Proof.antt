@@ -8,39 +8,30 @@ use Rattle.formula_text.proofs.byte_at.Reads as byte-at-reads
 use Rattle.formula_text.proofs.element_of.Reads as element-of-reads
 use Rattle.formula_text.proofs.in_range.Reads as in-range-reads
 
--- src/lib.rt:88:24
 add-byte-at : tie.Need-add-byte-at
 add-byte-at c = search needs
 
--- src/lib.rt:88:9
 byte-at-requires : tie.Need-byte-at-requires
 byte-at-requires c κs = search needs
 
--- src/lib.rt:89:8
 in-range-requires : tie.Need-in-range-requires
 in-range-requires c κs = search needs
 
--- src/lib.rt:90:27
 byte-at-requires-2 : tie.Need-byte-at-requires-2
 byte-at-requires-2 c κs = search needs
 
--- src/lib.rt:90:9
 element-of-requires : tie.Need-element-of-requires
 element-of-requires c κs = search needs
 
--- src/lib.rt:90:9
 returns : tie.Need-returns
 returns c = search (needs, element-laws)
 
--- src/lib.rt:92:16
 byte-at-requires-3 : tie.Need-byte-at-requires-3
 byte-at-requires-3 c κs = search needs
 
--- src/lib.rt:92:5
 element-of-requires-2 : tie.Need-element-of-requires-2
 element-of-requires-2 c κs = search needs
 
--- src/lib.rt:84:1
 returns-2 : tie.Need-returns-2
 returns-2 c = search (needs, element-laws)
 

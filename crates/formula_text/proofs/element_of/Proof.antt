@@ -6,31 +6,24 @@ use Rattle.formula_text.proofs.element_of.Reads as reads
 use Rattle.formula_text.proofs.element_of.Lts as lts
 use Rattle.field_symbols.proofs.symbol.Reads as symbol-reads
 
--- src/lib.rt:74:51
 slice-aggregate-symbol : tie.Need-slice-aggregate-symbol
 slice-aggregate-symbol c = search needs
 
--- src/lib.rt:74:29
 symbol-requires : tie.Need-symbol-requires
 symbol-requires c κs = search needs
 
--- src/lib.rt:74:24
 enum-known-k : tie.Need-enum-known-k
 enum-known-k c = search needs
 
--- src/lib.rt:75:9
 enum-told : tie.Need-enum-told
 enum-told c = search needs
 
--- src/lib.rt:75:9
 returns : tie.Need-returns
 returns c = search (needs, element-laws)
 
--- src/lib.rt:78:9
 returns-2 : tie.Need-returns-2
 returns-2 c = search (needs, element-laws)
 
--- src/lib.rt:70:1
 returns-3 : tie.Need-returns-3
 returns-3 c = search (needs, element-laws)
 

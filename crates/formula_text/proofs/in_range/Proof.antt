@@ -5,11 +5,9 @@ use Rattle.formula_text.proofs.in_range.Tie as tie
 use Rattle.formula_text.proofs.in_range.Reads as reads
 use Rattle.formula_text.proofs.in_range.Lts as lts
 
--- src/lib.rt:29:9
 returns : tie.Need-returns
 returns c = search (needs, between-below, between-up)
 
--- src/lib.rt:25:1
 returns-2 : tie.Need-returns-2
 returns-2 c = search (needs, between-below, between-up)
 

@@ -6,27 +6,21 @@ use Rattle.formula_text.proofs.is_formula.Reads as reads
 use Rattle.formula_text.proofs.is_formula.Lts as lts
 use Rattle.formula_text.proofs.units.Reads as units-reads
 
--- src/lib.rt:118:9
 units-requires : tie.Need-units-requires
 units-requires c κs = search needs
 
--- src/lib.rt:119:20
 enum-known-u : tie.Need-enum-known-u
 enum-known-u c = search needs
 
--- src/lib.rt:119:34
 enum-told : tie.Need-enum-told
 enum-told c = search needs
 
--- src/lib.rt:119:34
 returns : tie.Need-returns
 returns c = search (needs, formula-laws)
 
--- src/lib.rt:121:9
 returns-2 : tie.Need-returns-2
 returns-2 c = search (needs, formula-laws)
 
--- src/lib.rt:115:1
 returns-3 : tie.Need-returns-3
 returns-3 c = search (needs, formula-laws)
 

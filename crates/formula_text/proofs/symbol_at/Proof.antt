@@ -8,23 +8,18 @@ use Rattle.formula_text.proofs.count_at.Reads as count-at-reads
 use Rattle.formula_text.proofs.element_at.Reads as element-at-reads
 use Rattle.formula_text.proofs.symbol_end.Reads as symbol-end-reads
 
--- src/lib.rt:112:9
 element-at-requires : tie.Need-element-at-requires
 element-at-requires c κs = search needs
 
--- src/lib.rt:114:9
 returns : tie.Need-returns
 returns c = search (needs, symbol-laws)
 
--- src/lib.rt:116:9
 symbol-end-requires : tie.Need-symbol-end-requires
 symbol-end-requires c κs = search needs
 
--- src/lib.rt:117:5
 count-at-requires : tie.Need-count-at-requires
 count-at-requires c κs = search (needs, symbol-laws)
 
--- src/lib.rt:108:1
 returns-2 : tie.Need-returns-2
 returns-2 c = search (needs, symbol-laws)
 

@@ -6,15 +6,12 @@ use Rattle.mend_file.proofs.ended.Reads as reads
 use Rattle.mend_file.proofs.ended.Lts as lts
 use Rattle.mend_file.proofs.starts.Reads as starts-reads
 
--- src/lib.rt:45:8
 starts-requires : tie.Need-starts-requires
 starts-requires c κs = search needs
 
--- src/lib.rt:46:9
 returns : tie.Need-returns
 returns c = search (needs, end-laws)
 
--- src/lib.rt:40:1
 returns-2 : tie.Need-returns-2
 returns-2 c = search (needs, end-laws)
 

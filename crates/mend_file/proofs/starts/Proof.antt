@@ -5,67 +5,51 @@ use Rattle.mend_file.proofs.starts.Tie as tie
 use Rattle.mend_file.proofs.starts.Reads as reads
 use Rattle.mend_file.proofs.starts.Lts as lts
 
--- src/lib.rt:28:25
 enum-known-place : tie.Need-enum-known-place
 enum-known-place c = search needs
 
--- src/lib.rt:29:26
 enum-told : tie.Need-enum-told
 enum-told c = search needs
 
--- src/lib.rt:30:37
 enum-told-2 : tie.Need-enum-told-2
 enum-told-2 c = search needs
 
--- src/lib.rt:31:37
 enum-told-3 : tie.Need-enum-told-3
 enum-told-3 c = search needs
 
--- src/lib.rt:32:30
 enum-told-4 : tie.Need-enum-told-4
 enum-told-4 c = search needs
 
--- src/lib.rt:33:24
 enum-told-5 : tie.Need-enum-told-5
 enum-told-5 c = search needs
 
--- src/lib.rt:34:25
 enum-told-6 : tie.Need-enum-told-6
 enum-told-6 c = search needs
 
--- src/lib.rt:35:26
 enum-told-7 : tie.Need-enum-told-7
 enum-told-7 c = search needs
 
--- src/lib.rt:24:1
 returns : tie.Need-returns
 returns c = search (needs, start-laws)
 
--- src/lib.rt:24:1
 returns-2 : tie.Need-returns-2
 returns-2 c = search (needs, start-laws)
 
--- src/lib.rt:24:1
 returns-3 : tie.Need-returns-3
 returns-3 c = search (needs, start-laws)
 
--- src/lib.rt:24:1
 returns-4 : tie.Need-returns-4
 returns-4 c = search (needs, start-laws)
 
--- src/lib.rt:24:1
 returns-5 : tie.Need-returns-5
 returns-5 c = search (needs, start-laws)
 
--- src/lib.rt:24:1
 returns-6 : tie.Need-returns-6
 returns-6 c = search (needs, start-laws)
 
--- src/lib.rt:24:1
 returns-7 : tie.Need-returns-7
 returns-7 c = search (needs, start-laws)
 
--- src/lib.rt:24:1
 returns-8 : tie.Need-returns-8
 returns-8 c = search (needs, start-laws)
 

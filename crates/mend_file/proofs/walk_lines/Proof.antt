@@ -21,139 +21,105 @@ Inv-loop s room₀ list₀ listed₀ keys₀ judge₀ m₀ tail₀ room list lis
 abbrev μ-loop : tie.MeasureT-loop
 μ-loop s room₀ list₀ listed₀ keys₀ judge₀ m₀ tail₀ room list listed keys judge m tail = turns s judge m tail
 
--- src/lib.rt:70:9
 new-requires : tie.Need-new-requires Inv-loop μ-loop
 new-requires c κs = search (needs, mending-laws)
 
--- src/lib.rt:71:9
 new-requires-2 : tie.Need-new-requires-2 Inv-loop μ-loop
 new-requires-2 c κs = search (needs, mending-laws)
 
--- src/lib.rt:73:5
 loop-holds : tie.Need-loop-holds Inv-loop μ-loop
 loop-holds c = search (needs, mending-laws)
 
--- src/lib.rt:75:13
 piece-at-requires : tie.Need-piece-at-requires Inv-loop μ-loop
 piece-at-requires c κs = search (needs, mending-laws)
 
--- src/lib.rt:77:15
 deed-at-requires : tie.Need-deed-at-requires Inv-loop μ-loop
 deed-at-requires c κs = search (needs, mending-laws)
 
--- src/lib.rt:78:63
 enum-told : tie.Need-enum-told Inv-loop μ-loop
 enum-told c = search (needs, mending-laws)
 
--- src/lib.rt:78:63
 sub-judge-line : tie.Need-sub-judge-line Inv-loop μ-loop
 sub-judge-line c = search (needs, mending-laws)
 
--- src/lib.rt:78:63
 part-judge-line-start : tie.Need-part-judge-line-start Inv-loop μ-loop
 part-judge-line-start c = search (needs, mending-laws)
 
--- src/lib.rt:78:63
 part-judge-line-end : tie.Need-part-judge-line-end Inv-loop μ-loop
 part-judge-line-end c = search (needs, mending-laws)
 
--- src/lib.rt:78:33
 judge-line-requires : tie.Need-judge-line-requires Inv-loop μ-loop
 judge-line-requires c κs = search (needs, mending-laws)
 
--- src/lib.rt:79:28
 enum-known-j : tie.Need-enum-known-j Inv-loop μ-loop
 enum-known-j c = search (needs, mending-laws)
 
--- src/lib.rt:81:21
 keep-line-requires : tie.Need-keep-line-requires Inv-loop μ-loop
 keep-line-requires c κs = ((piece-next _ _ _ (c .before .before .before .before .before .before .before .before .before .before .before .before .piece-at .ensures), piece-within _ _ _ (c .before .before .before .before .before .before .before .before .before .before .before .before .piece-at .ensures)), keep-fits _ _ _ _ _ _ _ _ _ _ (c .before .before .before .before .before .before .before .before .before .before .before .before .before .before .before .loop .inv) (search needs) _ (c .before .before .before .before .before .before .before .before .before .before .before .before .piece-at .ensures) _ (c .before .before .before .before .before .before .before .before .before .before .before .deed-at .ensures) (c .before .before .before .before .before .before .before .before .before .enum-told .given .1) _ _ _ (c .before .before .before .before .before .judge-line .ensures) _ (c .before .before .before .j .given .1))
 
--- src/lib.rt:73:5
 loop-less : tie.Need-loop-less Inv-loop μ-loop
 loop-less c = search (needs, mending-laws)
 
--- src/lib.rt:73:5
 loop-again : tie.Need-loop-again Inv-loop μ-loop
 loop-again c = mending-kept _ _ _ _ _ _ _ _ _ _ (c .before .before .before .before .before .before .before .before .before .before .before .before .before .before .before .before .before .before .before .before .loop .inv) (search needs) _ (c .before .before .before .before .before .before .before .before .before .before .before .before .before .before .before .before .before .piece-at .ensures) _ (c .before .before .before .before .before .before .before .before .before .before .before .before .before .before .before .before .deed-at .ensures) (c .before .before .before .before .before .before .before .before .before .before .before .before .before .before .enum-told .given .1) _ _ _ (c .before .before .before .before .before .before .before .before .before .before .judge-line .ensures) _ (c .before .before .before .before .before .before .before .before .j .given .1) _ _ _ (c .before .before .before .before .keep-line .ensures)
 
--- src/lib.rt:83:35
 enum-known-no : tie.Need-enum-known-no Inv-loop μ-loop
 enum-known-no c = search (needs, mending-laws)
 
--- src/lib.rt:84:21
 same-length : tie.Need-same-length Inv-loop μ-loop
 same-length c = search (needs, mending-laws)
 
--- src/lib.rt:84:21
 same-length-2 : tie.Need-same-length-2 Inv-loop μ-loop
 same-length-2 c = search (needs, mending-laws)
 
--- src/lib.rt:84:21
 returns : tie.Need-returns Inv-loop μ-loop
 returns c = search (needs, mending-laws)
 
--- src/lib.rt:92:17
 enum-told-2 : tie.Need-enum-told-2 Inv-loop μ-loop
 enum-told-2 c = search (needs, mending-laws)
 
--- src/lib.rt:92:17
 emptied-requires : tie.Need-emptied-requires Inv-loop μ-loop
 emptied-requires c κs = search (needs, mending-laws)
 
--- src/lib.rt:93:17
 put-line-requires : tie.Need-put-line-requires Inv-loop μ-loop
 put-line-requires c κs = search (needs, mending-laws)
 
--- src/lib.rt:73:5
 loop-less-2 : tie.Need-loop-less-2 Inv-loop μ-loop
 loop-less-2 c = search (needs, mending-laws)
 
--- src/lib.rt:73:5
 loop-again-2 : tie.Need-loop-again-2 Inv-loop μ-loop
 loop-again-2 c = search (needs, mending-laws)
 
--- src/lib.rt:96:52
 enum-told-3 : tie.Need-enum-told-3 Inv-loop μ-loop
 enum-told-3 c = search (needs, mending-laws)
 
--- src/lib.rt:96:17
 drop-line-requires : tie.Need-drop-line-requires Inv-loop μ-loop
 drop-line-requires c κs = search (needs, mending-laws)
 
--- src/lib.rt:73:5
 loop-less-3 : tie.Need-loop-less-3 Inv-loop μ-loop
 loop-less-3 c = search (needs, mending-laws)
 
--- src/lib.rt:73:5
 loop-again-3 : tie.Need-loop-again-3 Inv-loop μ-loop
 loop-again-3 c = search (needs, mending-laws)
 
--- src/lib.rt:99:17
 enum-told-4 : tie.Need-enum-told-4 Inv-loop μ-loop
 enum-told-4 c = search (needs, mending-laws)
 
--- src/lib.rt:73:5
 loop-less-4 : tie.Need-loop-less-4 Inv-loop μ-loop
 loop-less-4 c = search (needs, mending-laws)
 
--- src/lib.rt:73:5
 loop-again-4 : tie.Need-loop-again-4 Inv-loop μ-loop
 loop-again-4 c = mending-tail _ _ _ _ _ _ _ _ _ _ (c .before .before .before .before .before .before .loop .inv) (search needs) _ (c .before .before .before .piece-at .ensures) _ (c .before .before .deed-at .ensures) (c .enum-told4 .given .1)
 
--- src/lib.rt:103:5
 ended-requires : tie.Need-ended-requires Inv-loop μ-loop
 ended-requires c κs = search (needs, mending-laws)
 
--- src/lib.rt:59:1
 same-length-3 : tie.Need-same-length-3 Inv-loop μ-loop
 same-length-3 c = search (needs, mending-laws)
 
--- src/lib.rt:59:1
 same-length-4 : tie.Need-same-length-4 Inv-loop μ-loop
 same-length-4 c = search (needs, mending-laws)
 
--- src/lib.rt:59:1
 returns-2 : tie.Need-returns-2 Inv-loop μ-loop
 returns-2 c = search (needs, mending-laws)
 

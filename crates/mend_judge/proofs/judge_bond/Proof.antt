@@ -7,31 +7,24 @@ use Rattle.mend_judge.proofs.judge_bond.Lts as lts
 use Rattle.mend_judge.proofs.repeats.Reads as repeats-reads
 use Rattle.reader_pairs.proofs.pair_key.Reads as pair-key-reads
 
--- src/lib.rt:94:9
 pair-key-requires : tie.Need-pair-key-requires
 pair-key-requires c κs = search needs
 
--- src/lib.rt:95:8
 repeats-requires : tie.Need-repeats-requires
 repeats-requires c κs = search needs
 
--- src/lib.rt:96:9
 returns : tie.Need-returns
 returns c = search (needs, bond-laws)
 
--- src/lib.rt:98:5
 mul-keys : tie.Need-mul-keys
 mul-keys c = search needs
 
--- src/lib.rt:98:5
 element-write-keys : tie.Need-element-write-keys
 element-write-keys c = search needs
 
--- src/lib.rt:101:16
 add-t10 : tie.Need-add-t10
 add-t10 c = search needs
 
--- src/lib.rt:88:1
 returns-2 : tie.Need-returns-2
 returns-2 c = search (needs, bond-laws)
 

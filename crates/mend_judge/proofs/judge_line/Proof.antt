@@ -9,123 +9,93 @@ use Rattle.mend_judge.proofs.Judge.read.Reads as read-reads
 use Rattle.mend_judge.proofs.judge_bond.Reads as judge-bond-reads
 use Rattle.reader_state.proofs.Reader.step.Reads as step-reads
 
--- src/lib.rt:117:11
 step-requires : tie.Need-step-requires
 step-requires c κs = search (needs, judging-laws)
 
--- src/lib.rt:118:20
 enum-known-r : tie.Need-enum-known-r
 enum-known-r c = search needs
 
--- src/lib.rt:118:37
 read-requires : tie.Need-read-requires
 read-requires c κs = search needs
 
--- src/lib.rt:119:22
 enum-known-r-2 : tie.Need-enum-known-r-2
 enum-known-r-2 c = search needs
 
--- src/lib.rt:119:39
 read-requires-2 : tie.Need-read-requires-2
 read-requires-2 c κs = search needs
 
--- src/lib.rt:120:20
 enum-known-r-3 : tie.Need-enum-known-r-3
 enum-known-r-3 c = search needs
 
--- src/lib.rt:120:40
 read-requires-3 : tie.Need-read-requires-3
 read-requires-3 c κs = search needs
 
--- src/lib.rt:121:20
 enum-known-r-4 : tie.Need-enum-known-r-4
 enum-known-r-4 c = search needs
 
--- src/lib.rt:121:29
 judge-bond-requires : tie.Need-judge-bond-requires
 judge-bond-requires c κs = search (needs, judging-laws)
 
--- src/lib.rt:122:21
 enum-known-r-5 : tie.Need-enum-known-r-5
 enum-known-r-5 c = search needs
 
--- src/lib.rt:122:38
 read-requires-4 : tie.Need-read-requires-4
 read-requires-4 c κs = search needs
 
--- src/lib.rt:124:21
 enum-known-r-6 : tie.Need-enum-known-r-6
 enum-known-r-6 c = search needs
 
--- src/lib.rt:127:25
 read-requires-5 : tie.Need-read-requires-5
 read-requires-5 c κs = search needs
 
--- src/lib.rt:128:21
 enum-known-r-7 : tie.Need-enum-known-r-7
 enum-known-r-7 c = search needs
 
--- src/lib.rt:128:38
 read-requires-6 : tie.Need-read-requires-6
 read-requires-6 c κs = search needs
 
--- src/lib.rt:129:21
 enum-known-r-8 : tie.Need-enum-known-r-8
 enum-known-r-8 c = search needs
 
--- src/lib.rt:129:38
 read-requires-7 : tie.Need-read-requires-7
 read-requires-7 c κs = search needs
 
--- src/lib.rt:130:34
 enum-told : tie.Need-enum-told
 enum-told c = search needs
 
--- src/lib.rt:130:34
 new-requires : tie.Need-new-requires
 new-requires c κs = search needs
 
--- src/lib.rt:131:25
 enum-known-no : tie.Need-enum-known-no
 enum-known-no c = search needs
 
--- src/lib.rt:107:1
 returns : tie.Need-returns
 returns c = search (needs, judging-laws)
 
--- src/lib.rt:107:1
 returns-2 : tie.Need-returns-2
 returns-2 c = search (needs, judging-laws)
 
--- src/lib.rt:107:1
 returns-3 : tie.Need-returns-3
 returns-3 c = search (needs, judging-laws)
 
--- src/lib.rt:107:1
 returns-4 : tie.Need-returns-4
 returns-4 c = search (needs, judging-laws)
 
--- src/lib.rt:107:1
 returns-5 : tie.Need-returns-5
 returns-5 c = search (needs, judging-laws)
 
--- src/lib.rt:107:1
 returns-6 : tie.Need-returns-6
 returns-6 c = search (needs, judging-laws)
 
--- src/lib.rt:107:1
 returns-7 : tie.Need-returns-7
 returns-7 c = search (needs, judging-laws)
 
--- src/lib.rt:107:1
 returns-8 : tie.Need-returns-8
 returns-8 c = search (needs, judging-laws)
 
--- src/lib.rt:107:1
 returns-9 : tie.Need-returns-9
 returns-9 c = search (needs, judging-laws)
 
--- src/lib.rt:107:1
 returns-10 : tie.Need-returns-10
 returns-10 c = search (needs, judging-laws)
 

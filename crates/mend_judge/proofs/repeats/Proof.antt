@@ -14,39 +14,30 @@ Inv-loop keys count key j₀ j = Searching keys key count j
 abbrev μ-loop : tie.MeasureT-loop
 μ-loop keys count key j₀ j = count - j
 
--- src/lib.rt:77:9
 near-key-requires : tie.Need-near-key-requires Inv-loop μ-loop
 near-key-requires c κs = search (needs, repeat-laws)
 
--- src/lib.rt:78:5
 loop-holds : tie.Need-loop-holds Inv-loop μ-loop
 loop-holds c = search (needs, repeat-laws)
 
--- src/lib.rt:79:12
 mul-if1 : tie.Need-mul-if1 Inv-loop μ-loop
 mul-if1 c = search (needs, repeat-laws)
 
--- src/lib.rt:79:12
 element-copy-out-if1 : tie.Need-element-copy-out-if1 Inv-loop μ-loop
 element-copy-out-if1 c = search (needs, repeat-laws)
 
--- src/lib.rt:80:13
 returns : tie.Need-returns Inv-loop μ-loop
 returns c = search (needs, repeat-laws)
 
--- src/lib.rt:82:9
 add-j : tie.Need-add-j Inv-loop μ-loop
 add-j c = search (needs, repeat-laws)
 
--- src/lib.rt:78:5
 loop-less : tie.Need-loop-less Inv-loop μ-loop
 loop-less c = search (needs, repeat-laws)
 
--- src/lib.rt:78:5
 loop-again : tie.Need-loop-again Inv-loop μ-loop
 loop-again c = search (needs, repeat-laws)
 
--- src/lib.rt:72:1
 returns-2 : tie.Need-returns-2 Inv-loop μ-loop
 returns-2 c = search (needs, repeat-laws)
 

@@ -6,23 +6,18 @@ use Rattle.mend_lines.proofs.at_header.Reads as reads
 use Rattle.mend_lines.proofs.at_header.Lts as lts
 use Rattle.mend_lines.proofs.blank_from.Reads as blank-from-reads
 
--- src/lib.rt:112:9
 returns : tie.Need-returns
 returns c = search (needs, deed-laws)
 
--- src/lib.rt:115:12
 blank-from-requires : tie.Need-blank-from-requires
 blank-from-requires c κs = search needs
 
--- src/lib.rt:116:13
 returns-2 : tie.Need-returns-2
 returns-2 c = search (needs, deed-laws)
 
--- src/lib.rt:118:9
 returns-3 : tie.Need-returns-3
 returns-3 c = search (needs, deed-laws)
 
--- src/lib.rt:108:1
 returns-4 : tie.Need-returns-4
 returns-4 c = search (needs, deed-laws)
 

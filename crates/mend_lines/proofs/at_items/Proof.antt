@@ -6,15 +6,12 @@ use Rattle.mend_lines.proofs.at_items.Reads as reads
 use Rattle.mend_lines.proofs.at_items.Lts as lts
 use Rattle.text.proofs.is_blank.Reads as is-blank-reads
 
--- src/lib.rt:126:8
 is-blank-requires : tie.Need-is-blank-requires
 is-blank-requires c κs = search needs
 
--- src/lib.rt:127:9
 returns : tie.Need-returns
 returns c = search (needs, deed-laws)
 
--- src/lib.rt:123:1
 returns-2 : tie.Need-returns-2
 returns-2 c = search (needs, deed-laws)
 

@@ -6,15 +6,12 @@ use Rattle.mend_lines.proofs.at_values.Reads as reads
 use Rattle.mend_lines.proofs.at_values.Lts as lts
 use Rattle.mend_lines.proofs.is_item.Reads as is-item-reads
 
--- src/lib.rt:136:8
 is-item-requires : tie.Need-is-item-requires
 is-item-requires c κs = search needs
 
--- src/lib.rt:137:9
 returns : tie.Need-returns
 returns c = search (needs, deed-laws)
 
--- src/lib.rt:133:1
 returns-2 : tie.Need-returns-2
 returns-2 c = search (needs, deed-laws)
 

@@ -15,43 +15,33 @@ Inv-loop s at i₀ i = Scanning s at i
 abbrev μ-loop : tie.MeasureT-loop
 μ-loop s at i₀ i = length s - i
 
--- src/lib.rt:74:5
 loop-holds : tie.Need-loop-holds Inv-loop μ-loop
 loop-holds c = search (needs, scan-laws)
 
--- src/lib.rt:75:13
 piece-at-requires : tie.Need-piece-at-requires Inv-loop μ-loop
 piece-at-requires c κs = search (needs, scan-laws)
 
--- src/lib.rt:77:27
 sub-is-blank : tie.Need-sub-is-blank Inv-loop μ-loop
 sub-is-blank c = search (needs, scan-laws)
 
--- src/lib.rt:77:27
 part-is-blank-start : tie.Need-part-is-blank-start Inv-loop μ-loop
 part-is-blank-start c = search (needs, scan-laws)
 
--- src/lib.rt:77:27
 part-is-blank-end : tie.Need-part-is-blank-end Inv-loop μ-loop
 part-is-blank-end c = search (needs, scan-laws)
 
--- src/lib.rt:77:12
 is-blank-requires : tie.Need-is-blank-requires Inv-loop μ-loop
 is-blank-requires c κs = search (needs, scan-laws)
 
--- src/lib.rt:74:5
 loop-less : tie.Need-loop-less Inv-loop μ-loop
 loop-less c = search (needs, scan-laws)
 
--- src/lib.rt:74:5
 loop-again : tie.Need-loop-again Inv-loop μ-loop
 loop-again c = search (needs, scan-laws)
 
--- src/lib.rt:80:13
 returns : tie.Need-returns Inv-loop μ-loop
 returns c = search (needs, scan-laws)
 
--- src/lib.rt:70:1
 returns-2 : tie.Need-returns-2 Inv-loop μ-loop
 returns-2 c = search (needs, scan-laws)
 

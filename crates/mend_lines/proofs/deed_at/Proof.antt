@@ -6,15 +6,12 @@ use Rattle.mend_lines.proofs.deed_at.Reads as reads
 use Rattle.mend_lines.proofs.deed_at.Lts as lts
 use Rattle.mend_lines.proofs.deed_in.Reads as deed-in-reads
 
--- src/lib.rt:168:9
 returns : tie.Need-returns
 returns c = search (needs, deed-laws)
 
--- src/lib.rt:173:5
 deed-in-requires : tie.Need-deed-in-requires
 deed-in-requires c κs = search needs
 
--- src/lib.rt:162:1
 returns-2 : tie.Need-returns-2
 returns-2 c = search (needs, deed-laws)
 

@@ -8,103 +8,78 @@ use Rattle.mend_lines.proofs.at_header.Reads as at-header-reads
 use Rattle.mend_lines.proofs.at_items.Reads as at-items-reads
 use Rattle.mend_lines.proofs.at_values.Reads as at-values-reads
 
--- src/lib.rt:150:25
 enum-known-place : tie.Need-enum-known-place
 enum-known-place c = search needs
 
--- src/lib.rt:150:35
 at-header-requires : tie.Need-at-header-requires
 at-header-requires c κs = search needs
 
--- src/lib.rt:151:26
 enum-told : tie.Need-enum-told
 enum-told c = search needs
 
--- src/lib.rt:152:37
 enum-told-2 : tie.Need-enum-told-2
 enum-told-2 c = search needs
 
--- src/lib.rt:153:37
 enum-told-3 : tie.Need-enum-told-3
 enum-told-3 c = search needs
 
--- src/lib.rt:154:30
 enum-told-4 : tie.Need-enum-told-4
 enum-told-4 c = search needs
 
--- src/lib.rt:155:24
 enum-told-5 : tie.Need-enum-told-5
 enum-told-5 c = search needs
 
--- src/lib.rt:156:34
 enum-told-6 : tie.Need-enum-told-6
 enum-told-6 c = search needs
 
--- src/lib.rt:156:34
 sub-at-items : tie.Need-sub-at-items
 sub-at-items c = search needs
 
--- src/lib.rt:156:34
 part-at-items-start : tie.Need-part-at-items-start
 part-at-items-start c = search needs
 
--- src/lib.rt:156:34
 part-at-items-end : tie.Need-part-at-items-end
 part-at-items-end c = search needs
 
--- src/lib.rt:156:25
 at-items-requires : tie.Need-at-items-requires
 at-items-requires c κs = search needs
 
--- src/lib.rt:157:36
 enum-told-7 : tie.Need-enum-told-7
 enum-told-7 c = search needs
 
--- src/lib.rt:157:36
 sub-at-values : tie.Need-sub-at-values
 sub-at-values c = search needs
 
--- src/lib.rt:157:36
 part-at-values-start : tie.Need-part-at-values-start
 part-at-values-start c = search needs
 
--- src/lib.rt:157:36
 part-at-values-end : tie.Need-part-at-values-end
 part-at-values-end c = search needs
 
--- src/lib.rt:157:26
 at-values-requires : tie.Need-at-values-requires
 at-values-requires c κs = search needs
 
--- src/lib.rt:144:1
 returns : tie.Need-returns
 returns c = search (needs, deed-laws)
 
--- src/lib.rt:144:1
 returns-2 : tie.Need-returns-2
 returns-2 c = search (needs, deed-laws)
 
--- src/lib.rt:144:1
 returns-3 : tie.Need-returns-3
 returns-3 c = search (needs, deed-laws)
 
--- src/lib.rt:144:1
 returns-4 : tie.Need-returns-4
 returns-4 c = search (needs, deed-laws)
 
--- src/lib.rt:144:1
 returns-5 : tie.Need-returns-5
 returns-5 c = search (needs, deed-laws)
 
--- src/lib.rt:144:1
 returns-6 : tie.Need-returns-6
 returns-6 c = search (needs, deed-laws)
 
--- src/lib.rt:144:1
 returns-7 : tie.Need-returns-7
 returns-7 c = search (needs, deed-laws)
 
--- src/lib.rt:144:1
 returns-8 : tie.Need-returns-8
 returns-8 c = search (needs, deed-laws)
 

@@ -6,31 +6,24 @@ use Rattle.mend_lines.proofs.is_good_item.Reads as reads
 use Rattle.mend_lines.proofs.is_good_item.Lts as lts
 use Rattle.line_text.proofs.item_line.Reads as item-line-reads
 
--- src/lib.rt:89:11
 item-line-requires : tie.Need-item-line-requires
 item-line-requires c κs = search needs
 
--- src/lib.rt:90:47
 enum-told : tie.Need-enum-told
 enum-told c = search needs
 
--- src/lib.rt:91:28
 enum-told-2 : tie.Need-enum-told-2
 enum-told-2 c = search needs
 
--- src/lib.rt:92:47
 enum-told-3 : tie.Need-enum-told-3
 enum-told-3 c = search needs
 
--- src/lib.rt:86:1
 returns : tie.Need-returns
 returns c = search (needs, item-laws)
 
--- src/lib.rt:86:1
 returns-2 : tie.Need-returns-2
 returns-2 c = search (needs, item-laws)
 
--- src/lib.rt:86:1
 returns-3 : tie.Need-returns-3
 returns-3 c = search (needs, item-laws)
 

@@ -5,23 +5,18 @@ use Rattle.mend_lines.proofs.last_piece.Tie as tie
 use Rattle.mend_lines.proofs.last_piece.Reads as reads
 use Rattle.mend_lines.proofs.last_piece.Lts as lts
 
--- src/lib.rt:40:10
 sub-if1 : tie.Need-sub-if1
 sub-if1 c = search needs
 
--- src/lib.rt:40:8
 shared-slice-read-if1 : tie.Need-shared-slice-read-if1
 shared-slice-read-if1 c = search needs
 
--- src/lib.rt:42:18
 sub-t8 : tie.Need-sub-t8
 sub-t8 c = search needs
 
--- src/lib.rt:41:9
 returns : tie.Need-returns
 returns c = search (needs, piece-laws)
 
--- src/lib.rt:34:1
 returns-2 : tie.Need-returns-2
 returns-2 c = search (needs, piece-laws)
 

@@ -7,27 +7,21 @@ use Rattle.mend_lines.proofs.piece_at.Lts as lts
 use Rattle.mend_lines.proofs.last_piece.Reads as last-piece-reads
 use Rattle.text.proofs.line_at.Reads as line-at-reads
 
--- src/lib.rt:59:11
 line-at-requires : tie.Need-line-at-requires
 line-at-requires c κs = search needs
 
--- src/lib.rt:60:24
 enum-known-end : tie.Need-enum-known-end
 enum-known-end c = search needs
 
--- src/lib.rt:65:31
 enum-told : tie.Need-enum-told
 enum-told c = search needs
 
--- src/lib.rt:65:31
 last-piece-requires : tie.Need-last-piece-requires
 last-piece-requires c κs = search (needs, piece-laws)
 
--- src/lib.rt:55:1
 returns : tie.Need-returns
 returns c = search (needs, piece-laws)
 
--- src/lib.rt:55:1
 returns-2 : tie.Need-returns-2
 returns-2 c = search needs
 

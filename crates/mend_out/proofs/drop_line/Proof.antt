@@ -7,19 +7,15 @@ use Rattle.mend_out.proofs.drop_line.Lts as lts
 use Rattle.mend_out.proofs.Mender.passed.Reads as passed-reads
 use Rattle.mend_out.proofs.note.Reads as note-reads
 
--- src/lib.rt:129:9
 note-requires : tie.Need-note-requires
 note-requires c κs = search needs
 
--- src/lib.rt:130:5
 passed-requires : tie.Need-passed-requires
 passed-requires c κs = search (needs, out-laws)
 
--- src/lib.rt:123:1
 same-length : tie.Need-same-length
 same-length c = search needs
 
--- src/lib.rt:123:1
 returns : tie.Need-returns
 returns c = search (needs, out-laws)
 

@@ -9,59 +9,45 @@ use Rattle.mend_out.proofs.Mender.passed.Reads as passed-reads
 use Rattle.mend_out.proofs.end_line.Reads as end-line-reads
 use Rattle.mend_out.proofs.lay.Reads as lay-reads
 
--- src/lib.rt:166:22
 sub-lay : tie.Need-sub-lay
 sub-lay c = search needs
 
--- src/lib.rt:166:22
 part-lay-start : tie.Need-part-lay-start
 part-lay-start c = search needs
 
--- src/lib.rt:166:22
 part-lay-end : tie.Need-part-lay-end
 part-lay-end c = search needs
 
--- src/lib.rt:166:5
 lay-requires : tie.Need-lay-requires
 lay-requires c κs = search needs
 
--- src/lib.rt:168:28
 sub-end-line : tie.Need-sub-end-line
 sub-end-line c = search needs
 
--- src/lib.rt:168:9
 end-line-requires : tie.Need-end-line-requires
 end-line-requires c κs = search (needs, keep-laws)
 
--- src/lib.rt:168:9
 same-length : tie.Need-same-length
 same-length c = search needs
 
--- src/lib.rt:168:9
 same-length-2 : tie.Need-same-length-2
 same-length-2 c = search needs
 
--- src/lib.rt:168:9
 returns : tie.Need-returns
 returns c = search (needs, keep-laws)
 
--- src/lib.rt:170:20
 sub-laid : tie.Need-sub-laid
 sub-laid c = search needs
 
--- src/lib.rt:170:9
 laid-requires : tie.Need-laid-requires
 laid-requires c κs = search needs
 
--- src/lib.rt:171:5
 passed-requires : tie.Need-passed-requires
 passed-requires c κs = search (needs, keep-laws)
 
--- src/lib.rt:159:1
 same-length-3 : tie.Need-same-length-3
 same-length-3 c = search needs
 
--- src/lib.rt:159:1
 returns-2 : tie.Need-returns-2
 returns-2 c = search (needs, keep-laws)
 

@@ -14,39 +14,30 @@ Inv-loop room₀ at bytes k₀ room k = Laying room₀ at bytes room k
 abbrev μ-loop : tie.MeasureT-loop
 μ-loop room₀ at bytes k₀ room k = length bytes - k
 
--- src/lib.rt:104:5
 loop-holds : tie.Need-loop-holds Inv-loop μ-loop
 loop-holds c = search (needs, lay-laws)
 
--- src/lib.rt:105:26
 add-store-byte : tie.Need-add-store-byte Inv-loop μ-loop
 add-store-byte c = search (needs, lay-laws)
 
--- src/lib.rt:105:34
 shared-slice-read-store-byte : tie.Need-shared-slice-read-store-byte Inv-loop μ-loop
 shared-slice-read-store-byte c = search (needs, lay-laws)
 
--- src/lib.rt:105:9
 store-byte-requires : tie.Need-store-byte-requires Inv-loop μ-loop
 store-byte-requires c κs = search (needs, lay-laws)
 
--- src/lib.rt:106:9
 add-k : tie.Need-add-k Inv-loop μ-loop
 add-k c = search (needs, lay-laws)
 
--- src/lib.rt:104:5
 loop-less : tie.Need-loop-less Inv-loop μ-loop
 loop-less c = search (needs, lay-laws)
 
--- src/lib.rt:104:5
 loop-again : tie.Need-loop-again Inv-loop μ-loop
 loop-again c = search (needs, lay-laws)
 
--- src/lib.rt:99:1
 same-length : tie.Need-same-length Inv-loop μ-loop
 same-length c = search (needs, lay-laws)
 
--- src/lib.rt:99:1
 returns : tie.Need-returns Inv-loop μ-loop
 returns c = search (needs, lay-laws)
 

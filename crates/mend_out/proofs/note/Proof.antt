@@ -7,31 +7,24 @@ use Rattle.mend_out.proofs.note.Lts as lts
 use Rattle.mend_out.proofs.Mender.more.Reads as more-reads
 use Rattle.mend_out.proofs.store_number.Reads as store-number-reads
 
--- src/lib.rt:116:13
 mul-k : tie.Need-mul-k
 mul-k c = search needs
 
--- src/lib.rt:117:5
 store-number-requires : tie.Need-store-number-requires
 store-number-requires c κs = search needs
 
--- src/lib.rt:118:24
 add-store-number : tie.Need-add-store-number
 add-store-number c = search needs
 
--- src/lib.rt:118:5
 store-number-requires-2 : tie.Need-store-number-requires-2
 store-number-requires-2 c κs = search needs
 
--- src/lib.rt:119:5
 more-requires : tie.Need-more-requires
 more-requires c κs = search needs
 
--- src/lib.rt:111:1
 same-length : tie.Need-same-length
 same-length c = search needs
 
--- src/lib.rt:111:1
 returns : tie.Need-returns
 returns c = search (needs, out-laws)
 

@@ -8,27 +8,21 @@ use Rattle.mend_out.proofs.Mender.laid.Reads as laid-reads
 use Rattle.mend_out.proofs.note.Reads as note-reads
 use Rattle.mend_out.proofs.store_byte.Reads as store-byte-reads
 
--- src/lib.rt:140:5
 store-byte-requires : tie.Need-store-byte-requires
 store-byte-requires c κs = search needs
 
--- src/lib.rt:141:9
 note-requires : tie.Need-note-requires
 note-requires c κs = search needs
 
--- src/lib.rt:142:5
 laid-requires : tie.Need-laid-requires
 laid-requires c κs = search (needs, out-laws)
 
--- src/lib.rt:134:1
 same-length : tie.Need-same-length
 same-length c = search needs
 
--- src/lib.rt:134:1
 same-length-2 : tie.Need-same-length-2
 same-length-2 c = search needs
 
--- src/lib.rt:134:1
 returns : tie.Need-returns
 returns c = search (needs, out-laws)
 

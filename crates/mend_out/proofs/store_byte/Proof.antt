@@ -5,19 +5,15 @@ use Rattle.mend_out.proofs.store_byte.Tie as tie
 use Rattle.mend_out.proofs.store_byte.Reads as reads
 use Rattle.mend_out.proofs.store_byte.Lts as lts
 
--- src/lib.rt:85:9
 slice-write-room : tie.Need-slice-write-room
 slice-write-room c = search needs
 
--- src/lib.rt:81:1
 same-length : tie.Need-same-length
 same-length c = search needs
 
--- src/lib.rt:81:1
 returns : tie.Need-returns
 returns c = search needs
 
--- src/lib.rt:81:1
 returns-2 : tie.Need-returns-2
 returns-2 c = search (needs, stored-past)
 

@@ -7,27 +7,21 @@ use Rattle.reader_first_line.proofs.first_line.Lts as lts
 use Rattle.reader_first_line.proofs.line_from.Reads as line-from-reads
 use Rattle.reader_item.proofs.find_item.Reads as find-item-reads
 
--- src/lib.rt:32:11
 find-item-requires : tie.Need-find-item-requires
 find-item-requires c κs = search needs
 
--- src/lib.rt:33:23
 enum-known-from : tie.Need-enum-known-from
 enum-known-from c = search needs
 
--- src/lib.rt:33:37
 line-from-requires : tie.Need-line-from-requires
 line-from-requires c κs = search needs
 
--- src/lib.rt:34:26
 enum-known-no : tie.Need-enum-known-no
 enum-known-no c = search needs
 
--- src/lib.rt:29:1
 returns : tie.Need-returns
 returns c = search (needs, first-laws)
 
--- src/lib.rt:29:1
 returns-2 : tie.Need-returns-2
 returns-2 c = search (needs, first-laws)
 

@@ -5,19 +5,15 @@ use Rattle.reader_resume.proofs.dollars.Tie as tie
 use Rattle.reader_resume.proofs.dollars.Reads as reads
 use Rattle.reader_resume.proofs.dollars.Lts as lts
 
--- src/lib.rt:70:9
 returns : tie.Need-returns
 returns c = search (needs, mark-laws)
 
--- src/lib.rt:73:16
 add-result : tie.Need-add-result
 add-result c = search needs
 
--- src/lib.rt:73:9
 returns-2 : tie.Need-returns-2
 returns-2 c = search (needs, mark-laws)
 
--- src/lib.rt:66:1
 returns-3 : tie.Need-returns-3
 returns-3 c = search (needs, mark-laws)
 

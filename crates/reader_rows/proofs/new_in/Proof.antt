@@ -1,5 +1,5 @@
 -- `reader_rows::new_in` meets its contract.
-use Rattle.reader_rows.proofs.Asked.{asked-laws, low-row, high-row}
+use Rattle.reader_rows.proofs.Asked.{asked-laws, low-row}
 use borrow.Author.Needs.{needs}
 use Rattle.reader_rows.proofs.new_in.Statement.{statement}
 use Rattle.reader_rows.proofs.new_in.Tie as tie

@@ -7,47 +7,36 @@ use Rattle.stock_counts.proofs.note.Lts as lts
 use Rattle.stock_counts.proofs.wide.Reads as wide-reads
 use Rattle.store_lots.proofs.find_lot.Reads as find-lot-reads
 
--- src/lib.rt:32:9
 returns : tie.Need-returns
 returns c = search (needs, note-laws)
 
--- src/lib.rt:34:9
 find-lot-requires : tie.Need-find-lot-requires
 find-lot-requires c κs = search needs
 
--- src/lib.rt:36:9
 returns-2 : tie.Need-returns-2
 returns-2 c = search (needs, note-laws)
 
--- src/lib.rt:38:19
 wide-requires : tie.Need-wide-requires
 wide-requires c κs = search needs
 
--- src/lib.rt:38:19
 add-counts : tie.Need-add-counts
 add-counts c = search needs
 
--- src/lib.rt:38:5
 mul-counts : tie.Need-mul-counts
 mul-counts c = search needs
 
--- src/lib.rt:38:5
 element-write-counts : tie.Need-element-write-counts
 element-write-counts c = search needs
 
--- src/lib.rt:39:12
 add-counts-2 : tie.Need-add-counts-2
 add-counts-2 c = search needs
 
--- src/lib.rt:39:5
 mul-counts-2 : tie.Need-mul-counts-2
 mul-counts-2 c = search needs
 
--- src/lib.rt:39:5
 element-write-counts-2 : tie.Need-element-write-counts-2
 element-write-counts-2 c = search needs
 
--- src/lib.rt:21:1
 returns-3 : tie.Need-returns-3
 returns-3 c = search (needs, note-laws)
 

@@ -6,39 +6,30 @@ use Rattle.stock_join.proofs.fate_of.Reads as reads
 use Rattle.stock_join.proofs.fate_of.Lts as lts
 use Rattle.stock_join.proofs.place_in.Reads as place-in-reads
 
--- src/lib.rt:60:24
 enum-known-read : tie.Need-enum-known-read
 enum-known-read c = search needs
 
--- src/lib.rt:60:33
 place-in-requires : tie.Need-place-in-requires
 place-in-requires c κs = search needs
 
--- src/lib.rt:61:43
 enum-told : tie.Need-enum-told
 enum-told c = search needs
 
--- src/lib.rt:62:38
 enum-told-2 : tie.Need-enum-told-2
 enum-told-2 c = search needs
 
--- src/lib.rt:67:14
 enum-told-3 : tie.Need-enum-told-3
 enum-told-3 c = search needs
 
--- src/lib.rt:56:1
 returns : tie.Need-returns
 returns c = search (needs, fate-laws)
 
--- src/lib.rt:56:1
 returns-2 : tie.Need-returns-2
 returns-2 c = search (needs, fate-laws)
 
--- src/lib.rt:56:1
 returns-3 : tie.Need-returns-3
 returns-3 c = search (needs, fate-laws)
 
--- src/lib.rt:56:1
 returns-4 : tie.Need-returns-4
 returns-4 c = search (needs, fate-laws)
 

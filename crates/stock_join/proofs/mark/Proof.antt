@@ -6,63 +6,48 @@ use Rattle.stock_join.proofs.mark.Reads as reads
 use Rattle.stock_join.proofs.mark.Lts as lts
 use Rattle.stock_join.proofs.up.Reads as up-reads
 
--- src/lib.rt:76:17
 mul-count : tie.Need-mul-count
 mul-count c = search needs
 
--- src/lib.rt:76:17
 element-copy-out-count : tie.Need-element-copy-out-count
 element-copy-out-count c = search needs
 
--- src/lib.rt:78:15
 add-marks : tie.Need-add-marks
 add-marks c = search needs
 
--- src/lib.rt:78:9
 mul-marks : tie.Need-mul-marks
 mul-marks c = search needs
 
--- src/lib.rt:78:9
 element-write-marks : tie.Need-element-write-marks
 element-write-marks c = search needs
 
--- src/lib.rt:79:15
 add-marks-2 : tie.Need-add-marks-2
 add-marks-2 c = search needs
 
--- src/lib.rt:79:9
 mul-marks-2 : tie.Need-mul-marks-2
 mul-marks-2 c = search needs
 
--- src/lib.rt:79:9
 element-write-marks-2 : tie.Need-element-write-marks-2
 element-write-marks-2 c = search needs
 
--- src/lib.rt:80:9
 mul-marks-3 : tie.Need-mul-marks-3
 mul-marks-3 c = search needs
 
--- src/lib.rt:80:9
 element-write-marks-3 : tie.Need-element-write-marks-3
 element-write-marks-3 c = search needs
 
--- src/lib.rt:81:9
 returns : tie.Need-returns
 returns c = search (needs, mark-laws)
 
--- src/lib.rt:83:18
 up-requires : tie.Need-up-requires
 up-requires c κs = search needs
 
--- src/lib.rt:83:5
 mul-marks-4 : tie.Need-mul-marks-4
 mul-marks-4 c = search needs
 
--- src/lib.rt:83:5
 element-write-marks-4 : tie.Need-element-write-marks-4
 element-write-marks-4 c = search needs
 
--- src/lib.rt:72:1
 returns-2 : tie.Need-returns-2
 returns-2 c = search (needs, mark-laws)
 

@@ -6,19 +6,15 @@ use Rattle.stock_join.proofs.place_in.Reads as reads
 use Rattle.stock_join.proofs.place_in.Lts as lts
 use Rattle.store_lots.proofs.find_lot.Reads as find-lot-reads
 
--- src/lib.rt:46:9
 returns : tie.Need-returns
 returns c = search (needs, place-laws)
 
--- src/lib.rt:48:9
 find-lot-requires : tie.Need-find-lot-requires
 find-lot-requires c κs = search needs
 
--- src/lib.rt:50:9
 returns-2 : tie.Need-returns-2
 returns-2 c = search (needs, place-laws)
 
--- src/lib.rt:42:1
 returns-3 : tie.Need-returns-3
 returns-3 c = search (needs, place-laws)
 

@@ -5,11 +5,9 @@ use Rattle.stock_key.proofs.absent.Tie as tie
 use Rattle.stock_key.proofs.absent.Reads as reads
 use Rattle.stock_key.proofs.absent.Lts as lts
 
--- src/lib.rt:86:9
 returns : tie.Need-returns
 returns c = search (needs, absent-laws)
 
--- src/lib.rt:82:1
 returns-2 : tie.Need-returns-2
 returns-2 c = search (needs, absent-laws)
 

@@ -6,23 +6,18 @@ use Rattle.stock_key.proofs.byte_of.Reads as reads
 use Rattle.stock_key.proofs.byte_of.Lts as lts
 use Rattle.stock_key.proofs.wide.Reads as wide-reads
 
--- src/lib.rt:46:21
 shared-slice-read-wide : tie.Need-shared-slice-read-wide
 shared-slice-read-wide c = search needs
 
--- src/lib.rt:46:9
 wide-requires : tie.Need-wide-requires
 wide-requires c κs = search needs
 
--- src/lib.rt:46:9
 returns : tie.Need-returns
 returns c = search (needs, byte-laws)
 
--- src/lib.rt:48:5
 wide-requires-2 : tie.Need-wide-requires-2
 wide-requires-2 c κs = search needs
 
--- src/lib.rt:40:1
 returns-2 : tie.Need-returns-2
 returns-2 c = search (needs, byte-laws)
 

@@ -8,41 +8,32 @@ use Rattle.stock_key.proofs.lot_of.Reads as lot-of-reads
 use Rattle.stock_key.proofs.text_of.Reads as text-of-reads
 use Rattle.stock_key.proofs.word_of.Reads as word-of-reads
 
--- src/lib.rt:127:11
 text-of-requires : tie.Need-text-of-requires
 text-of-requires c κs = search needs
 
--- src/lib.rt:128:24
 enum-known-from : tie.Need-enum-known-from
 enum-known-from c = search needs
 
--- src/lib.rt:128:48
 word-of-requires : tie.Need-word-of-requires
 word-of-requires c κs =
     let st = c .before .before .before .before .before .before .before in
     good-inside (st .args .s .now) (st .args .supplier .now) 4 (st .args .pad) _ (search needs) _ _ (c .before .from .given .1)
 
--- src/lib.rt:128:38
 lot-of-requires : tie.Need-lot-of-requires
 lot-of-requires c κs = search needs
 
--- src/lib.rt:129:25
 enum-known-why : tie.Need-enum-known-why
 enum-known-why c = search needs
 
--- src/lib.rt:130:27
 enum-known-no : tie.Need-enum-known-no
 enum-known-no c = search needs
 
--- src/lib.rt:124:1
 returns : tie.Need-returns
 returns c = search (needs, key-laws)
 
--- src/lib.rt:124:1
 returns-2 : tie.Need-returns-2
 returns-2 c = search (needs, key-laws)
 
--- src/lib.rt:124:1
 returns-3 : tie.Need-returns-3
 returns-3 c = search (needs, key-laws)
 

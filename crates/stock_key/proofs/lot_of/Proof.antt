@@ -7,51 +7,41 @@ use Rattle.stock_key.proofs.lot_of.Lts as lts
 use Rattle.stock_key.proofs.text_of.Reads as text-of-reads
 use Rattle.stock_key.proofs.word_of.Reads as word-of-reads
 
--- src/lib.rt:110:11
 text-of-requires : tie.Need-text-of-requires
 text-of-requires c κs = search needs
 
--- src/lib.rt:111:24
 enum-known-from : tie.Need-enum-known-from
 enum-known-from c = search needs
 
--- src/lib.rt:114:24
 word-of-requires : tie.Need-word-of-requires
 word-of-requires c κs =
     let st = c .before .before .before .before .before .before in
     good-inside (st .args .s .now) (st .args .lot .now) 8 (st .args .pad) _ (search needs) _ _ (c .before .from .given .1)
 
--- src/lib.rt:115:36
 add-word-of : tie.Need-add-word-of
 add-word-of c =
     let st = c .before .before .before .before .before .before .before in
     let h = good-inside (st .args .s .now) (st .args .lot .now) 8 (st .args .pad) _ (search needs) _ _ (c .before .before .from .given .1) in
     search (needs, h)
 
--- src/lib.rt:115:25
 word-of-requires-2 : tie.Need-word-of-requires-2
 word-of-requires-2 c κs =
     let st = c .before .before .before .before .before .before .before in
     let h = good-behind (st .args .s .now) (st .args .lot .now) 8 (st .args .pad) _ (search needs) _ _ (c .before .before .from .given .1) in
     h
 
--- src/lib.rt:118:25
 enum-known-why : tie.Need-enum-known-why
 enum-known-why c = search needs
 
--- src/lib.rt:119:27
 enum-known-no : tie.Need-enum-known-no
 enum-known-no c = search needs
 
--- src/lib.rt:107:1
 returns : tie.Need-returns
 returns c = search (needs, lot-laws)
 
--- src/lib.rt:107:1
 returns-2 : tie.Need-returns-2
 returns-2 c = search (needs, lot-laws)
 
--- src/lib.rt:107:1
 returns-3 : tie.Need-returns-3
 returns-3 c = search (needs, lot-laws)
 

@@ -5,31 +5,24 @@ use Rattle.stock_key.proofs.text_in.Tie as tie
 use Rattle.stock_key.proofs.text_in.Reads as reads
 use Rattle.stock_key.proofs.text_in.Lts as lts
 
--- src/lib.rt:67:16
 sub-if1 : tie.Need-sub-if1
 sub-if1 c = search needs
 
--- src/lib.rt:68:9
 returns : tie.Need-returns
 returns c = search (needs, text-laws)
 
--- src/lib.rt:73:9
 returns-2 : tie.Need-returns-2
 returns-2 c = search (needs, text-laws)
 
--- src/lib.rt:75:10
 sub-if3 : tie.Need-sub-if3
 sub-if3 c = search needs
 
--- src/lib.rt:75:8
 shared-slice-read-if3 : tie.Need-shared-slice-read-if3
 shared-slice-read-if3 c = search needs
 
--- src/lib.rt:76:9
 returns-3 : tie.Need-returns-3
 returns-3 c = search (needs, text-laws)
 
--- src/lib.rt:63:1
 returns-4 : tie.Need-returns-4
 returns-4 c = search (needs, text-laws)
 

@@ -8,41 +8,32 @@ use Rattle.reader_first_line.proofs.first_line.Reads as first-line-reads
 use Rattle.stock_key.proofs.absent.Reads as absent-reads
 use Rattle.stock_key.proofs.text_in.Reads as text-in-reads
 
--- src/lib.rt:97:11
 first-line-requires : tie.Need-first-line-requires
 first-line-requires c κs = search needs
 
--- src/lib.rt:98:27
 enum-known-from : tie.Need-enum-known-from
 enum-known-from c = search needs
 
--- src/lib.rt:98:41
 text-in-requires : tie.Need-text-in-requires
 text-in-requires c κs =
     let st = c .before .before .before .before .before .before in
     line-inside {s = st .args .s .now} {name = st .args .name .now} (search needs) _ _ (c .before .from .given .1)
 
--- src/lib.rt:100:18
 enum-told : tie.Need-enum-told
 enum-told c = search needs
 
--- src/lib.rt:102:30
 enum-known-no : tie.Need-enum-known-no
 enum-known-no c = search needs
 
--- src/lib.rt:102:52
 absent-requires : tie.Need-absent-requires
 absent-requires c κs = search needs
 
--- src/lib.rt:94:1
 returns : tie.Need-returns
 returns c = search (needs, first-laws)
 
--- src/lib.rt:94:1
 returns-2 : tie.Need-returns-2
 returns-2 c = search (needs, first-laws)
 
--- src/lib.rt:94:1
 returns-3 : tie.Need-returns-3
 returns-3 c = search (needs, first-laws)
 

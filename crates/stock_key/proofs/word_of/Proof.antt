@@ -6,59 +6,45 @@ use Rattle.stock_key.proofs.word_of.Reads as reads
 use Rattle.stock_key.proofs.word_of.Lts as lts
 use Rattle.stock_key.proofs.byte_of.Reads as byte-of-reads
 
--- src/lib.rt:56:5
 byte-of-requires : tie.Need-byte-of-requires
 byte-of-requires c κs = search needs
 
--- src/lib.rt:58:27
 add-byte-of : tie.Need-add-byte-of
 add-byte-of c = search needs
 
--- src/lib.rt:58:16
 byte-of-requires-2 : tie.Need-byte-of-requires-2
 byte-of-requires-2 c κs = search needs
 
--- src/lib.rt:59:37
 add-byte-of-2 : tie.Need-add-byte-of-2
 add-byte-of-2 c = search needs
 
--- src/lib.rt:59:26
 byte-of-requires-3 : tie.Need-byte-of-requires-3
 byte-of-requires-3 c κs = search needs
 
--- src/lib.rt:59:73
 add-byte-of-3 : tie.Need-add-byte-of-3
 add-byte-of-3 c = search needs
 
--- src/lib.rt:59:62
 byte-of-requires-4 : tie.Need-byte-of-requires-4
 byte-of-requires-4 c κs = search needs
 
--- src/lib.rt:59:56
 mul-result : tie.Need-mul-result
 mul-result c = search needs
 
--- src/lib.rt:59:26
 add-result : tie.Need-add-result
 add-result c = search needs
 
--- src/lib.rt:59:19
 mul-result-2 : tie.Need-mul-result-2
 mul-result-2 c = search needs
 
--- src/lib.rt:58:16
 add-result-2 : tie.Need-add-result-2
 add-result-2 c = search needs
 
--- src/lib.rt:57:11
 mul-result-3 : tie.Need-mul-result-3
 mul-result-3 c = search needs
 
--- src/lib.rt:56:5
 add-result-3 : tie.Need-add-result-3
 add-result-3 c = search needs
 
--- src/lib.rt:52:1
 returns : tie.Need-returns
 returns c = search (needs, byte-laws)
 

@@ -7,35 +7,27 @@ use Rattle.tally_file.proofs.after_record.Lts as lts
 use Rattle.reader_cursor.proofs.Cursor.past.Reads as past-reads
 use Rattle.reader_walk.proofs.walk_record.Reads as walk-record-reads
 
--- src/lib.rt:115:45
 slice-aggregate-walk-record : tie.Need-slice-aggregate-walk-record
 slice-aggregate-walk-record c = search needs
 
--- src/lib.rt:115:57
 slice-aggregate-walk-record-2 : tie.Need-slice-aggregate-walk-record-2
 slice-aggregate-walk-record-2 c = search needs
 
--- src/lib.rt:115:11
 walk-record-requires : tie.Need-walk-record-requires
 walk-record-requires c κs = search needs
 
--- src/lib.rt:118:13
 enum-known-length : tie.Need-enum-known-length
 enum-known-length c = search needs
 
--- src/lib.rt:123:14
 past-requires : tie.Need-past-requires
 past-requires c κs = search (needs, past-laws)
 
--- src/lib.rt:128:14
 enum-told : tie.Need-enum-told
 enum-told c = search needs
 
--- src/lib.rt:108:1
 returns : tie.Need-returns
 returns c = search (needs, past-laws)
 
--- src/lib.rt:108:1
 returns-2 : tie.Need-returns-2
 returns-2 c = search (needs, past-laws)
 

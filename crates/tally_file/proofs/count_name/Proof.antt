@@ -11,18 +11,15 @@ use Rattle.tally_file.proofs.count_name.Reads as reads
 use Rattle.tally_file.proofs.count_name.Lts as lts
 use Rattle.tally_flat.proofs.add_in.Reads as add-in-reads
 
--- src/lib.rt:69:9
 returns : tie.Need-returns
 returns c =
     let st = c .before .before in
     let m = memory (st .args .names .now) (st .args .lengths .now) (st .args .counts .now) in
     name-long m (st .args .totals) (st .args .name .now) (st .pre) (search needs)
 
--- src/lib.rt:71:54
 cast-add-in : tie.Need-cast-add-in
 cast-add-in c = search needs
 
--- src/lib.rt:71:11
 add-in-requires : tie.Need-add-in-requires
 add-in-requires c κs =
     let st = c .before .before .before .before .before .before in
@@ -30,11 +27,9 @@ add-in-requires c κs =
     let h : length (st .args .name .now) ≤ longest = omega arith in
     name-ready m (st .args .totals) (st .args .name .now) (st .pre) h
 
--- src/lib.rt:72:20
 enum-known-used : tie.Need-enum-known-used
 enum-known-used c = search needs
 
--- src/lib.rt:73:22
 cast-t14 : tie.Need-cast-t14
 cast-t14 c =
     let st = c .before .before .before .before .before .before .before .before .before .before in
@@ -43,15 +38,12 @@ cast-t14 c =
     let k = name-small m (st .args .totals) (st .args .name .now) (st .pre) h _ (c .before .before .before .add-in .ensures .0) _ (c .before .before .before .add-in .ensures .1) _ (c .before .used .given .1) in
     record { fits = omega (arith, k) }
 
--- src/lib.rt:75:20
 add-t15 : tie.Need-add-t15
 add-t15 c = search needs
 
--- src/lib.rt:77:24
 enum-told : tie.Need-enum-told
 enum-told c = search needs
 
--- src/lib.rt:57:1
 returns-2 : tie.Need-returns-2
 returns-2 c =
     let st = c .before .before .before .before .before .before .before .before .before .before .before in
@@ -59,7 +51,6 @@ returns-2 c =
     let h : length (st .args .name .now) ≤ longest = omega arith in
     name-now m (st .args .totals) (st .args .name .now) (st .pre) h _ (c .before .before .before .before .add-in .ensures .0) _ (c .before .before .before .before .add-in .ensures .1) _ (c .before .before .used .given .1)
 
--- src/lib.rt:57:1
 returns-3 : tie.Need-returns-3
 returns-3 c =
     let st = c .before .before .before .before .before .before .before .before .before in

@@ -13,37 +13,30 @@ use Rattle.reader_first_line.proofs.first_line.Reads as first-line-reads
 use Rattle.tally_file.proofs.count_name.Reads as count-name-reads
 use Rattle.tally_file.proofs.missed.Reads as missed-reads
 
--- src/lib.rt:94:9
 returns : tie.Need-returns
 returns c =
     let st = c .before .before .before in
     let m = memory (st .args .names .now) (st .args .lengths .now) (st .args .counts .now) in
     record-top (st .args .s .now) m (st .args .totals) (st .pre) (search needs)
 
--- src/lib.rt:96:44
 slice-aggregate-first-line : tie.Need-slice-aggregate-first-line
 slice-aggregate-first-line c = search needs
 
--- src/lib.rt:96:11
 first-line-requires : tie.Need-first-line-requires
 first-line-requires c κs = search needs
 
--- src/lib.rt:97:27
 enum-known-from : tie.Need-enum-known-from
 enum-known-from c = search needs
 
--- src/lib.rt:97:52
 sub-count-name : tie.Need-sub-count-name
 sub-count-name c = let st = c .before .before .before .before .before .before .before .before in line-here (st .args .s .now) _ (c .before .before .before .first-line .ensures) _ _ (c .before .from .given .1) .order
 
--- src/lib.rt:97:52
 part-count-name-start : tie.Need-part-count-name-start
 part-count-name-start c =
     let st = c .before .before .before .before .before .before .before .before in
     let h = line-here (st .args .s .now) _ (c .before .before .before .first-line .ensures) _ _ (c .before .from .given .1) .order in
     search (needs, h)
 
--- src/lib.rt:97:52
 part-count-name-end : tie.Need-part-count-name-end
 part-count-name-end c =
     let st = c .before .before .before .before .before .before .before .before in
@@ -51,27 +44,21 @@ part-count-name-end c =
     let i = line-here (st .args .s .now) _ (c .before .before .before .first-line .ensures) _ _ (c .before .from .given .1) .inside in
     search (needs, h, i)
 
--- src/lib.rt:97:41
 count-name-requires : tie.Need-count-name-requires
 count-name-requires c κs = search needs
 
--- src/lib.rt:98:43
 enum-told : tie.Need-enum-told
 enum-told c = search needs
 
--- src/lib.rt:98:43
 missed-requires : tie.Need-missed-requires
 missed-requires c κs = search needs
 
--- src/lib.rt:103:28
 enum-told-2 : tie.Need-enum-told-2
 enum-told-2 c = search needs
 
--- src/lib.rt:103:28
 missed-requires-2 : tie.Need-missed-requires-2
 missed-requires-2 c κs = search needs
 
--- src/lib.rt:82:1
 returns-2 : tie.Need-returns-2
 returns-2 c =
     let st = c .before .before .before .before .before .before .before .before .before .before .before .before .before in
@@ -79,7 +66,6 @@ returns-2 c =
     let h : st .args .totals .total < mostRecords = omega arith in
     record-named (st .args .s .now) m (st .args .totals) (st .pre) h _ (line-here (st .args .s .now) _ (c .before .before .before .before .before .before .before .before .first-line .ensures) _ _ (c .before .before .before .before .before .before .from .given .1) .is) _ _ (c .count-name .ensures .0) (c .count-name .ensures .1)
 
--- src/lib.rt:82:1
 returns-3 : tie.Need-returns-3
 returns-3 c =
     let st = c .before .before .before .before .before .before .before .before in
@@ -87,7 +73,6 @@ returns-3 c =
     let h : st .args .totals .total < mostRecords = omega arith in
     record-missing (st .args .s .now) m (st .args .totals) (st .pre) h (line-empty (st .args .s .now) _ (c .before .before .before .first-line .ensures) (c .before .enum-told .given .1)) _ (c .missed .ensures)
 
--- src/lib.rt:82:1
 returns-4 : tie.Need-returns-4
 returns-4 c =
     let st = c .before .before .before .before .before .before .before .before in

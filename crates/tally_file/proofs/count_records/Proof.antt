@@ -17,73 +17,56 @@ Inv-loop s names₀ lengths₀ counts₀ sums₀ cursor₀ names lengths counts 
 abbrev μ-loop : tie.MeasureT-loop
 μ-loop s names₀ lengths₀ counts₀ sums₀ cursor₀ names lengths counts sums cursor = length s - cursor .at
 
--- src/lib.rt:145:9
 new-requires : tie.Need-new-requires Inv-loop μ-loop
 new-requires c κs = search needs
 
--- src/lib.rt:146:5
 loop-holds : tie.Need-loop-holds Inv-loop μ-loop
 loop-holds c =
     let st = c .before .before in
     counting-start (st .args .s .now) (memory (st .args .names .now) (st .args .lengths .now) (st .args .counts .now)) (st .args .totals) _ (st .pre) (search needs) (c .new .ensures)
 
--- src/lib.rt:148:28
 sub-count-record : tie.Need-sub-count-record Inv-loop μ-loop
 sub-count-record c = search needs
 
--- src/lib.rt:148:28
 part-count-record-start : tie.Need-part-count-record-start Inv-loop μ-loop
 part-count-record-start c = search needs
 
--- src/lib.rt:148:28
 part-count-record-end : tie.Need-part-count-record-end Inv-loop μ-loop
 part-count-record-end c = search needs
 
--- src/lib.rt:148:15
 count-record-requires : tie.Need-count-record-requires Inv-loop μ-loop
 count-record-requires c κs = counting-ready _ _ _ _ _ _ (c .before .before .before .before .before .before .loop .inv)
 
--- src/lib.rt:149:27
 enum-known-t : tie.Need-enum-known-t Inv-loop μ-loop
 enum-known-t c = search needs
 
--- src/lib.rt:151:39
 sub-after-record : tie.Need-sub-after-record Inv-loop μ-loop
 sub-after-record c = search needs
 
--- src/lib.rt:151:39
 part-after-record-start : tie.Need-part-after-record-start Inv-loop μ-loop
 part-after-record-start c = search needs
 
--- src/lib.rt:151:39
 part-after-record-end : tie.Need-part-after-record-end Inv-loop μ-loop
 part-after-record-end c = search needs
 
--- src/lib.rt:151:17
 after-record-requires : tie.Need-after-record-requires Inv-loop μ-loop
 after-record-requires c κs = counting-past _ _ _ _ _ _ (c .before .before .before .before .before .before .before .before .before .before .before .loop .inv) (c .before .before .before .before .before .before .before .before .before .if1 .taken)
 
--- src/lib.rt:146:5
 loop-less : tie.Need-loop-less Inv-loop μ-loop
 loop-less c = counting-less _ _ _ _ _ _ (c .before .before .before .before .before .before .before .before .before .before .before .before .loop .inv) (c .before .before .before .before .before .before .before .before .before .before .if1 .taken) _ (c .before .before .before .before .before .count-record .ensures .0) _ (c .before .before .before .before .before .count-record .ensures .1) _ (c .before .before .before .t .given .1) _ (c .after-record .ensures)
 
--- src/lib.rt:146:5
 loop-again : tie.Need-loop-again Inv-loop μ-loop
 loop-again c = counting-next _ _ _ _ _ _ (c .before .before .before .before .before .before .before .before .before .before .before .before .loop .inv) (c .before .before .before .before .before .before .before .before .before .before .if1 .taken) _ (c .before .before .before .before .before .count-record .ensures .0) _ (c .before .before .before .before .before .count-record .ensures .1) _ (c .before .before .before .t .given .1) _ (c .after-record .ensures)
 
--- src/lib.rt:153:27
 enum-known-no : tie.Need-enum-known-no Inv-loop μ-loop
 enum-known-no c = search needs
 
--- src/lib.rt:158:29
 add-t24 : tie.Need-add-t24 Inv-loop μ-loop
 add-t24 c = counting-fits _ _ _ _ _ _ (c .before .before .before .before .before .before .before .before .before .before .before .loop .inv)
 
--- src/lib.rt:154:17
 returns : tie.Need-returns Inv-loop μ-loop
 returns c = counting-stop _ _ _ _ _ _ (c .before .before .before .before .before .before .before .before .before .before .before .loop .inv) (c .before .before .before .before .before .before .before .before .before .if1 .taken) _ (c .before .before .before .before .count-record .ensures .0) _ (c .before .before .before .before .count-record .ensures .1) _ (c .before .before .no .given .1)
 
--- src/lib.rt:133:1
 returns-2 : tie.Need-returns-2 Inv-loop μ-loop
 returns-2 c = counting-over _ _ _ _ _ _ (c .before .before .loop .inv) (c .if1 .left)
 

@@ -9,29 +9,24 @@ use Rattle.tally_file.proofs.no_list.Reads as no-list-reads
 use Rattle.tally_file.proofs.tally_listed.Reads as tally-listed-reads
 use Rattle.tally_good.proofs.good_list.Reads as good-list-reads
 
--- src/lib.rt:216:8
 good-list-requires : tie.Need-good-list-requires
 good-list-requires c κs = search needs
 
--- src/lib.rt:217:9
 tally-listed-requires : tie.Need-tally-listed-requires
 tally-listed-requires c κs =
     let st = c .before .before .before .before .before .before .before .before .before .before .before .before in
     let m = memory (st .args .names .now) (st .args .lengths .now) (st .args .counts .now) in
     list-ready (st .args .s .now) m (st .args .totals) (c .before .before .before .before .good-list .ensures) (st .pre) (c .before .before .before .if1 .taken)
 
--- src/lib.rt:217:9
 returns : tie.Need-returns
 returns c =
     let st = c .before .before .before .before .before .before .before .before .before .before .before .before .before in
     let m = memory (st .args .names .now) (st .args .lengths .now) (st .args .counts .now) in
     (list-told (st .args .s .now) m (st .args .totals) (c .before .before .before .before .before .good-list .ensures) (c .before .before .before .before .if1 .taken) _ (c .tally-listed .ensures .0), list-left (st .args .s .now) m (st .args .totals) (c .before .before .before .before .before .good-list .ensures) (c .before .before .before .before .if1 .taken) _ (c .tally-listed .ensures .1))
 
--- src/lib.rt:219:5
 no-list-requires : tie.Need-no-list-requires
 no-list-requires c κs = search needs
 
--- src/lib.rt:205:1
 returns-2 : tie.Need-returns-2
 returns-2 c =
     let st = c .before .before .before .before .before .before .before .before .before .before in

@@ -12,77 +12,59 @@ use Rattle.tally_file.proofs.copy_numbers.Reads as copy-numbers-reads
 use Rattle.tally_file.proofs.is_done.Reads as is-done-reads
 use Rattle.tally_file.proofs.tally_arrays.Reads as tally-arrays-reads
 
--- src/lib.rt:277:16
 slice-aggregate-copy-bytes : tie.Need-slice-aggregate-copy-bytes
 slice-aggregate-copy-bytes c = search needs
 
--- src/lib.rt:277:5
 copy-bytes-requires : tie.Need-copy-bytes-requires
 copy-bytes-requires c κs = search needs
 
--- src/lib.rt:278:18
 slice-aggregate-copy-numbers : tie.Need-slice-aggregate-copy-numbers
 slice-aggregate-copy-numbers c = search needs
 
--- src/lib.rt:278:5
 copy-numbers-requires : tie.Need-copy-numbers-requires
 copy-numbers-requires c κs = search needs
 
--- src/lib.rt:279:18
 slice-aggregate-copy-numbers-2 : tie.Need-slice-aggregate-copy-numbers-2
 slice-aggregate-copy-numbers-2 c = search needs
 
--- src/lib.rt:279:5
 copy-numbers-requires-2 : tie.Need-copy-numbers-requires-2
 copy-numbers-requires-2 c κs = search needs
 
--- src/lib.rt:280:9
 tally-arrays-requires : tie.Need-tally-arrays-requires
 tally-arrays-requires c κs = search needs
 
--- src/lib.rt:281:8
 is-done-requires : tie.Need-is-done-requires
 is-done-requires c κs = search needs
 
--- src/lib.rt:282:27
 slice-aggregate-copy-bytes-2 : tie.Need-slice-aggregate-copy-bytes-2
 slice-aggregate-copy-bytes-2 c = search needs
 
--- src/lib.rt:282:9
 copy-bytes-requires-2 : tie.Need-copy-bytes-requires-2
 copy-bytes-requires-2 c κs = search needs
 
--- src/lib.rt:283:31
 slice-aggregate-copy-numbers-3 : tie.Need-slice-aggregate-copy-numbers-3
 slice-aggregate-copy-numbers-3 c = search needs
 
--- src/lib.rt:283:9
 copy-numbers-requires-3 : tie.Need-copy-numbers-requires-3
 copy-numbers-requires-3 c κs = search needs
 
--- src/lib.rt:284:30
 slice-aggregate-copy-numbers-4 : tie.Need-slice-aggregate-copy-numbers-4
 slice-aggregate-copy-numbers-4 c = search needs
 
--- src/lib.rt:284:9
 copy-numbers-requires-4 : tie.Need-copy-numbers-requires-4
 copy-numbers-requires-4 c κs =
     let st = c .before .before .before .before .before .before .before .before .before .before .before .before .before .before .before .before .before .before .before .before .before .before .before .before .before .before .before .before .before .before .before .before .before .before in
     (st .pre .counts, omega (arith, c .before .before .before .before .before .before .before .before .before .before .before .before .before .before .tally-arrays .ensures .1 .sized .counts))
 
--- src/lib.rt:285:9
 same-length : tie.Need-same-length
 same-length c = search needs
 
--- src/lib.rt:285:9
 same-length-2 : tie.Need-same-length-2
 same-length-2 c = search needs
 
--- src/lib.rt:285:9
 same-length-3 : tie.Need-same-length-3
 same-length-3 c = search needs
 
--- src/lib.rt:285:9
 returns : tie.Need-returns
 returns c =
     let st = c .before .before .before .before .before .before .before .before .before .before .before .before .before .before .before .before .before .before .before .before .before .before .before .before .before .before .before .before .before .before .before .before .before .before .before .before .before in
@@ -92,19 +74,15 @@ returns c =
     copy-done (st .args .s .now) m (st .args .totals) (st .pre) _ e _ (c .before .before .before .before .before .before .before .before .before .before .before .before .before .before .before .before .before .tally-arrays .ensures .0) _ (c .before .before .before .before .before .before .before .before .before .before .before .before .before .before .before .before .before .tally-arrays .ensures .1) h _ _ _
     (c .before .before .before .before .before .before .before .before .before .before .before .before .copy-bytes2 .ensures) (c .before .before .before .before .before .before .before .copy-numbers3 .ensures) (c .before .before .copy-numbers4 .ensures)
 
--- src/lib.rt:264:1
 same-length-4 : tie.Need-same-length-4
 same-length-4 c = search needs
 
--- src/lib.rt:264:1
 same-length-5 : tie.Need-same-length-5
 same-length-5 c = search needs
 
--- src/lib.rt:264:1
 same-length-6 : tie.Need-same-length-6
 same-length-6 c = search needs
 
--- src/lib.rt:264:1
 returns-2 : tie.Need-returns-2
 returns-2 c =
     let st = c .before .before .before .before .before .before .before .before .before .before .before .before .before .before .before .before .before .before .before .before .before .before in

@@ -8,30 +8,24 @@ use Rattle.tally_file.proofs.tally_listed.Lts as lts
 use Rattle.reader_check.proofs.check.Reads as check-reads
 use Rattle.tally_file.proofs.count_records.Reads as count-records-reads
 
--- src/lib.rt:181:11
 check-requires : tie.Need-check-requires
 check-requires c κs = search needs
 
--- src/lib.rt:182:61
 enum-told : tie.Need-enum-told
 enum-told c = search needs
 
--- src/lib.rt:182:44
 count-records-requires : tie.Need-count-records-requires
 count-records-requires c κs =
     let st = c .before .before .before .before .before .before .before in
     let m = memory (st .args .names .now) (st .args .lengths .now) (st .args .counts .now) in
     file-good (st .args .s .now) m (st .args .totals) _ (c .before .before .before .before .before .check .ensures) (st .pre) _ (c .before .before .before .enum-told .given .1)
 
--- src/lib.rt:183:27
 enum-known-no : tie.Need-enum-known-no
 enum-known-no c = search needs
 
--- src/lib.rt:170:1
 returns : tie.Need-returns
 returns c = search needs
 
--- src/lib.rt:170:1
 returns-2 : tie.Need-returns-2
 returns-2 c =
     let st = c .before .before .before .before .before in

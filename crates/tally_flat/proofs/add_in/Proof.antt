@@ -10,15 +10,12 @@ use Rattle.tally_flat.proofs.add_here.Reads as add-here-reads
 use Rattle.tally_flat.proofs.add_new.Reads as add-new-reads
 use Rattle.tally_flat.proofs.find_in.Reads as find-in-reads
 
--- src/lib.rt:179:11
 find-in-requires : tie.Need-find-in-requires
 find-in-requires c κs = search needs
 
--- src/lib.rt:180:20
 enum-known-i : tie.Need-enum-known-i
 enum-known-i c = search needs
 
--- src/lib.rt:181:13
 add-here-requires : tie.Need-add-here-requires
 add-here-requires c κs =
     let st = c .before .before .before .before .before .before .before .before .before .before in
@@ -27,25 +24,21 @@ add-here-requires c κs =
     let g = st .pre in
     (omega (arith, h, g .few, g .sized .counts), g .sized .counts, g .small _ h)
 
--- src/lib.rt:184:19
 enum-known-i-2 : tie.Need-enum-known-i-2
 enum-known-i-2 c = search needs
 
--- src/lib.rt:184:25
 add-new-requires : tie.Need-add-new-requires
 add-new-requires c κs =
     let st = c .before .before .before .before .before .before .before .before .before .before .before .before in
     let m = memory (st .args .names .now) (st .args .lengths .now) (st .args .counts .now) in
     new-near m (st .args .used) (st .args .name .now) (st .pre) _ (c .before .before .before .before .before .before .find-in .ensures) _ (c .before .before .before .before .i2 .given .1)
 
--- src/lib.rt:168:1
 returns : tie.Need-returns
 returns c =
     let st = c .before .before .before .before .before .before .before .before .before .before .before in
     let m = memory (st .args .names .now) (st .args .lengths .now) (st .args .counts .now) in
     (here-now m (st .args .used) (st .args .name .now) (st .pre) _ (c .before .before .before .before .before .find-in .ensures) _ (c .before .before .before .i .given .1), here-told m (st .args .used) (st .args .name .now) (st .pre) _ (c .before .before .before .before .before .find-in .ensures) _ (c .before .before .before .i .given .1) _ (c .add-here .ensures))
 
--- src/lib.rt:168:1
 returns-2 : tie.Need-returns-2
 returns-2 c =
     let st = c .before .before .before .before .before .before .before .before .before .before .before .before .before in

@@ -7,21 +7,17 @@ use Rattle.tally_flat.proofs.add_new.Reads as reads
 use Rattle.tally_flat.proofs.add_new.Lts as lts
 use Rattle.tally_flat.proofs.insert.Reads as insert-reads
 
--- src/lib.rt:161:9
 returns : tie.Need-returns
 returns c =
     let st = c .before .before in
     new-full (st .args .place) (st .args .used) (st .args .name .now) (memory (st .args .names .now) (st .args .lengths .now) (st .args .counts .now)) (search needs)
 
--- src/lib.rt:163:5
 insert-requires : tie.Need-insert-requires
 insert-requires c κs = search needs
 
--- src/lib.rt:164:16
 add-t12 : tie.Need-add-t12
 add-t12 c = search needs
 
--- src/lib.rt:149:1
 returns-2 : tie.Need-returns-2
 returns-2 c =
     let st = c .before .before .before .before .before .before in

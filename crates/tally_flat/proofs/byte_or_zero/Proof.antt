@@ -5,15 +5,12 @@ use Rattle.tally_flat.proofs.byte_or_zero.Tie as tie
 use Rattle.tally_flat.proofs.byte_or_zero.Reads as reads
 use Rattle.tally_flat.proofs.byte_or_zero.Lts as lts
 
--- src/lib.rt:102:16
 shared-slice-read-result : tie.Need-shared-slice-read-result
 shared-slice-read-result c = search needs
 
--- src/lib.rt:102:9
 returns : tie.Need-returns
 returns c = search needs
 
--- src/lib.rt:98:1
 returns-2 : tie.Need-returns-2
 returns-2 c = search (needs, byte-past)
 

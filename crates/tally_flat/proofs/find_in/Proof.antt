@@ -13,79 +13,60 @@ Inv-loop names lengths used name i₀ i = Looking names lengths used name i
 abbrev μ-loop : tie.MeasureT-loop
 μ-loop names lengths used name i₀ i = used - i
 
--- src/lib.rt:55:5
 loop-holds : tie.Need-loop-holds Inv-loop μ-loop
 loop-holds c = search (needs, looking-start, looking-end, looking-lengths, looking-short, looking-bytes, looking-cast, looking-sum, looking-before, looking-here, looking-new)
 
--- src/lib.rt:56:20
 mul-from : tie.Need-mul-from Inv-loop μ-loop
 mul-from c = search (needs, looking-start, looking-end, looking-lengths, looking-short, looking-bytes, looking-cast, looking-sum, looking-before, looking-here, looking-new)
 
--- src/lib.rt:57:25
 mul-to : tie.Need-mul-to Inv-loop μ-loop
 mul-to c = search (needs, looking-start, looking-end, looking-lengths, looking-short, looking-bytes, looking-cast, looking-sum, looking-before, looking-here, looking-new)
 
--- src/lib.rt:57:25
 shared-slice-read-to : tie.Need-shared-slice-read-to Inv-loop μ-loop
 shared-slice-read-to c = search (needs, looking-start, looking-end, looking-lengths, looking-short, looking-bytes, looking-cast, looking-sum, looking-before, looking-here, looking-new)
 
--- src/lib.rt:57:25
 cast-to : tie.Need-cast-to Inv-loop μ-loop
 cast-to c = search (needs, looking-start, looking-end, looking-lengths, looking-short, looking-bytes, looking-cast, looking-sum, looking-before, looking-here, looking-new)
 
--- src/lib.rt:57:18
 add-to : tie.Need-add-to Inv-loop μ-loop
 add-to c = search (needs, looking-start, looking-end, looking-lengths, looking-short, looking-bytes, looking-cast, looking-sum, looking-before, looking-here, looking-new)
 
--- src/lib.rt:58:24
 sub-order-of : tie.Need-sub-order-of Inv-loop μ-loop
 sub-order-of c = search (needs, looking-start, looking-end, looking-lengths, looking-short, looking-bytes, looking-cast, looking-sum, looking-before, looking-here, looking-new)
 
--- src/lib.rt:58:24
 part-order-of-start : tie.Need-part-order-of-start Inv-loop μ-loop
 part-order-of-start c = search (needs, looking-start, looking-end, looking-lengths, looking-short, looking-bytes, looking-cast, looking-sum, looking-before, looking-here, looking-new)
 
--- src/lib.rt:58:24
 part-order-of-end : tie.Need-part-order-of-end Inv-loop μ-loop
 part-order-of-end c = search (needs, looking-start, looking-end, looking-lengths, looking-short, looking-bytes, looking-cast, looking-sum, looking-before, looking-here, looking-new)
 
--- src/lib.rt:58:15
 order-of-requires : tie.Need-order-of-requires Inv-loop μ-loop
 order-of-requires c κs = search (needs, looking-start, looking-end, looking-lengths, looking-short, looking-bytes, looking-cast, looking-sum, looking-before, looking-here, looking-new)
 
--- src/lib.rt:60:17
 enum-told : tie.Need-enum-told Inv-loop μ-loop
 enum-told c = search (needs, looking-start, looking-end, looking-lengths, looking-short, looking-bytes, looking-cast, looking-sum, looking-before, looking-here, looking-new)
 
--- src/lib.rt:60:17
 add-i : tie.Need-add-i Inv-loop μ-loop
 add-i c = search (needs, looking-start, looking-end, looking-lengths, looking-short, looking-bytes, looking-cast, looking-sum, looking-before, looking-here, looking-new)
 
--- src/lib.rt:55:5
 loop-less : tie.Need-loop-less Inv-loop μ-loop
 loop-less c = search (needs, looking-start, looking-end, looking-lengths, looking-short, looking-bytes, looking-cast, looking-sum, looking-before, looking-here, looking-new)
 
--- src/lib.rt:55:5
 loop-again : tie.Need-loop-again Inv-loop μ-loop
 loop-again c = search (needs, looking-start, looking-end, looking-lengths, looking-short, looking-bytes, looking-cast, looking-sum, looking-before, looking-here, looking-new)
 
--- src/lib.rt:63:17
 enum-told-2 : tie.Need-enum-told-2 Inv-loop μ-loop
 enum-told-2 c = search (needs, looking-start, looking-end, looking-lengths, looking-short, looking-bytes, looking-cast, looking-sum, looking-before, looking-here, looking-new)
 
--- src/lib.rt:63:17
 returns : tie.Need-returns Inv-loop μ-loop
 returns c = search (needs, looking-start, looking-end, looking-lengths, looking-short, looking-bytes, looking-cast, looking-sum, looking-before, looking-here, looking-new)
 
--- src/lib.rt:66:17
 enum-told-3 : tie.Need-enum-told-3 Inv-loop μ-loop
 enum-told-3 c = search (needs, looking-start, looking-end, looking-lengths, looking-short, looking-bytes, looking-cast, looking-sum, looking-before, looking-here, looking-new)
 
--- src/lib.rt:66:17
 returns-2 : tie.Need-returns-2 Inv-loop μ-loop
 returns-2 c = search (needs, looking-start, looking-end, looking-lengths, looking-short, looking-bytes, looking-cast, looking-sum, looking-before, looking-here, looking-new)
 
--- src/lib.rt:50:1
 returns-3 : tie.Need-returns-3 Inv-loop μ-loop
 returns-3 c = search (needs, looking-start, looking-end, looking-lengths, looking-short, looking-bytes, looking-cast, looking-sum, looking-before, looking-here, looking-new)
 

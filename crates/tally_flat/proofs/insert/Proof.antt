@@ -13,27 +13,21 @@ use Rattle.tally_flat.proofs.move_names.Reads as move-names-reads
 use Rattle.tally_flat.proofs.move_numbers.Reads as move-numbers-reads
 use Rattle.tally_flat.proofs.put_name.Reads as put-name-reads
 
--- src/lib.rt:131:13
 sub-k : tie.Need-sub-k
 sub-k c = search needs
 
--- src/lib.rt:132:23
 mul-move-names : tie.Need-mul-move-names
 mul-move-names c = search needs
 
--- src/lib.rt:132:41
 mul-move-names-2 : tie.Need-mul-move-names-2
 mul-move-names-2 c = search needs
 
--- src/lib.rt:132:5
 move-names-requires : tie.Need-move-names-requires
 move-names-requires c κs = search needs
 
--- src/lib.rt:133:21
 mul-put-name : tie.Need-mul-put-name
 mul-put-name c = search needs
 
--- src/lib.rt:133:5
 put-name-requires : tie.Need-put-name-requires
 put-name-requires c κs =
     let st = c .before .before .before .before in
@@ -41,35 +35,27 @@ put-name-requires c κs =
     let p = st .pre in
     (omega (arith, l, p .sized .names, p .place, p .room), l ∙ p .sized .names)
 
--- src/lib.rt:134:5
 move-numbers-requires : tie.Need-move-numbers-requires
 move-numbers-requires c κs = search needs
 
--- src/lib.rt:135:22
 cast-lengths : tie.Need-cast-lengths
 cast-lengths c = search needs
 
--- src/lib.rt:135:5
 mul-lengths : tie.Need-mul-lengths
 mul-lengths c = search needs
 
--- src/lib.rt:135:5
 element-write-lengths : tie.Need-element-write-lengths
 element-write-lengths c = search needs
 
--- src/lib.rt:136:5
 move-numbers-requires-2 : tie.Need-move-numbers-requires-2
 move-numbers-requires-2 c κs = search needs
 
--- src/lib.rt:137:5
 mul-counts : tie.Need-mul-counts
 mul-counts c = search needs
 
--- src/lib.rt:137:5
 element-write-counts : tie.Need-element-write-counts
 element-write-counts c = search needs
 
--- src/lib.rt:120:1
 returns : tie.Need-returns
 returns c =
     let st = c .before .before .before .before .before .before .before .before .before in

@@ -12,43 +12,33 @@ Inv-loop names₀ from k j₀ names j = Moving longest k from names₀ names j
 abbrev μ-loop : tie.MeasureT-loop
 μ-loop names₀ from k j₀ names j = j
 
--- src/lib.rt:79:5
 loop-holds : tie.Need-loop-holds Inv-loop μ-loop
 loop-holds c = search (needs, moving-start, moving-end, moving-next)
 
--- src/lib.rt:80:9
 sub-j : tie.Need-sub-j Inv-loop μ-loop
 sub-j c = search (needs, moving-start, moving-end, moving-next)
 
--- src/lib.rt:81:44
 add-names : tie.Need-add-names Inv-loop μ-loop
 add-names c = search (needs, moving-start, moving-end, moving-next)
 
--- src/lib.rt:81:38
 element-copy-out-names : tie.Need-element-copy-out-names Inv-loop μ-loop
 element-copy-out-names c = search (needs, moving-start, moving-end, moving-next)
 
--- src/lib.rt:81:15
 add-names-2 : tie.Need-add-names-2 Inv-loop μ-loop
 add-names-2 c = search (needs, moving-start, moving-end, moving-next)
 
--- src/lib.rt:81:15
 add-names-3 : tie.Need-add-names-3 Inv-loop μ-loop
 add-names-3 c = search (needs, moving-start, moving-end, moving-next)
 
--- src/lib.rt:81:9
 element-write-names : tie.Need-element-write-names Inv-loop μ-loop
 element-write-names c = search (needs, moving-start, moving-end, moving-next)
 
--- src/lib.rt:79:5
 loop-less : tie.Need-loop-less Inv-loop μ-loop
 loop-less c = search (needs, moving-start, moving-end, moving-next)
 
--- src/lib.rt:79:5
 loop-again : tie.Need-loop-again Inv-loop μ-loop
 loop-again c = search (needs, moving-start, moving-end, moving-next)
 
--- src/lib.rt:74:1
 returns : tie.Need-returns Inv-loop μ-loop
 returns c = search (needs, moving-start, moving-end, moving-next)
 

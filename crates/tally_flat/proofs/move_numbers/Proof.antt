@@ -11,51 +11,39 @@ Inv-loop numbers₀ from k j₀ numbers j = Moving 1 k from numbers₀ numbers j
 abbrev μ-loop : tie.MeasureT-loop
 μ-loop numbers₀ from k j₀ numbers j = j
 
--- src/lib.rt:91:5
 loop-holds : tie.Need-loop-holds Inv-loop μ-loop
 loop-holds c = search (needs, moving-start, moving-end, moving-next)
 
--- src/lib.rt:92:9
 sub-j : tie.Need-sub-j Inv-loop μ-loop
 sub-j c = search (needs, moving-start, moving-end, moving-next)
 
--- src/lib.rt:93:41
 add-numbers : tie.Need-add-numbers Inv-loop μ-loop
 add-numbers c = search (needs, moving-start, moving-end, moving-next)
 
--- src/lib.rt:93:33
 mul-numbers : tie.Need-mul-numbers Inv-loop μ-loop
 mul-numbers c = search (needs, moving-start, moving-end, moving-next)
 
--- src/lib.rt:93:33
 element-copy-out-numbers : tie.Need-element-copy-out-numbers Inv-loop μ-loop
 element-copy-out-numbers c = search (needs, moving-start, moving-end, moving-next)
 
--- src/lib.rt:93:17
 add-numbers-2 : tie.Need-add-numbers-2 Inv-loop μ-loop
 add-numbers-2 c = search (needs, moving-start, moving-end, moving-next)
 
--- src/lib.rt:93:17
 add-numbers-3 : tie.Need-add-numbers-3 Inv-loop μ-loop
 add-numbers-3 c = search (needs, moving-start, moving-end, moving-next)
 
--- src/lib.rt:93:9
 mul-numbers-2 : tie.Need-mul-numbers-2 Inv-loop μ-loop
 mul-numbers-2 c = search (needs, moving-start, moving-end, moving-next)
 
--- src/lib.rt:93:9
 element-write-numbers : tie.Need-element-write-numbers Inv-loop μ-loop
 element-write-numbers c = search (needs, moving-start, moving-end, moving-next)
 
--- src/lib.rt:91:5
 loop-less : tie.Need-loop-less Inv-loop μ-loop
 loop-less c = search (needs, moving-start, moving-end, moving-next)
 
--- src/lib.rt:91:5
 loop-again : tie.Need-loop-again Inv-loop μ-loop
 loop-again c = search (needs, moving-start, moving-end, moving-next)
 
--- src/lib.rt:86:1
 returns : tie.Need-returns Inv-loop μ-loop
 returns c = search (needs, moving-start, moving-end, moving-next)
 

@@ -13,55 +13,42 @@ Inv-loop a b i₀ i = Ordering a b i
 abbrev μ-loop : tie.MeasureT-loop
 μ-loop a b i₀ i = length a - i
 
--- src/lib.rt:31:5
 loop-holds : tie.Need-loop-holds Inv-loop μ-loop
 loop-holds c = search (needs, ordering-laws)
 
--- src/lib.rt:33:13
 returns : tie.Need-returns Inv-loop μ-loop
 returns c = search (needs, ordering-laws)
 
--- src/lib.rt:35:12
 shared-slice-read-if2 : tie.Need-shared-slice-read-if2 Inv-loop μ-loop
 shared-slice-read-if2 c = search (needs, ordering-laws)
 
--- src/lib.rt:35:19
 shared-slice-read-if2-2 : tie.Need-shared-slice-read-if2-2 Inv-loop μ-loop
 shared-slice-read-if2-2 c = search (needs, ordering-laws)
 
--- src/lib.rt:36:13
 returns-2 : tie.Need-returns-2 Inv-loop μ-loop
 returns-2 c = search (needs, ordering-laws)
 
--- src/lib.rt:38:12
 shared-slice-read-if3 : tie.Need-shared-slice-read-if3 Inv-loop μ-loop
 shared-slice-read-if3 c = search (needs, ordering-laws)
 
--- src/lib.rt:38:19
 shared-slice-read-if3-2 : tie.Need-shared-slice-read-if3-2 Inv-loop μ-loop
 shared-slice-read-if3-2 c = search (needs, ordering-laws)
 
--- src/lib.rt:39:13
 returns-3 : tie.Need-returns-3 Inv-loop μ-loop
 returns-3 c = search (needs, ordering-laws)
 
--- src/lib.rt:41:9
 add-i : tie.Need-add-i Inv-loop μ-loop
 add-i c = search (needs, ordering-laws)
 
--- src/lib.rt:31:5
 loop-less : tie.Need-loop-less Inv-loop μ-loop
 loop-less c = search (needs, ordering-laws)
 
--- src/lib.rt:31:5
 loop-again : tie.Need-loop-again Inv-loop μ-loop
 loop-again c = search (needs, ordering-laws)
 
--- src/lib.rt:44:9
 returns-4 : tie.Need-returns-4 Inv-loop μ-loop
 returns-4 c = search (needs, ordering-laws)
 
--- src/lib.rt:27:1
 returns-5 : tie.Need-returns-5 Inv-loop μ-loop
 returns-5 c = search (needs, ordering-laws)
 

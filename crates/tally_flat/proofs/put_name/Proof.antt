@@ -14,35 +14,27 @@ Inv-loop names₀ at name j₀ names j = Putting at name names₀ names j
 abbrev μ-loop : tie.MeasureT-loop
 μ-loop names₀ at name j₀ names j = longest - j
 
--- src/lib.rt:113:5
 loop-holds : tie.Need-loop-holds Inv-loop μ-loop
 loop-holds c = search (needs, putting-start, putting-end, putting-next)
 
--- src/lib.rt:114:25
 byte-or-zero-requires : tie.Need-byte-or-zero-requires Inv-loop μ-loop
 byte-or-zero-requires c κs = search (needs, putting-start, putting-end, putting-next)
 
--- src/lib.rt:114:15
 add-names : tie.Need-add-names Inv-loop μ-loop
 add-names c = search (needs, putting-start, putting-end, putting-next)
 
--- src/lib.rt:114:9
 element-write-names : tie.Need-element-write-names Inv-loop μ-loop
 element-write-names c = search (needs, putting-start, putting-end, putting-next)
 
--- src/lib.rt:115:9
 add-j : tie.Need-add-j Inv-loop μ-loop
 add-j c = search (needs, putting-start, putting-end, putting-next)
 
--- src/lib.rt:113:5
 loop-less : tie.Need-loop-less Inv-loop μ-loop
 loop-less c = search (needs, putting-start, putting-end, putting-next)
 
--- src/lib.rt:113:5
 loop-again : tie.Need-loop-again Inv-loop μ-loop
 loop-again c = search (needs, putting-start, putting-end, putting-next)
 
--- src/lib.rt:108:1
 returns : tie.Need-returns Inv-loop μ-loop
 returns c = search (needs, putting-start, putting-end, putting-next)
 

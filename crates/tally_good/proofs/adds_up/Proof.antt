@@ -12,39 +12,30 @@ Inv-loop counts used missing total left₀ i₀ left i = Adding counts used miss
 abbrev μ-loop : tie.MeasureT-loop
 μ-loop counts used missing total left₀ i₀ left i = used - i
 
--- src/lib.rt:70:9
 returns : tie.Need-returns Inv-loop μ-loop
 returns c = search (needs, adding-laws)
 
--- src/lib.rt:74:5
 loop-holds : tie.Need-loop-holds Inv-loop μ-loop
 loop-holds c = search (needs, adding-laws)
 
--- src/lib.rt:75:17
 mul-k : tie.Need-mul-k Inv-loop μ-loop
 mul-k c = search (needs, adding-laws)
 
--- src/lib.rt:75:17
 shared-slice-read-k : tie.Need-shared-slice-read-k Inv-loop μ-loop
 shared-slice-read-k c = search (needs, adding-laws)
 
--- src/lib.rt:77:13
 returns-2 : tie.Need-returns-2 Inv-loop μ-loop
 returns-2 c = search (needs, adding-laws)
 
--- src/lib.rt:80:9
 add-i : tie.Need-add-i Inv-loop μ-loop
 add-i c = search (needs, adding-laws)
 
--- src/lib.rt:74:5
 loop-less : tie.Need-loop-less Inv-loop μ-loop
 loop-less c = search (needs, adding-laws)
 
--- src/lib.rt:74:5
 loop-again : tie.Need-loop-again Inv-loop μ-loop
 loop-again c = search (needs, adding-laws)
 
--- src/lib.rt:65:1
 returns-3 : tie.Need-returns-3 Inv-loop μ-loop
 returns-3 c = search (needs, adding-laws)
 

@@ -11,27 +11,21 @@ use Rattle.tally_good.proofs.good_list.Lts as lts
 use Rattle.tally_good.proofs.good_names.Reads as good-names-reads
 use Rattle.tally_good.proofs.short_names.Reads as short-names-reads
 
--- src/lib.rt:102:9
 returns : tie.Need-returns
 returns c = search (needs, good-above, good-many, good-long, good-looked, good-rest)
 
--- src/lib.rt:104:9
 cast-if2 : tie.Need-cast-if2
 cast-if2 c = search needs
 
--- src/lib.rt:105:9
 returns-2 : tie.Need-returns-2
 returns-2 c = search (needs, good-above, good-many, good-long, good-looked, good-rest)
 
--- src/lib.rt:107:29
 cast-short-names : tie.Need-cast-short-names
 cast-short-names c = search needs
 
--- src/lib.rt:107:8
 short-names-requires : tie.Need-short-names-requires
 short-names-requires c κs = search needs
 
--- src/lib.rt:108:9
 good-names-requires : tie.Need-good-names-requires
 good-names-requires c κs =
     let st = c .before .before .before .before .before .before .before .before .before .before in
@@ -40,11 +34,9 @@ good-names-requires c κs =
     let k : st .args .totals .entries ≤ mostSuppliers = omega arith in
     (st .pre, good-looked m (st .args .totals) h k (c .before .short-names .ensures) (st .pre) (c .if3 .taken))
 
--- src/lib.rt:108:9
 returns-3 : tie.Need-returns-3
 returns-3 c = search (needs, good-above, good-many, good-long, good-looked, good-rest)
 
--- src/lib.rt:97:1
 returns-4 : tie.Need-returns-4
 returns-4 c = search (needs, good-above, good-many, good-long, good-looked, good-rest)
 

@@ -7,27 +7,21 @@ use Rattle.tally_good.proofs.good_names.Lts as lts
 use Rattle.tally_good.proofs.adds_up.Reads as adds-up-reads
 use Rattle.tally_good.proofs.rising_names.Reads as rising-names-reads
 
--- src/lib.rt:90:37
 cast-rising-names : tie.Need-cast-rising-names
 cast-rising-names c = search needs
 
--- src/lib.rt:90:8
 rising-names-requires : tie.Need-rising-names-requires
 rising-names-requires c κs = search needs
 
--- src/lib.rt:91:32
 cast-adds-up : tie.Need-cast-adds-up
 cast-adds-up c = search needs
 
--- src/lib.rt:91:9
 adds-up-requires : tie.Need-adds-up-requires
 adds-up-requires c κs = search needs
 
--- src/lib.rt:91:9
 returns : tie.Need-returns
 returns c = search (needs, names-sum, names-not)
 
--- src/lib.rt:86:1
 returns-2 : tie.Need-returns-2
 returns-2 c = search (needs, names-sum, names-not)
 

@@ -1,4 +1,4 @@
-use Rattle.tally_good.specs.Steps.{pair-one, pair-two, pair-cast, pair-cast-2, pair-end, pair-end-2, pair-sum, pair-sum-2, pair-told}
+use Rattle.tally_good.specs.Steps.{pair-cast, pair-cast-2, pair-end, pair-end-2, pair-sum, pair-sum-2, pair-told}
 use borrow.Author.Needs.{needs}
 use Rattle.tally_good.proofs.order_at.Statement.{statement}
 use Rattle.tally_good.proofs.order_at.Tie as tie
@@ -6,83 +6,63 @@ use Rattle.tally_good.proofs.order_at.Reads as reads
 use Rattle.tally_good.proofs.order_at.Lts as lts
 use Rattle.tally_flat.proofs.order_of.Reads as order-of-reads
 
--- src/lib.rt:35:16
 mul-from : tie.Need-mul-from
 mul-from c = search needs
 
--- src/lib.rt:36:21
 mul-to : tie.Need-mul-to
 mul-to c = search needs
 
--- src/lib.rt:36:21
 shared-slice-read-to : tie.Need-shared-slice-read-to
 shared-slice-read-to c = search needs
 
--- src/lib.rt:36:21
 cast-to : tie.Need-cast-to
 cast-to c = search (needs, pair-cast, pair-cast-2, pair-end, pair-end-2, pair-sum, pair-sum-2, pair-told)
 
--- src/lib.rt:36:14
 add-to : tie.Need-add-to
 add-to c = search (needs, pair-cast, pair-cast-2, pair-end, pair-end-2, pair-sum, pair-sum-2, pair-told)
 
--- src/lib.rt:37:28
 add-next : tie.Need-add-next
 add-next c = search needs
 
--- src/lib.rt:37:16
 mul-next : tie.Need-mul-next
 mul-next c = search needs
 
--- src/lib.rt:38:30
 add-end : tie.Need-add-end
 add-end c = search needs
 
--- src/lib.rt:38:22
 mul-end : tie.Need-mul-end
 mul-end c = search needs
 
--- src/lib.rt:38:22
 shared-slice-read-end : tie.Need-shared-slice-read-end
 shared-slice-read-end c = search needs
 
--- src/lib.rt:38:22
 cast-end : tie.Need-cast-end
 cast-end c = search (needs, pair-cast, pair-cast-2, pair-end, pair-end-2, pair-sum, pair-sum-2, pair-told)
 
--- src/lib.rt:38:15
 add-end-2 : tie.Need-add-end-2
 add-end-2 c = search (needs, pair-cast, pair-cast-2, pair-end, pair-end-2, pair-sum, pair-sum-2, pair-told)
 
--- src/lib.rt:39:26
 sub-order-of : tie.Need-sub-order-of
 sub-order-of c = search needs
 
--- src/lib.rt:39:26
 part-order-of-start : tie.Need-part-order-of-start
 part-order-of-start c = search needs
 
--- src/lib.rt:39:26
 part-order-of-end : tie.Need-part-order-of-end
 part-order-of-end c = search (needs, pair-cast, pair-cast-2, pair-end, pair-end-2, pair-sum, pair-sum-2, pair-told)
 
--- src/lib.rt:39:44
 sub-order-of-2 : tie.Need-sub-order-of-2
 sub-order-of-2 c = search needs
 
--- src/lib.rt:39:44
 part-order-of-start-2 : tie.Need-part-order-of-start-2
 part-order-of-start-2 c = search needs
 
--- src/lib.rt:39:44
 part-order-of-end-2 : tie.Need-part-order-of-end-2
 part-order-of-end-2 c = search (needs, pair-cast, pair-cast-2, pair-end, pair-end-2, pair-sum, pair-sum-2, pair-told)
 
--- src/lib.rt:39:5
 order-of-requires : tie.Need-order-of-requires
 order-of-requires c κs = search needs
 
--- src/lib.rt:31:1
 returns : tie.Need-returns
 returns c = search (needs, pair-cast, pair-cast-2, pair-end, pair-end-2, pair-sum, pair-sum-2, pair-told)
 

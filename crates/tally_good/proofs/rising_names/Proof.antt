@@ -13,51 +13,39 @@ Inv-loop names lengths used i₀ i = Risen names lengths used i
 abbrev μ-loop : tie.MeasureT-loop
 μ-loop names lengths used i₀ i = used - i
 
--- src/lib.rt:48:5
 loop-holds : tie.Need-loop-holds Inv-loop μ-loop
 loop-holds c = search (needs, rising-laws)
 
--- src/lib.rt:48:11
 add-loop : tie.Need-add-loop Inv-loop μ-loop
 add-loop c = search (needs, rising-laws)
 
--- src/lib.rt:49:15
 order-at-requires : tie.Need-order-at-requires Inv-loop μ-loop
 order-at-requires c κs = search (needs, rising-laws)
 
--- src/lib.rt:51:17
 enum-told : tie.Need-enum-told Inv-loop μ-loop
 enum-told c = search (needs, rising-laws)
 
--- src/lib.rt:51:17
 add-i : tie.Need-add-i Inv-loop μ-loop
 add-i c = search (needs, rising-laws)
 
--- src/lib.rt:48:5
 loop-less : tie.Need-loop-less Inv-loop μ-loop
 loop-less c = search (needs, rising-laws)
 
--- src/lib.rt:48:5
 loop-again : tie.Need-loop-again Inv-loop μ-loop
 loop-again c = search (needs, rising-laws)
 
--- src/lib.rt:54:17
 enum-told-2 : tie.Need-enum-told-2 Inv-loop μ-loop
 enum-told-2 c = search (needs, rising-laws)
 
--- src/lib.rt:54:17
 returns : tie.Need-returns Inv-loop μ-loop
 returns c = search (needs, rising-laws)
 
--- src/lib.rt:57:17
 enum-told-3 : tie.Need-enum-told-3 Inv-loop μ-loop
 enum-told-3 c = search (needs, rising-laws)
 
--- src/lib.rt:57:17
 returns-2 : tie.Need-returns-2 Inv-loop μ-loop
 returns-2 c = search (needs, rising-laws)
 
--- src/lib.rt:43:1
 returns-3 : tie.Need-returns-3 Inv-loop μ-loop
 returns-3 c = search (needs, rising-laws)
 

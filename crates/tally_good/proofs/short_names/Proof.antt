@@ -12,39 +12,30 @@ Inv-loop lengths used i₀ i = Shorts lengths used i
 abbrev μ-loop : tie.MeasureT-loop
 μ-loop lengths used i₀ i = used - i
 
--- src/lib.rt:21:5
 loop-holds : tie.Need-loop-holds Inv-loop μ-loop
 loop-holds c = search (needs, short-laws)
 
--- src/lib.rt:22:13
 cast-if1 : tie.Need-cast-if1 Inv-loop μ-loop
 cast-if1 c = search (needs, short-laws)
 
--- src/lib.rt:22:32
 mul-if1 : tie.Need-mul-if1 Inv-loop μ-loop
 mul-if1 c = search (needs, short-laws)
 
--- src/lib.rt:22:32
 shared-slice-read-if1 : tie.Need-shared-slice-read-if1 Inv-loop μ-loop
 shared-slice-read-if1 c = search (needs, short-laws)
 
--- src/lib.rt:23:13
 returns : tie.Need-returns Inv-loop μ-loop
 returns c = search (needs, short-laws)
 
--- src/lib.rt:25:9
 add-i : tie.Need-add-i Inv-loop μ-loop
 add-i c = search (needs, short-laws)
 
--- src/lib.rt:21:5
 loop-less : tie.Need-loop-less Inv-loop μ-loop
 loop-less c = search (needs, short-laws)
 
--- src/lib.rt:21:5
 loop-again : tie.Need-loop-again Inv-loop μ-loop
 loop-again c = search (needs, short-laws)
 
--- src/lib.rt:16:1
 returns-2 : tie.Need-returns-2 Inv-loop μ-loop
 returns-2 c = search (needs, short-laws)
 

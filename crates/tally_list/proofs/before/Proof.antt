@@ -7,23 +7,18 @@ use Rattle.tally_list.proofs.before.Lts as lts
 use Rattle.tally_list.proofs.is_before.Reads as is-before-reads
 use Rattle.tally_list.proofs.order_front.Reads as order-front-reads
 
--- src/lib.rt:53:27
 slice-aggregate-order-front : tie.Need-slice-aggregate-order-front
 slice-aggregate-order-front c = search needs
 
--- src/lib.rt:53:35
 cast-order-front : tie.Need-cast-order-front
 cast-order-front c = search needs
 
--- src/lib.rt:53:15
 order-front-requires : tie.Need-order-front-requires
 order-front-requires c κs = search needs
 
--- src/lib.rt:53:5
 is-before-requires : tie.Need-is-before-requires
 is-before-requires c κs = search needs
 
--- src/lib.rt:49:1
 returns : tie.Need-returns
 returns c = before-told _ _ _ (c .before .order-front .ensures) _ (c .is-before .ensures)
 

@@ -9,35 +9,27 @@ use Rattle.tally_list.proofs.new_tally.Reads as new-tally-reads
 use Rattle.tally_list.proofs.one_more.Reads as one-more-reads
 use Rattle.tally_list.proofs.place_within.Reads as place-within-reads
 
--- src/lib.rt:181:8
 is-here-requires : tie.Need-is-here-requires
 is-here-requires c κs = search needs
 
--- src/lib.rt:184:20
 one-more-requires : tie.Need-one-more-requires
 one-more-requires c κs = here-small _ _ _ _ _ (c .before .is-here .ensures) (search needs) (search needs)
 
--- src/lib.rt:182:9
 returns : tie.Need-returns
 returns c = change-here _ _ _ _ _ (c .before .before .is-here .ensures) _ (c .one-more .ensures) (search needs)
 
--- src/lib.rt:190:18
 place-within-requires : tie.Need-place-within-requires
 place-within-requires c κs = search needs
 
--- src/lib.rt:189:9
 returns-2 : tie.Need-returns-2
 returns-2 c = change-full _ _ _ _ _ (c .before .before .before .is-here .ensures) _ (c .place-within .ensures) (search needs) (search needs)
 
--- src/lib.rt:197:16
 new-tally-requires : tie.Need-new-tally-requires
 new-tally-requires c κs = search needs
 
--- src/lib.rt:198:25
 add-t12 : tie.Need-add-t12
 add-t12 c = search needs
 
--- src/lib.rt:177:1
 returns-3 : tie.Need-returns-3
 returns-3 c = change-new _ _ _ _ _ (c .before .before .before .is-here .ensures) _ (c .new-tally .ensures) (search needs) (search needs)
 

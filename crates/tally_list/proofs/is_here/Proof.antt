@@ -7,27 +7,21 @@ use Rattle.tally_list.proofs.is_here.Lts as lts
 use Rattle.tally_list.proofs.is_same.Reads as is-same-reads
 use Rattle.tally_list.proofs.order_front.Reads as order-front-reads
 
--- src/lib.rt:139:9
 returns : tie.Need-returns
 returns c = search (needs, not-used)
 
--- src/lib.rt:142:25
 slice-aggregate-order-front : tie.Need-slice-aggregate-order-front
 slice-aggregate-order-front c = search needs
 
--- src/lib.rt:142:33
 cast-order-front : tie.Need-cast-order-front
 cast-order-front c = search needs
 
--- src/lib.rt:142:13
 order-front-requires : tie.Need-order-front-requires
 order-front-requires c κs = search needs
 
--- src/lib.rt:142:5
 is-same-requires : tie.Need-is-same-requires
 is-same-requires c κs = search needs
 
--- src/lib.rt:135:1
 returns-2 : tie.Need-returns-2
 returns-2 c = here-told _ _ _ _ (search needs) _ (c .before .order-front .ensures) _ (c .is-same .ensures)
 

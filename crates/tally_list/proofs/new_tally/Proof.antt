@@ -13,35 +13,27 @@ Inv-loop name bytes₀ i₀ bytes i = Filling name bytes i
 abbrev μ-loop : tie.MeasureT-loop
 μ-loop name bytes₀ i₀ bytes i = length name - i
 
--- src/lib.rt:165:5
 loop-holds : tie.Need-loop-holds Inv-loop μ-loop
 loop-holds c = search (needs, filling-start, filling-next, filling-end)
 
--- src/lib.rt:166:20
 shared-slice-read-bytes : tie.Need-shared-slice-read-bytes Inv-loop μ-loop
 shared-slice-read-bytes c = search (needs, filling-start, filling-next, filling-end)
 
--- src/lib.rt:166:9
 array-write-bytes : tie.Need-array-write-bytes Inv-loop μ-loop
 array-write-bytes c = search (needs, filling-start, filling-next, filling-end)
 
--- src/lib.rt:167:9
 add-i : tie.Need-add-i Inv-loop μ-loop
 add-i c = search (needs, filling-start, filling-next, filling-end)
 
--- src/lib.rt:165:5
 loop-less : tie.Need-loop-less Inv-loop μ-loop
 loop-less c = search (needs, filling-start, filling-next, filling-end)
 
--- src/lib.rt:165:5
 loop-again : tie.Need-loop-again Inv-loop μ-loop
 loop-again c = search (needs, filling-start, filling-next, filling-end)
 
--- src/lib.rt:171:17
 cast-t12 : tie.Need-cast-t12 Inv-loop μ-loop
 cast-t12 c = search (needs, filling-start, filling-next, filling-end)
 
--- src/lib.rt:159:1
 returns : tie.Need-returns Inv-loop μ-loop
 returns c = search (needs, filling-start, filling-next, filling-end)
 

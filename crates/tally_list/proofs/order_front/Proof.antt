@@ -6,23 +6,18 @@ use Rattle.tally_list.proofs.order_front.Reads as reads
 use Rattle.tally_list.proofs.order_front.Lts as lts
 use Rattle.tally_flat.proofs.order_of.Reads as order-of-reads
 
--- src/lib.rt:33:9
 order-of-requires : tie.Need-order-of-requires
 order-of-requires c κs = search needs
 
--- src/lib.rt:33:9
 returns : tie.Need-returns
 returns c = search (needs, front-all)
 
--- src/lib.rt:35:26
 slice-aggregate-order-of : tie.Need-slice-aggregate-order-of
 slice-aggregate-order-of c = search (needs, part-size)
 
--- src/lib.rt:35:5
 order-of-requires-2 : tie.Need-order-of-requires-2
 order-of-requires-2 c κs = search needs
 
--- src/lib.rt:29:1
 returns-2 : tie.Need-returns-2
 returns-2 c = search needs
 

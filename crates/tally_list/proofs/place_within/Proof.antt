@@ -5,15 +5,12 @@ use Rattle.tally_list.proofs.place_within.Tie as tie
 use Rattle.tally_list.proofs.place_within.Reads as reads
 use Rattle.tally_list.proofs.place_within.Lts as lts
 
--- src/lib.rt:119:9
 returns : tie.Need-returns
 returns c = search (needs, within-in, within-out)
 
--- src/lib.rt:121:5
 sub-result : tie.Need-sub-result
 sub-result c = search needs
 
--- src/lib.rt:115:1
 returns-2 : tie.Need-returns-2
 returns-2 c = search (needs, within-in, within-out)
 

@@ -1,6 +1,6 @@
 -- `tally_list::shift_up` meets its contract: a walk of its MIR, by hand, with a loop that reads an element of the slice and stores it in the next place. The borrow is opened once, before the loop, and closed once, after it.
 use mathlib.Core.Path.{_≡_, refl, sym, ap, _∙_, subst}
-use Prim.Native.Nat.{ℕ, zero, suc, _+_, _-_, _*_, _≤_, _<_, _^_}
+use Prim.Native.Nat.{ℕ, suc, _+_, _-_, _*_, _≤_, _<_, _^_}
 use native.Mathlib.Omega.{arith}
 use mathlib.Core.Bool.{Bool, true, false}
 use mathlib.Core.List.{List, [], _∷_}

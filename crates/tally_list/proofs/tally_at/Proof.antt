@@ -1,5 +1,5 @@
 -- `tally_list::tally_at` meets its contract: a walk of its MIR, by hand. Element i of a slice of structs lies 32 * i bytes on; it is read whole.
-use mathlib.Core.Path.{_≡_, refl, sym, ap, _∙_}
+use mathlib.Core.Path.{_≡_, refl, sym}
 use Prim.Native.Nat.{ℕ, _+_, _*_, _<_, _^_}
 use native.Mathlib.Omega.{arith}
 use mathlib.Core.List.{List, [], _∷_}

@@ -8,29 +8,24 @@ use Rattle.tally_report.proofs.put_good.Lts as lts
 use Rattle.tally_report.proofs.put_suppliers.Reads as put-suppliers-reads
 use Rattle.tally_report.proofs.put_totals.Reads as put-totals-reads
 
--- src/lib.rt:72:57
 cast-put-suppliers : tie.Need-cast-put-suppliers
 cast-put-suppliers c = search needs
 
--- src/lib.rt:72:9
 put-suppliers-requires : tie.Need-put-suppliers-requires
 put-suppliers-requires c κs =
     let st = c .before .before .before .before .before .before in
     let m = memory (st .args .names .now) (st .args .lengths .now) (st .args .counts .now) in
     good-lines m (st .args .totals) _ (st .pre)
 
--- src/lib.rt:73:5
 put-totals-requires : tie.Need-put-totals-requires
 put-totals-requires c κs =
     let st = c .before .before .before .before .before .before .before .before .before .before in
     let m = memory (st .args .names .now) (st .args .lengths .now) (st .args .counts .now) in
     good-room m (st .args .totals) (st .args .room .now) _ _ (st .pre) (c .before .before .before .put-suppliers .ensures)
 
--- src/lib.rt:62:1
 same-length : tie.Need-same-length
 same-length c = search needs
 
--- src/lib.rt:62:1
 returns : tie.Need-returns
 returns c =
     let st = c .before .before .before .before .before .before .before .before .before .before .before .before .before in

@@ -6,27 +6,21 @@ use Rattle.tally_report.proofs.put_totals.Reads as reads
 use Rattle.tally_report.proofs.put_totals.Lts as lts
 use Rattle.tally_report.proofs.put_line.Reads as put-line-reads
 
--- src/lib.rt:57:41
 slice-aggregate-put-line : tie.Need-slice-aggregate-put-line
 slice-aggregate-put-line c = search needs
 
--- src/lib.rt:57:9
 put-line-requires : tie.Need-put-line-requires
 put-line-requires c κs = search needs
 
--- src/lib.rt:58:30
 slice-aggregate-put-line-2 : tie.Need-slice-aggregate-put-line-2
 slice-aggregate-put-line-2 c = search needs
 
--- src/lib.rt:58:5
 put-line-requires-2 : tie.Need-put-line-requires-2
 put-line-requires-2 c κs = let st = c .before .before .before .before .before .before .before .before in totals-room (st .args .missing) (st .pre) (c .before .before .before .before .put-line .ensures)
 
--- src/lib.rt:53:1
 same-length : tie.Need-same-length
 same-length c = search needs
 
--- src/lib.rt:53:1
 returns : tie.Need-returns
 returns c = let st = c .before .before .before .before .before .before .before .before .before .before .before in totals-told (st .args .missing) (st .args .total) (c .before .before .before .before .before .before .before .put-line .ensures) (c .before .before .put-line2 .ensures)
 

@@ -8,51 +8,39 @@ use Rattle.reader_feed.proofs.plus.Reads as plus-reads
 use Rattle.reader_resume.proofs.Asked.not_whole.Reads as not-whole-reads
 use Rattle.reader_walk.proofs.walk_keyed.Reads as walk-keyed-reads
 
--- src/lib.rt:200:15
 walk-keyed-requires : tie.Need-walk-keyed-requires
 walk-keyed-requires c κs = search needs
 
--- src/lib.rt:203:17
 enum-known-length : tie.Need-enum-known-length
 enum-known-length c = search needs
 
--- src/lib.rt:210:30
 plus-requires : tie.Need-plus-requires
 plus-requires c κs = search needs
 
--- src/lib.rt:211:28
 plus-requires-2 : tie.Need-plus-requires-2
 plus-requires-2 c κs = search needs
 
--- src/lib.rt:220:31
 enum-known-no : tie.Need-enum-known-no
 enum-known-no c = search needs
 
--- src/lib.rt:221:17
 not-whole-requires : tie.Need-not-whole-requires
 not-whole-requires c κs = search needs
 
--- src/lib.rt:184:5
 same-length : tie.Need-same-length
 same-length c = search needs
 
--- src/lib.rt:184:5
 same-length-2 : tie.Need-same-length-2
 same-length-2 c = search needs
 
--- src/lib.rt:184:5
 returns : tie.Need-returns
 returns c = (search (needs, next-laws), (search (needs, left-laws), (search (needs, left-laws), (search (needs, left-laws), search needs))))
 
--- src/lib.rt:184:5
 same-length-3 : tie.Need-same-length-3
 same-length-3 c = search needs
 
--- src/lib.rt:184:5
 same-length-4 : tie.Need-same-length-4
 same-length-4 c = search needs
 
--- src/lib.rt:184:5
 returns-2 : tie.Need-returns-2
 returns-2 c = (search (needs, next-laws), (search (needs, left-laws), (search (needs, left-laws), (search (needs, left-laws), search needs))))
 

@@ -6,27 +6,21 @@ use Rattle.reader_resume.proofs.Asked.not_whole.Reads as reads
 use Rattle.reader_resume.proofs.Asked.not_whole.Lts as lts
 use Rattle.reader_feed.proofs.plus.Reads as plus-reads
 
--- src/lib.rt:152:22
 plus-requires : tie.Need-plus-requires
 plus-requires c κs = search needs
 
--- src/lib.rt:160:13
 plus-requires-2 : tie.Need-plus-requires-2
 plus-requires-2 c κs = search needs
 
--- src/lib.rt:162:13
 returns : tie.Need-returns
 returns c = search (needs, not-laws)
 
--- src/lib.rt:170:13
 returns-2 : tie.Need-returns-2
 returns-2 c = search (needs, not-laws)
 
--- src/lib.rt:178:13
 returns-3 : tie.Need-returns-3
 returns-3 c = search (needs, not-laws)
 
--- src/lib.rt:147:5
 returns-4 : tie.Need-returns-4
 returns-4 c = search (needs, not-laws)
 

@@ -7,19 +7,15 @@ use Rattle.reader_resume.proofs.Passing.byte.Lts as lts
 use Rattle.reader_resume.proofs.Passing.line_end.Reads as line-end-reads
 use Rattle.reader_resume.proofs.dollars.Reads as dollars-reads
 
--- src/lib.rt:109:13
 line-end-requires : tie.Need-line-end-requires
 line-end-requires c κs = search needs
 
--- src/lib.rt:109:13
 returns : tie.Need-returns
 returns c = search (needs, byte-laws)
 
--- src/lib.rt:113:13
 dollars-requires : tie.Need-dollars-requires
 dollars-requires c κs = search needs
 
--- src/lib.rt:105:5
 returns-2 : tie.Need-returns-2
 returns-2 c = search (needs, byte-laws)
 

@@ -6,23 +6,18 @@ use Rattle.reader_resume.proofs.Passing.line_end.Reads as reads
 use Rattle.reader_resume.proofs.Passing.line_end.Lts as lts
 use Rattle.reader_feed.proofs.plus.Reads as plus-reads
 
--- src/lib.rt:85:20
 plus-requires : tie.Need-plus-requires
 plus-requires c κs = search needs
 
--- src/lib.rt:88:24
 sub-left : tie.Need-sub-left
 sub-left c = search needs
 
--- src/lib.rt:89:13
 returns : tie.Need-returns
 returns c = search (needs, byte-laws)
 
--- src/lib.rt:96:13
 returns-2 : tie.Need-returns-2
 returns-2 c = search (needs, byte-laws)
 
--- src/lib.rt:79:5
 returns-3 : tie.Need-returns-3
 returns-3 c = search (needs, byte-laws)
 

@@ -14,47 +14,36 @@ Inv-loop part passing₀ i₀ passing i = Reaches passing₀ passing part i
 abbrev μ-loop : tie.MeasureT-loop
 μ-loop part passing₀ i₀ passing i = length part - i
 
--- src/lib.rt:127:9
 loop-holds : tie.Need-loop-holds Inv-loop μ-loop
 loop-holds c = search (needs, reach-laws)
 
--- src/lib.rt:128:32
 shared-slice-read-byte : tie.Need-shared-slice-read-byte Inv-loop μ-loop
 shared-slice-read-byte c = search (needs, reach-laws)
 
--- src/lib.rt:128:19
 byte-requires : tie.Need-byte-requires Inv-loop μ-loop
 byte-requires c κs = search (needs, reach-laws)
 
--- src/lib.rt:129:27
 enum-known-counter : tie.Need-enum-known-counter Inv-loop μ-loop
 enum-known-counter c = search (needs, reach-laws)
 
--- src/lib.rt:132:31
 add-t12 : tie.Need-add-t12 Inv-loop μ-loop
 add-t12 c = search (needs, reach-laws)
 
--- src/lib.rt:130:21
 returns : tie.Need-returns Inv-loop μ-loop
 returns c = search (needs, reach-laws)
 
--- src/lib.rt:135:26
 enum-known-p : tie.Need-enum-known-p Inv-loop μ-loop
 enum-known-p c = search (needs, reach-laws)
 
--- src/lib.rt:139:13
 add-i : tie.Need-add-i Inv-loop μ-loop
 add-i c = search (needs, reach-laws)
 
--- src/lib.rt:127:9
 loop-less : tie.Need-loop-less Inv-loop μ-loop
 loop-less c = search (needs, reach-laws)
 
--- src/lib.rt:127:9
 loop-again : tie.Need-loop-again Inv-loop μ-loop
 loop-again c = search (needs, reach-laws)
 
--- src/lib.rt:122:5
 returns-2 : tie.Need-returns-2 Inv-loop μ-loop
 returns-2 c = search (needs, reach-laws)
 

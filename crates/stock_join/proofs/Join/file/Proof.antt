@@ -6,11 +6,9 @@ use Rattle.stock_join.proofs.Join.file.Reads as reads
 use Rattle.stock_join.proofs.Join.file.Lts as lts
 use Rattle.stock_join.proofs.up.Reads as up-reads
 
--- src/lib.rt:105:19
 up-requires : tie.Need-up-requires
 up-requires c κs = search needs
 
--- src/lib.rt:101:5
 returns : tie.Need-returns
 returns c = search (needs, file-is)
 

@@ -7,55 +7,42 @@ use Rattle.stock_join.proofs.Join.next.Lts as lts
 use Rattle.stock_join.proofs.Join.under.Reads as under-reads
 use Rattle.stock_join.proofs.up.Reads as up-reads
 
--- src/lib.rt:136:27
 enum-known-fate : tie.Need-enum-known-fate
 enum-known-fate c = search needs
 
--- src/lib.rt:136:36
 under-requires : tie.Need-under-requires
 under-requires c κs = search needs
 
--- src/lib.rt:139:25
 enum-told : tie.Need-enum-told
 enum-told c = search needs
 
--- src/lib.rt:139:25
 up-requires : tie.Need-up-requires
 up-requires c κs = search needs
 
--- src/lib.rt:141:24
 up-requires-2 : tie.Need-up-requires-2
 up-requires-2 c κs = search needs
 
--- src/lib.rt:146:25
 enum-told-2 : tie.Need-enum-told-2
 enum-told-2 c = search needs
 
--- src/lib.rt:146:25
 up-requires-3 : tie.Need-up-requires-3
 up-requires-3 c κs = search needs
 
--- src/lib.rt:149:26
 up-requires-4 : tie.Need-up-requires-4
 up-requires-4 c κs = search needs
 
--- src/lib.rt:151:30
 enum-told-3 : tie.Need-enum-told-3
 enum-told-3 c = search needs
 
--- src/lib.rt:132:5
 returns : tie.Need-returns
 returns c = search (needs, next-laws)
 
--- src/lib.rt:132:5
 returns-2 : tie.Need-returns-2
 returns-2 c = search (needs, next-laws)
 
--- src/lib.rt:132:5
 returns-3 : tie.Need-returns-3
 returns-3 c = search (needs, next-laws)
 
--- src/lib.rt:132:5
 returns-4 : tie.Need-returns-4
 returns-4 c = search (needs, next-laws)
 

@@ -7,23 +7,18 @@ use Rattle.stock_join.proofs.Join.under.Lts as lts
 use Rattle.stock_join.proofs.mark.Reads as mark-reads
 use Rattle.stock_join.proofs.up.Reads as up-reads
 
--- src/lib.rt:118:13
 returns : tie.Need-returns
 returns c = search (needs, under-laws)
 
--- src/lib.rt:120:13
 up-requires : tie.Need-up-requires
 up-requires c κs = search needs
 
--- src/lib.rt:121:9
 mark-requires : tie.Need-mark-requires
 mark-requires c κs = search needs
 
--- src/lib.rt:125:23
 up-requires-2 : tie.Need-up-requires-2
 up-requires-2 c κs = search needs
 
--- src/lib.rt:114:5
 returns-2 : tie.Need-returns-2
 returns-2 c = search (needs, under-laws)
 
