@@ -123,6 +123,9 @@ enum { CAPELLANOTE_READ_ATOMS = 1, CAPELLANOTE_READ_BONDS = 2, CAPELLANOTE_READ_
 enum { CAPELLANOTE_NEXT_AT = 9, CAPELLANOTE_NEXT_LINES = 10, CAPELLANOTE_NEXT_RECORDS = 11, CAPELLANOTE_NEXT_RECORD = 12 };
 /* Of an item found; of a text written. */
 enum { CAPELLANOTE_ITEM_FROM = 1, CAPELLANOTE_ITEM_TO = 2, CAPELLANOTE_WRITTEN_LENGTH = 1 };
+/* Of a step over items. */
+enum { CAPELLANOTE_STEP_ITEM = 1, CAPELLANOTE_STEP_NAME = 2, CAPELLANOTE_STEP_NAME_END = 3, CAPELLANOTE_STEP_VALUES = 4,
+       CAPELLANOTE_STEP_VALUES_END = 5, CAPELLANOTE_STEP_NEXT = 6, CAPELLANOTE_STEP_LINES = 7 };
 
 /* A whole file.
    Accepted: answer = { 0, number of records, 0 }. Nothing else is written. */
@@ -180,6 +183,16 @@ void capellanote_next(const capellanote_byte *text, capellanote_size text_length
 void capellanote_find(const capellanote_byte *text, capellanote_size text_length,
                       const capellanote_byte *name, capellanote_size name_length,
                       capellanote_size answer[3]);
+
+/* The item whose data header starts at a place of the text, or the record's last line there: a step over a record's items. From answer[7] of a
+   record read, and then from each answer's [6], the steps come to all of its items in their order, and then to its end. Any place will do.
+   An item: answer = { 0, 1, start and end of the name, start and end of the values, what comes next, lines }: places count from the text's first
+   byte, those of the values are as of capellanote_find.
+   A $$$$ line: answer = { 0, 0, 0, 0, 0, 0, what comes next, 1 }.
+   Refused as these lines of a record are, with 3, 4, 16, 17 or 19: the line counts from that place, and answer[3] to answer[7] are 0. */
+void capellanote_item(const capellanote_byte *text, capellanote_size text_length,
+                      capellanote_size at,
+                      capellanote_size answer[8]);
 
 /* The records of an SDfile that comes in parts, counted. A part begins where a record begins and is never longer than the room, a number of bytes;
    ended is 0 while input follows the part, and any other number where none does. On a part as long as the room it has to be right,

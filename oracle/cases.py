@@ -2,7 +2,7 @@
 
 from bond_rows import ROWS, WORDS, halves, read_with_rows
 from counter import feed
-from ctfile import check, fetch, next_record
+from ctfile import check, fetch, item_at, next_record
 from deliveries import compare_into, seven
 from formula import FOUND, compare_formula
 from limit import LIMIT
@@ -61,6 +61,10 @@ def read_case(kind, atom_room, bond_room, data, row_room=LIMIT):
 
 def fetch_case(name, data):
     return head("fetch", len(name), len(data)) + block(name) + block(data)
+
+
+def items_case(at, data):
+    return head("items", at, len(data)) + block(data)
 
 
 def catalogue_case(atom_room, bond_room, room, data):
@@ -162,6 +166,17 @@ def answer_fetch(reader, name_size, size):
     return verdict(answer) + ("" if answer[0] == "found" else " stretch 0 0")
 
 
+def answer_items(reader, at, size):
+    """Step after step, to the end of the record or a refusal."""
+    data, told = reader.block(size), []
+    while True:
+        answer = item_at(data, at)
+        told.append(verdict(answer))
+        if answer[0] != "item":
+            return " ".join(told)
+        at = answer[5]
+
+
 def answer_write(reader, n, m, chiral, atom_room, bond_room, atoms, bonds, header, items, room):
     atom_table, bond_table = table(atom_room, 16), table(bond_room, 6)
     for k in range(atoms):
@@ -252,7 +267,7 @@ def answer_replay(reader, size):
 
 OPERATIONS = {
     "check": lambda reader, kind, size: verdict(check(kind, reader.block(size))),
-    "read": answer_read, "fetch": answer_fetch, "write": answer_write,
+    "read": answer_read, "fetch": answer_fetch, "items": answer_items, "write": answer_write,
     "catalogue": answer_catalogue, "copy": answer_copy, "feed": answer_feed,
     "next": answer_next, "replay": answer_replay, "formula": answer_formula,
     "pieces": answer_pieces, "mend": answer_mend, "tally": answer_tally, "changes": answer_changes}

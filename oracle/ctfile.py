@@ -311,3 +311,22 @@ def fetch(data, name):
         return ("found",) + named[0].stretch()
     except Refusal as refusal:
         return refusal.answer()
+
+
+def item_at(data, at):
+    """What stands at a byte where a data header or `$$$$` must stand: ("item", name start, name end, values start, values end,
+    the byte behind the blank line, lines), ("end", the byte behind the line), or the refusal; lines count from that byte."""
+    sheet = Sheet(data[at:])
+    try:
+        line = sheet.take(0)
+        if RECORD_END.fullmatch(line.text):
+            return ("end", at + line.next)
+        name = header_name(line.text)
+        if name is None:
+            raise Refusal(16, 1, 1)
+        item = Item(name, value_lines(sheet, 1))
+    except Refusal as refusal:
+        return refusal.answer()
+    start, lines = at + line.text.index(b"<") + 1, len(item.values) + 2
+    values = [at + place for place in item.stretch()] if item.values else [0, 0]
+    return ("item", start, start + len(name), *values, at + sheet.starts_at(lines), lines)

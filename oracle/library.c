@@ -226,6 +226,27 @@ static void fetch_case(const size *n)
         printf("found %lu %lu", answer[1], answer[2]);
 }
 
+/* AT SIZE: step after step, to the end of the record or a refusal. */
+static void items_case(const size *n)
+{
+    size answer[8], from = n[0];
+    byte *text = block(n[1]);
+    for (;;) {
+        capellanote_item(text, n[1], from, answer);
+        if (refused(answer))
+            return;
+        from = answer[CAPELLANOTE_STEP_NEXT];
+        if (!answer[CAPELLANOTE_STEP_ITEM]) {
+            printf("end %lu", from);
+            return;
+        }
+        printf("item");
+        for (size k = CAPELLANOTE_STEP_NAME; k <= CAPELLANOTE_STEP_LINES; k++)
+            printf(" %lu", answer[k]);
+        printf(" ");
+    }
+}
+
 /* RECORDS LINES ENDED ROOM SIZE */
 static void feed_case(const size *n)
 {
@@ -463,6 +484,7 @@ static const struct { const char *word; void (*answer)(const size *); size count
     { "pieces ", pieces_case, 4, { 255, ROWS, ROWS, MOST } },
     { "next ", next_case, 6, { ANY, ANY, ANY, ROWS, ROWS, MOST } },
     { "fetch ", fetch_case, 2, { MOST, MOST } },
+    { "items ", items_case, 2, { ANY, MOST } },
     { "feed ", feed_case, 5, { ANY, ANY, 1, I32, MOST } },
     { "write ", write_case, 10, { I32, I32, I32, ROWS, ROWS, ROWS, ROWS, MOST, MOST, ROOM - 1 } },
     { "copy ", copy_case, 5, { 255, ROWS, ROWS, ROOM - 1, MOST } },

@@ -22,7 +22,7 @@ import stock_tests
 import tally_tests
 import writer_tests
 from counter import counter_line
-from ctfile import check, fetch, read_record
+from ctfile import check, fetch, item_at, read_record
 from expect import FAILURES, expect
 from limit import LIMIT, WIDEST
 from samples import FILL, LINES, MOLFILE, SAMPLE, edit, read, tables
@@ -204,6 +204,11 @@ def good_by_hand():
     start, end = fetch(double, b"LOT")[1:]
     expect("first item of a name, all its lines", double[start:end], b"1\n2")
     expect("an item without values", fetch(double, b"E"), ("found", 0, 0))
+    expect("steps", [item_at(double, at) for at in (244, 258, 270, 277)],
+           [("item", 248, 251, 253, 256, 258, 4), ("item", 261, 264, 266, 267, 269, 3), ("refused", 16, 1, 1), ("end", 282)])
+    expect("a name of one space", item_at(b">  < >\n\n", 0), ("item", 4, 5, 0, 0, 8, 2))
+    expect("steps refused", [item_at(text, 0) for text in (b"", b"> <A>", b"> <A>\nv\n", b"> <A>\n$$$$\n", b"$$$$ x\n")],
+           [("refused", 19, 1, 1), ("refused", 19, 1, 1), ("refused", 19, 3, 1), ("refused", 17, 2, 1), ("refused", 16, 1, 1)])
 
 
 def counting():

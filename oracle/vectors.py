@@ -14,7 +14,7 @@ import sys
 from collections import Counter
 
 from cases import (MOST_ROOM, OPERATIONS, Reader, answers, catalogue_case, changes_case, check_case, copy_case, feed_case, fetch_case,
-                   formula_case, mend_case, next_case, pieces_case, read_case, replay_case, tally_case,
+                   formula_case, items_case, mend_case, next_case, pieces_case, read_case, replay_case, tally_case,
                    write_case)
 from changed import any_pair, fixed_pairs
 from counter import BUFFER, MOST
@@ -47,13 +47,14 @@ STORED = {                  # seed, cases, operations
     "next": (1, 400, ("next",)), "replay": (11, 700, ("replay",)),
     "formula": (1, 430, ("formula",)), "pieces": (1, 360, ("pieces",)),
     "mend": (1, 700, ("mend",)), "tally": (1, 500, ("tally",)),
-    "changes": (1, 340, ("changes",))}
+    "changes": (1, 340, ("changes",)), "items": (1, 330, ("items",))}
 LINES = {*range(3, 18), 19}  # refusals that a record of an SDfile can meet
 NUMBERS = {
     "check": {1, 18} | LINES, "read": {1, 2, 18, 35} | LINES, "fetch": {22} | LINES,
     "write": {2, 3, 4, 5, 16, 17, 18, 19, 20, 21}, "catalogue": {2, 20} | LINES, "copy": {1, 2, 18, 20} | LINES,
     "feed": LINES, "next": {2} | LINES, "replay": set(range(26, 31)),
-    "formula": {2, 22, 31, 32, 33, 34} | LINES, "pieces": {1, 2, 18} | LINES, "mend": {38, 39} | LINES, "tally": {2, 23, 24, 25} | LINES, "changes": {2, 36, 37, 39}}
+    "formula": {2, 22, 31, 32, 33, 34} | LINES, "pieces": {1, 2, 18} | LINES, "mend": {38, 39} | LINES, "tally": {2, 23, 24, 25} | LINES, "changes": {2, 36, 37, 39},
+    "items": {3, 4, 16, 17, 19}}
 SWEEP_LINES = {
     b"counts": b"  2  1  0  0  0  0  0  0  0  0999 V2000",
     b"atom": b"    1.2500   -0.8250    0.0000 O   0  5  0  0  0  0  0  0  0  0  0  0",
@@ -154,6 +155,42 @@ def make_fetch(rng):
     elif choice < 0.4:
         data = to_bytes(rng, aimed_file(rng, 1).rows)
     return fetch_case(name, data)
+
+
+def make_items(rng):
+    """The items of a record, from where they start, from a line of it, or from any byte; at times damaged."""
+    draft = draft_record(rng, 0, items=rng.choice([0, 1, 2, 3, 5]))
+    data = to_bytes(rng, record_rows(rng, draft, 1))
+    sheet, choice = Sheet(data), rng.random()
+    at = record_at(sheet, 0, SDFILE).items_start
+    data = data[at:] if choice < 0.5 else data
+    at = 0 if choice < 0.5 else at
+    data += rng.choice([b"", b"", b"\xff", b"t\n"])
+    choice = rng.random()
+    if choice < 0.1:
+        at = rng.randrange(len(data) + 3)
+    elif choice < 0.2:
+        at = rng.choice([line.start for line in sheet.lines])
+    elif choice < 0.6:
+        data = data[:at] + blind(rng, data[at:])
+    elif choice < 0.7:
+        data = data[:rng.randrange(at, len(data) + 1)]
+    return items_case(at, data)
+
+
+def items_cases():
+    """Every refusal at the lines of an item, and places that no walk comes to."""
+    for _, line, _, data in small_refusals():
+        if line > 11:
+            yield items_case(Sheet(data).starts_at(11), data)
+    for byte in (b"\t", b"\r", b"\x7f"):
+        for data in (b">  <A%s>\n\n", b">  <A>\n v%s\n\n", b">  <A>\nv\n%s \n", b"$$$$ %s \n"):
+            yield items_case(3, b"xx\n" + data % byte)
+    good = b"> <A>\n\n>   < >  \r\n 1\r\n\r\n>  <LOT>\n00417\n\n 2\n   \n$$$$ \n"
+    for at in (*range(len(good) + 2), MOST):
+        yield items_case(at, good)
+    for data in (b"$$$$", b"$$$$\n", b"> <A>", b"> <A>\n", b"> <A>\nv", b"> <A>\nv\n", b"> <A>\nv\n\n", b"> <A>\n" + b" " * 200 + b"\n$$$$\n"):
+        yield items_case(0, data)
 
 
 def spoil_tables(rng, truth):
@@ -543,14 +580,14 @@ def operation_of(case):
 MAKERS = [make_check] * 35 + [make_read] * 25 + [make_fetch] * 10 + [make_write] * 22 + [
     make_catalogue] * 8 + [make_copy] * 15 + [make_feed] * 15 + [make_next] * 12 + [make_replay] * 15 + [
     make_formula] * 12 + [make_pieces] * 12 + [make_mend] * 15 + [make_tally] * 12 + [
-    make_changes] * 12
+    make_changes] * 12 + [make_items] * 12
 
 
 def case_list(seed, count, operations):
     rng = random.Random(seed)
     cases = list(fixed_cases(rng)) + list(sweeps(rng, count // 6)) + list(spelled_cases(rng, count // 6))
     cases += [*sample_cases(), *coded_cases(), *repeat_cases(), *formula_cases(), *pieces_cases(), *mend_cases(rng), *tally_cases(), *changes_cases(rng),
-              *small_cases()]
+              *small_cases(), *items_cases()]
     cases = [case for case in cases if operation_of(case) in operations]
     makers = [make for make in MAKERS if make.__name__[5:] in operations]
     rng = random.Random(seed)           # anew, so that what stands before does not change what is drawn

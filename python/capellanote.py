@@ -32,6 +32,7 @@ def _load():
             ("check", byte + text + answer),
             ("next", text + 3 * size + 2 * table + answer),
             ("find", 2 * text + answer),
+            ("item", text + size + answer),
             ("feed", 2 * size + text + byte + size + answer),
             ("write_record", 2 * table + 3 * count + 3 * text + answer),
     ):
@@ -106,17 +107,20 @@ def _lines(text):
     return [line[:-1] if line.endswith(b"\r") else line for line in text.split(b"\n")[:-1]]
 
 
-def _items(text):
-    """The items of an accepted record: header lines, value lines and the blank line after them."""
-    items, lines = [], iter(_lines(text))
-    for header in lines:
-        values = []
-        for value in lines:
-            if not value.strip(b" "):
-                break
-            values.append(value)
-        items.append((header[header.index(b"<") + 1:header.rindex(b">")], values))
-    return items
+def _values(record, start, end):
+    return _lines(record[start:end] + b"\n") if end else []
+
+
+def _items(record, at):
+    """The items of an accepted record, from where they start."""
+    items, answer = [], (ctypes.c_uint64 * 8)()
+    while True:
+        _library.capellanote_item(record, len(record), at, answer)
+        _accepted(answer)
+        if not answer[1]:
+            return items
+        items.append((record[answer[2]:answer[3]], _values(record, answer[4], answer[5])))
+        at = answer[6]
 
 
 def _rows(table, count, places):
@@ -143,7 +147,7 @@ def _walk(text):
             return
         record = text[start:answer[9]]
         yield Record(_lines(record[:answer[6]]), answer[3], _rows(atoms, answer[1], ATOM), _rows(bonds, answer[2], BOND),
-                     _items(record[answer[7]:answer[8]]), answer[11], line, record)
+                     _items(record, answer[7]), answer[11], line, record)
 
 
 def fetch(record, name):
@@ -153,7 +157,7 @@ def fetch(record, name):
     if answer[0] == 22:
         return None
     _accepted(answer)
-    return _lines(record[answer[1]:answer[2]] + b"\n") if answer[2] else []
+    return _values(record, answer[1], answer[2])
 
 
 def _table(rows, places, kind):

@@ -17,7 +17,7 @@ static void show(const capellanote_byte *items, capellanote_size from, capellano
 
 int main(int count, char **words)
 {
-    capellanote_size next[13] = { 0 };
+    capellanote_size next[13] = { 0 }, end[8];
     int file = count == 2 ? open(words[1], 0) : -1;
     long length = file < 0 ? -1 : read(file, text, sizeof text);
     while (length >= 0) {
@@ -36,7 +36,8 @@ int main(int count, char **words)
             show(items, item.values, item.values_end);
             printf("\n");
         }
-        if (item.next != size)
+        capellanote_item(record, next[CAPELLANOTE_READ_BYTES], next[CAPELLANOTE_READ_ITEMS_END], end);
+        if (item.next != size || end[CAPELLANOTE_REFUSED] || end[CAPELLANOTE_STEP_ITEM] || end[CAPELLANOTE_STEP_NEXT] != next[CAPELLANOTE_READ_BYTES])
             return 3;
     }
     return 2;

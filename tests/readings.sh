@@ -38,6 +38,9 @@ rest = size - len(head) - 5 - 7 * items
 put("grows.sdf", head + b"> <N>\n\n" * (items - 1) + b"> <N" + b"N" * rest + b">\n\n" + b"$$$$\n")
 # Header lines that look like a record's last line.
 put("dollars.sdf", (b"a\n$$$$\n$$$$  \n" + head[3:] + b"> <A>\n$$$\n\n$$$$ \n") * 2)
+# Header lines that look like items, names within values, the name again, no values, no items, both line ends.
+put("arrows.sdf", (b">  <A>\n> <A>\n>\n" + head[3:] + b"> <B>\n<A>\n>  <A\nA\n\n>   <A>  \r\n 1\r\n>2\n   \n> <A>\nlater\n\n$$$$\n"
+                   + b">\n$\n\n" + head[3:] + b"$$$$  \r\n" + head.replace(b"\n", b"\r\n") + b"> <A>\r\n\r\n> <A>\nx\n\n$$$$\n") * 3)
 END
 
 wrote() { # EXPECTED COMMAND...

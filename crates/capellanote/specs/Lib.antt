@@ -2,6 +2,7 @@ pub mod Answer
 pub mod Check
 pub mod Read
 pub mod Find
+pub mod Items
 pub mod Write
 pub mod Copy
 pub mod Catalogue

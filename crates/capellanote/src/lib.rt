@@ -2,6 +2,7 @@
 // What an array holds is said by a definition over the judge's answer, and what it tells by the promise in the words of the rules.
 mod compare;
 mod formula;
+mod items;
 mod mend;
 mod pieces;
 mod replay;

@@ -8,7 +8,6 @@ use program_json_rows::BONDS;
 use program_verdict::Verdict;
 pub use record::Ends;
 pub use record::first_end;
-use rules::LISTED;
 
 // Every record as JSON; the item of a name; the canonical text; the pieces; the formula against the atoms.
 pub enum Task {
@@ -146,12 +145,11 @@ fn write_records(
 ) -> Verdict {
     let mut atoms = [0i32; ATOMS];
     let mut bonds = [0i32; BONDS];
-    let mut listed = [0u32; LISTED];
     let mut pass = begin(way);
     let mut turns = u64::MAX;
     while turns > 0 {
         let s = program_json::part(buf, pass.at, pass.filled);
-        let stepped = record::put_next(pass, item, s, room, &mut atoms, &mut bonds, &mut listed);
+        let stepped = record::put_next(pass, item, s, room, &mut atoms, &mut bonds);
         match read_on(fd, buf, pass, stepped) {
             Stepped::Next(p) => {
                 pass = p;

@@ -1,8 +1,4 @@
 // One record of the second reading, written.
-ghost use mathlib.Core.Path.{_≡_};
-ghost use Prim.Native.Nat.{suc, _*_};
-ghost use lib.ListN.{length};
-ghost use Rattle.rules.specs.Record.{limit};
 use crate::Pass;
 use crate::Stepped;
 use crate::Task;
@@ -16,10 +12,9 @@ use program_json::Reading;
 use program_json_rows::ATOMS;
 use program_json_rows::BONDS;
 use program_verdict::Verdict;
-use reader_item::Found;
+use reader_look::Looked;
 use reader_record::RecordRead;
 use rules::LIMIT;
-use rules::LISTED;
 use text::LineAt;
 use writer_copy::Copied;
 
@@ -201,61 +196,25 @@ pub fn first_end(s: &[u8]) -> Ends {
     Ends::Beyond
 }
 
-// The item of a record that is wholly there: it is judged again, and sought, in one walk.
-fn put_found(
-    pass: Pass,
-    item: &[u8],
-    record: &[u8],
-    lines: usize,
-    room: &mut [u8],
-    listed: &mut [u32; LISTED],
-) -> Stepped
-    requires { ⌜ length (now listed) ≡ 3 * suc limit ⌝ }
-    ensures { λ r. ⌜ length (now (listed .exit)) ≡ 3 * suc limit ⌝ }
-{
+// The item of the record at the front of s. The record was judged at the first reading, so that it is only looked through.
+fn put_item(pass: Pass, item: &[u8], s: &[u8], room: &mut [u8]) -> Stepped {
     let place = place_of(pass);
-    match reader_item::find_listed(record, item, listed) {
-        Found::Item { from, to } => {
-            let out = program_json::put_item(pass.out, room, place, record, from, to);
-            behind(pass, record.len(), lines, out)
-        }
-        Found::Refused {
-            no,
-            line: _,
-            column: _,
+    match reader_look::look(s, item) {
+        Looked::Item {
+            from,
+            to,
+            length,
+            lines,
         } => {
-            if no == 22 {
-                let out = program_json::put_missing(pass.out, room, place);
-                behind(pass, record.len(), lines, out)
-            } else {
-                Stepped::Failed(Verdict::Changed)
-            }
+            let out = program_json::put_item(pass.out, room, place, s, from, to);
+            behind(pass, length, lines, out)
         }
-    }
-}
-
-fn put_item(
-    pass: Pass,
-    item: &[u8],
-    s: &[u8],
-    room: &mut [u8],
-    listed: &mut [u32; LISTED],
-) -> Stepped
-    requires { ⌜ length (now listed) ≡ 3 * suc limit ⌝ }
-    ensures { λ r. ⌜ length (now (listed .exit)) ≡ 3 * suc limit ⌝ }
-{
-    match first_end(s) {
-        Ends::At { length, lines } => {
-            put_found(
-                pass,
-                item,
-                program_io::front(s, length),
-                lines,
-                room,
-                listed,
-            )
+        Looked::Missing { length, lines } => {
+            let out = program_json::put_missing(pass.out, room, place);
+            behind(pass, length, lines, out)
         }
-        Ends::Beyond => Stepped::Short,
+        Looked::Beyond => Stepped::Short,
+        Looked::Other => Stepped::Failed(Verdict::Changed),
     }
 }
 
@@ -448,14 +407,10 @@ pub fn put_next(
     room: &mut [u8],
     atoms: &mut [i32; ATOMS],
     bonds: &mut [i32; BONDS],
-    listed: &mut [u32; LISTED],
-) -> Stepped
-    requires { ⌜ length (now listed) ≡ 3 * suc limit ⌝ }
-    ensures { λ r. ⌜ length (now (listed .exit)) ≡ 3 * suc limit ⌝ }
-{
+) -> Stepped {
     match next_of(pass, s.len()) {
         Next::Read => put_reading(pass, s, room, atoms, bonds),
-        Next::Fetch => put_item(pass, item, s, room, listed),
+        Next::Fetch => put_item(pass, item, s, room),
         Next::Copy => put_copy(pass, s, room, atoms, bonds),
         Next::Split => put_split(pass, s, room, atoms, bonds),
         Next::Compare => put_formula(pass, s, room, atoms, bonds),

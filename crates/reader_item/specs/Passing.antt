@@ -15,6 +15,7 @@ use Rattle.rules.specs.Record.{Values}
 use Rattle.judge_line.specs.Got.{Got, got}
 use Rattle.judge_line.specs.Judge.{isClose, itemOf, ValueOrBlank, value, blank, valueOf}
 use Rattle.judge_line.specs.AgreeItem.{title-is, close-is}
+use Rattle.judge_line.specs.AgreeText.{none-of}
 use Rattle.line_judged.specs.Known.{Standing, HeaderOrEnd, Header, Named}
 use Rattle.judge_file.specs.WalkText.{afterLines, after-none}
 use Rattle.reader_walk.specs.Walking.{after-more}
@@ -28,29 +29,15 @@ use Rattle.reader_item.specs.NeverRefused.{values-stand, values-line, va
 -- ---- A name held against another
 
 module _ (found name : Bytes) where
-  differ : (t : Bool) → sameBytes found name ≡ t → (length found ≡ length name → ⊥) → Title.Other ≡ cond t Title.Named Title.Other
-  differ true h k = absurd (k (ap length (same-bytes found name .0 h)))
-  differ false h k = refl
-
-  pub titled-short : (length found ≡ length name → ⊥) → Title.Other ≡ titledAs found name
-  unfolding titledAs
-  titled-short h = differ (sameBytes found name) refl h
+  pub name-differs : (length found ≡ length name → ⊥) → false ≡ sameBytes found name
+  name-differs h = sym (none-of (sameBytes found name) (same-bytes found name .0) (λ e. h (ap length e)))
 
   -- as long as each other, they are compared column by column
-  text-is : length found ≡ length name → hasText found 1 name ≡ sameBytes found name
+  pub name-compared : (b : Bool) → length found ≡ length name → b ≡ hasText found 1 name → b ≡ sameBytes found name
   unfolding hasText
-  text-is h = ap (λ (k : ℕ). sameBytes (columnsFor found 1 k) name) (sym h) ∙ ap (λ (x : Bytes). sameBytes x name) (columns-whole found)
+  name-compared b h e = e ∙ ap (λ (k : ℕ). sameBytes (columnsFor found 1 k) name) (sym h) ∙ ap (λ (x : Bytes). sameBytes x name) (columns-whole found)
 
-  module _ (b : Bool) (h : length found ≡ length name) (e : b ≡ hasText found 1 name) where
-    pub titled-same : b ≡ true → Title.Named ≡ titledAs found name
-    unfolding titledAs
-    titled-same k = rw (sym (text-is h), sym e, k)
-
-    pub titled-other : b ≡ false → Title.Other ≡ titledAs found name
-    unfolding titledAs
-    titled-other k = rw (sym (text-is h), sym e, k)
-
-pub ruleset name-laws = (titled-short, titled-same, titled-other)
+pub ruleset name-laws = (name-differs, name-compared)
 
 -- a data header or the end of the record
 module _ (line name : Bytes) (g : HeaderOrEnd line) (b : Bool) (e : b ≡ isClose line) where
@@ -72,11 +59,18 @@ module _ (line name : Bytes) (from to : ℕ) (d : Named line from to) where
   pub name-inside : to ≤ length line
   name-inside = d .inside
 
-  pub line-titled : (t : Title) → t ≡ titledAs (take (to - from) (drop from line)) name → t ≡ titleBy name (itemOf line)
-  unfolding titleBy
-  line-titled t h = h ∙ ap (titleBy name) (sym (title-is line (take (to - from) (drop from line)) (d .is)))
+  module _ (b : Bool) (e : b ≡ sameBytes (take (to - from) (drop from line)) name) where
+    titled : titleBy name (itemOf line) ≡ cond b Title.Named Title.Other
+    unfolding titleBy titledAs
+    titled = ap (titleBy name) (title-is line (take (to - from) (drop from line)) (d .is)) ∙ ap (λ (t : Bool). cond t Title.Named Title.Other) (sym e)
 
-pub ruleset title-laws = (line-closed, line-header, name-order, name-inside, line-titled)
+    pub line-named : b ≡ true → Title.Named ≡ titleBy name (itemOf line)
+    line-named h = sym (titled ∙ ap (λ (t : Bool). cond t Title.Named Title.Other) h)
+
+    pub line-other : b ≡ false → Title.Other ≡ titleBy name (itemOf line)
+    line-other h = sym (titled ∙ ap (λ (t : Bool). cond t Title.Named Title.Other) h)
+
+pub ruleset title-laws = (line-closed, line-header, name-order, name-inside, line-named, line-other)
 
 -- ---- The value lines of an item
 

@@ -2,11 +2,12 @@
 ghost use mathlib.Core.Path.{_≡_};
 ghost use Prim.Native.Nat.{_*_, _≤_};
 ghost use lib.ListN.{length};
+ghost use Rattle.text.specs.Find.{sameBytes};
 ghost use Rattle.rules.specs.Record.{atomPlaces, bondPlaces};
 ghost use Rattle.judge_line.specs.Judge.{itemOf};
 ghost use Rattle.line_property.specs.Listed.{places};
 ghost use Rattle.line_judged.specs.Known.{HeaderOrEnd};
-ghost use Rattle.reader_item.specs.Find.{titledAs, titleBy, valuesAt, numbersOf, foundOf, stretchOf, ItemsStart, ValuesFrom};
+ghost use Rattle.reader_item.specs.Find.{titleBy, valuesAt, numbersOf, foundOf, stretchOf, ItemsStart, ValuesFrom};
 ghost use Rattle.reader_item.specs.Promise.{Promised, Handed};
 use reader_walk::Walked;
 use rules::ATOMS;
@@ -39,17 +40,14 @@ struct Values {
     next: usize,
 }
 
-// The name of a data header, held against the name that is sought: byte for byte.
-fn title_as(found: &[u8], name: &[u8]) -> Title
-    ensures { λ r. ⌜ r ≡ titledAs (now (found .entry)) (now (name .entry)) ⌝ }
+// Whether a name is the one that is sought: byte for byte.
+pub fn same_name(found: &[u8], name: &[u8]) -> bool
+    ensures { λ r. ⌜ r ≡ sameBytes (now (found .entry)) (now (name .entry)) ⌝ }
 {
     if found.len() != name.len() {
-        return Title::Other;
+        return false;
     }
-    if text::has_text(found, 1, name) {
-        return Title::Named;
-    }
-    Title::Other
+    text::has_text(found, 1, name)
 }
 
 // A data header or the `$$$$` line that ends the record.
@@ -63,7 +61,10 @@ fn title_line(line: &[u8], name: &[u8]) -> Title
     let found = line_judged::name_of(line);
     let from = found.from;
     let to = found.to;
-    title_as(&line[from..to], name)
+    if same_name(&line[from..to], name) {
+        return Title::Named;
+    }
+    Title::Other
 }
 
 // The value lines of an item of a good record, which start at position `at`, and the blank line that ends them.
@@ -145,24 +146,15 @@ fn find_with(
     }
 }
 
-// Where the value lines of the first item of a name stand in the record that the bytes begin with, by a lent table of listed numbers: for callers that go
-// from record to record. Nobody reads the rows, so the compiler lays no tables for them.
-pub fn find_listed(s: &[u8], name: &[u8], listed: &mut [u32; LISTED]) -> Found
-    requires { ⌜ length (now listed) ≡ 3 * places ⌝ }
-    ensures { λ r. ⌜ Promised (now (s .entry)) (now (name .entry)) (numbersOf r) ⌝ }
-    ensures { λ r. ⌜ length (now (listed .exit)) ≡ 3 * places ⌝ }
-{
-    let mut atoms = [0i32; ATOMS];
-    let mut bonds = [0i32; BONDS];
-    find_with(s, name, &mut atoms, &mut bonds, listed)
-}
-
-// The same with a table of its own.
+// Where the value lines of the first item of a name stand in the record that the bytes begin with. Nobody reads the rows, so the compiler lays no tables for
+// them.
 pub fn find_item(s: &[u8], name: &[u8]) -> Found
     ensures { λ r. ⌜ Promised (now (s .entry)) (now (name .entry)) (numbersOf r) ⌝ }
 {
+    let mut atoms = [0i32; ATOMS];
+    let mut bonds = [0i32; BONDS];
     let mut listed = [0u32; LISTED];
-    find_listed(s, name, &mut listed)
+    find_with(s, name, &mut atoms, &mut bonds, &mut listed)
 }
 
 // The stretch that a fetch hands back: the empty one at the start where it is refused.

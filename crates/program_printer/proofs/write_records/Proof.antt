@@ -1,17 +1,14 @@
-use Prim.Native.Nat.{suc, _*_}
 use mathlib.Core.Path.{_≡_}
 use lib.ListN.{length}
 use borrow.Author.Needs.{needs}
-use Rattle.rules.specs.Record.{limit}
 use Rattle.program_printer.proofs.write_records.Statement.{statement}
 use Rattle.program_printer.proofs.write_records.Tie as tie
 
 abbrev Inv-loop : tie.InvT-loop
-Inv-loop item fd buf₀ room₀ records atoms₀ bonds₀ listed₀ pass₀ turns₀ buf room atoms bonds listed pass turns =
-    (length buf ≡ length buf₀) × (length room ≡ length room₀) × (length listed ≡ 3 * suc limit)
+Inv-loop item fd buf₀ room₀ records atoms₀ bonds₀ pass₀ turns₀ buf room atoms bonds pass turns = (length buf ≡ length buf₀) × (length room ≡ length room₀)
 
 abbrev μ-loop : tie.MeasureT-loop
-μ-loop item fd buf₀ room₀ records atoms₀ bonds₀ listed₀ pass₀ turns₀ buf room atoms bonds listed pass turns = turns
+μ-loop item fd buf₀ room₀ records atoms₀ bonds₀ pass₀ turns₀ buf room atoms bonds pass turns = turns
 
 begin-requires : tie.Need-begin-requires Inv-loop μ-loop
 begin-requires c κs = search needs
@@ -77,7 +74,7 @@ loop-less : tie.Need-loop-less Inv-loop μ-loop
 loop-less c = search needs
 
 loop-again : tie.Need-loop-again Inv-loop μ-loop
-loop-again c = search (needs, c .before .before .before .before .before .before .before .before .before .before .before .before .before .before .before .before .before .loop .inv)
+loop-again c = search (needs, c .before .before .before .before .before .before .before .before .before .before .before .before .before .before .before .before .loop .inv)
 
 same-length-7 : tie.Need-same-length-7 Inv-loop μ-loop
 same-length-7 c = search needs

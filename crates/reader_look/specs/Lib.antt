@@ -1,0 +1,4 @@
+pub mod Look
+pub mod Promise
+pub mod Looking
+pub mod Good
