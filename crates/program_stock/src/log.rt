@@ -2,7 +2,6 @@
 use program_io::Filled;
 use program_verdict::Verdict;
 use stock_counts::COUNTS;
-use store_event::Key;
 use store_event::Scan;
 use store_lots::KEYS;
 use store_lots::LOTS;
@@ -38,12 +37,6 @@ pub struct Replayed {
     pub lots: usize,
 }
 
-// The key of a count that stands there.
-enum Counted {
-    Of(Key),
-    Nothing,
-}
-
 impl Pass {
     fn past(self, next: Replay) -> Turn {
         Turn::Next(Pass {
@@ -65,28 +58,24 @@ impl Pass {
     }
 }
 
-fn counted_at(log: &[u8], at: usize) -> Counted {
-    if log.len() <= at {
-        return Counted::Nothing;
-    }
-    match store_event::scan_at(log, at) {
-        Scan::Counted { key, quantity: _ } => Counted::Of(key),
-        _ => Counted::Nothing,
-    }
-}
-
-// A count noted under the lot of the whole store that it is of.
+// The count that stands there, noted under the lot of the whole store that it is of.
 fn note(
-    counted: Counted,
+    log: &[u8],
+    at: usize,
     paper: u32,
     shelf: u16,
     whole: &[u32; KEYS],
     lots: usize,
     counts: &mut [u32; COUNTS],
 ) {
-    match counted {
-        Counted::Of(key) => stock_counts::note(key, paper, shelf, whole, lots, counts),
-        Counted::Nothing => {}
+    if log.len() <= at {
+        return;
+    }
+    match store_event::scan_at(log, at) {
+        Scan::Counted { key, quantity: _ } => {
+            stock_counts::note(key, paper, shelf, whole, lots, counts);
+        }
+        _ => {}
     }
 }
 
@@ -111,8 +100,7 @@ fn take_event(
             difference: _,
             next,
         } => {
-            let counted = counted_at(log, state.at);
-            note(counted, paper, shelf, whole, pass.lots, counts);
+            note(log, state.at, paper, shelf, whole, pass.lots, counts);
             pass.past(next)
         }
         Step::Skipped {
