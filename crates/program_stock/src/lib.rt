@@ -266,6 +266,13 @@ fn announce(good: bool, settled: bool) {
     }
 }
 
+// The totals last, and all that is gathered is written.
+fn finish(out: Out, room: &mut [u8; ROOM], way: Way, totals: [u64; 6], settled: bool) {
+    let told = lines::put_totals(out, room, way, totals);
+    let done = told.flush(room);
+    announce(done.good, settled);
+}
+
 // The catalogue against the store.
 fn join_files(
     way: Way,
@@ -295,9 +302,7 @@ fn join_files(
     let totals = totals_of(lots, written.paper, join);
     let listed = last.out;
     let settled = is_settled(written.apart, join);
-    let told = lines::put_totals(listed, &mut room, way, totals);
-    let done = told.flush(&room);
-    announce(done.good, settled);
+    finish(listed, &mut room, way, totals, settled);
 }
 
 // ---- What is asked
@@ -329,24 +334,20 @@ fn join_log(way: Way, fd: i32, path: &[u8]) {
     }
 }
 
-fn join_path(way: Way, path: &[u8]) {
-    let fd = os::open_read(path);
-    if fd < 0 {
-        program_verdict::tell(path, Verdict::Unreadable);
-        return;
-    }
-    join_log(way, fd, path);
-    libc::close(fd);
-}
-
 fn join_named(way: Way) {
     let mut path = io::buffer();
     let n = os::arg(LOG, &mut path);
-    if os::errno() == 0 {
-        join_path(way, &path[..n]);
-    } else {
+    if os::errno() != 0 {
         program_verdict::tell(b"file name", Verdict::Unreadable);
+        return;
     }
+    let fd = os::open_read(&path[..n]);
+    if fd < 0 {
+        program_verdict::tell(&path[..n], Verdict::Unreadable);
+        return;
+    }
+    join_log(way, fd, &path[..n]);
+    libc::close(fd);
 }
 
 // A number below 1,000; 1,000 for anything else.

@@ -317,8 +317,21 @@ fn number_at(row: Row, digit: u8) -> u64 {
     0
 }
 
-// What stands for a capital letter: supplier and lot with all their bytes, in a line of a table, or their texts; figures in columns, or null where there is
-// none; what is wrong, the file and the record, or a reason. A digit stands for a number.
+// A figure: in a column of the table, or null where there is none; a digit stands for one of the numbers.
+fn put_figure(out: Out, room: &mut [u8], b: u8, row: Row) -> Out {
+    match b {
+        b'P' => out.text(room, cell(row.numbers[0], 9)),
+        b'R' => out.text(room, cell(row.numbers[1], 8)),
+        b'C' => put_count(out, room, row, b"       -", 8),
+        b'D' => put_difference(out, room, row, b"          -", 11, 10),
+        b'I' => put_count(out, room, row, b"null", 0),
+        b'J' => put_difference(out, room, row, b"null", 0, 0),
+        b'N' => put_record(out, room, row),
+        _ => out.text(room, Text::new().number(number_at(row, b))),
+    }
+}
+
+// What stands for a capital letter: supplier and lot with all their bytes, or their texts; the file; what is wrong with a lot; why a record has no key.
 fn put_piece(out: Out, room: &mut [u8], b: u8, way: Way, row: Row) -> Out {
     let key = row.key;
     match b {
@@ -326,17 +339,10 @@ fn put_piece(out: Out, room: &mut [u8], b: u8, way: Way, row: Row) -> Out {
         b'L' => put_bytes(out, room, way.json, program_io::tail(&key, 4)),
         b'T' => put_text(out, room, way, program_io::front(&key, 4)),
         b'U' => put_text(out, room, way, program_io::tail(&key, 4)),
-        b'P' => out.text(room, cell(row.numbers[0], 9)),
-        b'R' => out.text(room, cell(row.numbers[1], 8)),
-        b'C' => put_count(out, room, row, b"       -", 8),
-        b'D' => put_difference(out, room, row, b"          -", 11, 10),
-        b'I' => put_count(out, room, row, b"null", 0),
-        b'J' => put_difference(out, room, row, b"null", 0, 0),
-        b'M' => out.text(room, marked(row)),
         b'F' => put_file(out, room, way.json, row.file),
-        b'N' => put_record(out, room, row),
+        b'M' => out.text(room, marked(row)),
         b'W' => out.text(room, reason(row.numbers[0])),
-        _ => out.text(room, Text::new().number(number_at(row, b))),
+        _ => put_figure(out, room, b, row),
     }
 }
 

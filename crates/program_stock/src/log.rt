@@ -79,14 +79,40 @@ fn note(
     }
 }
 
-fn take_event(
-    log: &[u8],
+// The rest moved to the front, and more read behind it.
+fn refill(buf: &mut [u8; SIZE], pass: Pass) -> Turn {
+    let state = pass.state;
+    let kept = program_io::keep(buf, state.at, pass.filled);
+    match program_io::fill(pass.fd, buf, kept) {
+        Filled::Bytes(n) => Turn::Next(Pass {
+            fd: pass.fd,
+            state: Replay {
+                at: 0,
+                events: state.events,
+                lots: state.lots,
+            },
+            filled: n,
+            ended: n < SIZE,
+            lots: pass.lots,
+        }),
+        Filled::Failed => Turn::Unreadable,
+    }
+}
+
+// The next event, or more of the log.
+fn take_turn(
+    buf: &mut [u8; SIZE],
     keys: &mut [u32; KEYS],
     papers: &mut [u32; LOTS],
     whole: &[u32; KEYS],
     counts: &mut [u32; COUNTS],
     pass: Pass,
 ) -> Turn {
+    let ready = pass.has_event();
+    if !ready {
+        return refill(buf, pass);
+    }
+    let log = program_io::front(buf, pass.filled);
     let state = pass.state;
     match state.next(log, keys, papers) {
         Step::Received { quantity: _, next } => pass.past(next),
@@ -115,41 +141,6 @@ fn take_event(
         },
         Step::End => Turn::End(state),
     }
-}
-
-// The rest moved to the front, and more read behind it.
-fn refill(buf: &mut [u8; SIZE], pass: Pass) -> Turn {
-    let state = pass.state;
-    let kept = program_io::keep(buf, state.at, pass.filled);
-    match program_io::fill(pass.fd, buf, kept) {
-        Filled::Bytes(n) => Turn::Next(Pass {
-            fd: pass.fd,
-            state: Replay {
-                at: 0,
-                events: state.events,
-                lots: state.lots,
-            },
-            filled: n,
-            ended: n < SIZE,
-            lots: pass.lots,
-        }),
-        Filled::Failed => Turn::Unreadable,
-    }
-}
-
-fn take_turn(
-    buf: &mut [u8; SIZE],
-    keys: &mut [u32; KEYS],
-    papers: &mut [u32; LOTS],
-    whole: &[u32; KEYS],
-    counts: &mut [u32; COUNTS],
-    pass: Pass,
-) -> Turn {
-    if pass.has_event() {
-        let log = program_io::front(buf, pass.filled);
-        return take_event(log, keys, papers, whole, counts, pass);
-    }
-    refill(buf, pass)
 }
 
 fn ended(verdict: Verdict, state: Replay) -> Replayed {
