@@ -95,12 +95,9 @@ find_loader() {
     [ -e "$loader" ] || die "$libs has no loader for this machine"
 }
 
-# Two files side by side take 9 MB of stack, one more than is usual; where no more may be had, what is there has to do.
 launch() { # PROGRAM WORDS...
     program=$1
     shift
-    # shellcheck disable=SC3045
-    ulimit -S -s 16384 2>/dev/null || :
     # shellcheck disable=SC2086
     exec $leash ${emulator:+"$emulator"} "$loader" --library-path "$libs" "$bin/$program" "$@"
 }

@@ -1,7 +1,8 @@
-// Two SDfiles compared, record by record, in constant memory: every difference in a line. Both are judged first, so nothing is said of a refused one.
+// Two SDfiles held against each other, record by record, in constant memory: every difference in a line, or the first record that differs. Both are
+// judged first, so nothing is said of a refused one.
 mod lines;
-mod record;
 mod say;
+mod source;
 mod tell;
 
 use compare_record::Numbers;
@@ -11,13 +12,15 @@ use program_io::Out;
 use program_io::Text;
 use program_json_rows::ATOMS;
 use program_json_rows::BONDS;
-use program_pairs::BUFFER;
-use program_pairs::Source;
 use program_verdict::Verdict;
-use record::Next;
-use record::Shape;
-use tell::Form;
+use source::BUFFER;
+use source::Met;
+use source::Shape;
+use source::Source;
+use tell::PATTERNS;
+use tell::ROOM;
 use tell::Told;
+use tell::Way;
 ghost use mathlib.Core.Path.{_≡_};
 ghost use mathlib.Core.Bool.{true};
 ghost use Prim.Native.Nat.{_*_, _≤_, _<_, _^_};
@@ -28,15 +31,40 @@ const WINDOW: usize = 4096;
 
 const LIST: usize = 7 * WINDOW;
 
-// Output is gathered in room of so many bytes.
-const ROOM: usize = 65536;
-
 // What is written, the number of differences, and of places where the files differ; how many places there are.
 struct Sum {
     out: Out,
     differences: u64,
     places: u64,
     records: u64,
+}
+
+impl Sum {
+    fn new() -> Sum {
+        Sum {
+            out: Out::new(libc::STDOUT_FILENO),
+            differences: 0,
+            places: 0,
+            records: 0,
+        }
+    }
+
+    // The number of the next place.
+    fn number(self) -> u64 {
+        program_verdict::plus(self.records, 1)
+    }
+
+    // One place more, with so many differences.
+    fn with(self, out: Out, differences: u64) -> Sum {
+        let mut sum = self;
+        sum.out = out;
+        sum.differences = program_verdict::plus(self.differences, differences);
+        sum.records = self.number();
+        if 0 < differences {
+            sum.places = program_verdict::plus(self.places, 1);
+        }
+        sum
+    }
 }
 
 // ---- A pair of records
@@ -97,150 +125,39 @@ fn list_apart(
                 list,
                 count,
                 position,
-                record::headers_of(s, x),
+                source::headers_of(s, x),
                 a,
                 ta,
                 tb,
-                record::items_of(s, x),
-                record::headers_of(u, y),
+                source::items_of(s, x),
+                source::headers_of(u, y),
                 b,
                 ua,
                 ub,
-                record::items_of(u, y),
+                source::items_of(u, y),
             );
         }
     }
     count
 }
 
-// The place behind a row.
-fn behind_row(at: usize) -> usize {
-    if at < usize::MAX - 7 {
-        return at + 7;
-    }
-    at
-}
-
-// The rows of one window, so many.
-fn put_rows(
-    told: Told,
-    room: &mut [u8],
-    form: Form,
-    list: &[i64],
-    count: usize,
-    s: &[u8],
-    x: Shape,
-    u: &[u8],
-    y: Shape,
-) -> Told {
-    let mut next = told;
-    let mut left = count;
-    let mut at: usize = 0;
-    while left > 0 {
-        if list.len() <= at {
-            return next;
-        }
-        next = tell::put_row(next, room, form, say::row_at(list, at), s, x, u, y);
-        at = behind_row(at);
-        left -= 1;
-    }
-    next
-}
-
-fn plus(a: u64, b: u64) -> u64 {
-    if u64::MAX - a < b {
-        return u64::MAX;
-    }
-    a + b
-}
-
-// Behind a window.
-fn passed(skip: usize) -> usize {
-    if skip < usize::MAX - WINDOW {
-        return skip + WINDOW;
-    }
-    skip
-}
-
-impl Sum {
-    fn new() -> Sum {
-        Sum {
-            out: Out::new(libc::STDOUT_FILENO),
-            differences: 0,
-            places: 0,
-            records: 0,
+// How many differences of a pair are told, where there are so many.
+fn rows_of(way: Way, seen: usize) -> usize {
+    if way.first {
+        if seen > 1 {
+            return 1;
         }
     }
-
-    // One place more, with so many differences.
-    fn with(self, out: Out, differences: u64) -> Sum {
-        let mut sum = self;
-        sum.out = out;
-        sum.differences = plus(self.differences, differences);
-        sum.records = plus(self.records, 1);
-        if 0 < differences {
-            sum.places = plus(self.places, 1);
-        }
-        sum
-    }
-
-    // Before the differences of a pair.
-    fn begun(self) -> Told {
-        let out = self.out;
-        Told {
-            out,
-            old: Spot::new(),
-            new: Spot::new(),
-        }
-    }
-
-    // Behind a pair, of which so many differences were written in windows before the last, and so many in that.
-    fn told(self, told: Told, before: usize, last: usize) -> Sum {
-        let out = told.out;
-        self.with(out, plus(before as u64, last as u64))
-    }
-
-    // The number of the next place.
-    fn number(self) -> u64 {
-        plus(self.records, 1)
-    }
+    seen
 }
 
-// What is written behind a window, and how many differences it would take.
-struct Window {
-    told: Told,
-    seen: usize,
-}
-
-fn put_window(
-    told: Told,
-    room: &mut [u8; ROOM],
-    list: &mut [i64; LIST],
-    form: Form,
-    skip: usize,
-    position: usize,
-    s: &[u8],
-    x: Shape,
-    ta: &[i32; ATOMS],
-    tb: &[i32; BONDS],
-    u: &[u8],
-    y: Shape,
-    ua: &[i32; ATOMS],
-    ub: &[i32; BONDS],
-) -> Window {
-    let count = list_apart(list, skip, position, s, x, ta, tb, u, y, ua, ub);
-    Window {
-        told: put_rows(told, room, form, list, count.seen, s, x, u, y),
-        seen: count.seen,
-    }
-}
-
-// Every difference of a pair, window after window. Turns are counted so that the loop ends, and no run uses them up.
+// The differences of a pair, window after window. Turns are counted so that the loop ends, and no run uses them up.
 fn put_pair(
     sum: Sum,
     room: &mut [u8; ROOM],
     list: &mut [i64; LIST],
-    form: Form,
+    way: Way,
+    patterns: &[u8],
     s: &[u8],
     x: Shape,
     ta: &[i32; ATOMS],
@@ -251,61 +168,34 @@ fn put_pair(
     ub: &[i32; BONDS],
 ) -> Sum {
     let position = sum.number() as usize;
-    let mut told = sum.begun();
+    let begun = sum.out;
+    let mut told = Told {
+        out: begun,
+        old: Spot::new(),
+        new: Spot::new(),
+    };
     let mut skip: usize = 0;
     let mut turns = u64::MAX;
     while turns > 0 {
         turns -= 1;
-        let window = put_window(
-            told,
-            room,
-            list,
-            form,
-            skip,
-            position,
-            s,
-            x,
-            ta,
-            tb,
-            u,
-            y,
-            ua,
-            ub,
-        );
-        told = window.told;
-        if window.seen <= WINDOW {
-            return sum.told(told, skip, window.seen);
+        let count = list_apart(list, skip, position, s, x, ta, tb, u, y, ua, ub);
+        let rows = rows_of(way, count.seen);
+        told = tell::put_rows(told, room, patterns, way.json, list, rows, s, x, u, y);
+        if rows <= WINDOW {
+            return sum.with(told.out, lines::plus(skip, rows) as u64);
         }
-        skip = passed(skip);
+        skip = lines::plus(skip, WINDOW);
     }
-    sum.told(told, skip, 0)
-}
-
-// A record on one side only.
-fn put_alone(sum: Sum, room: &mut [u8; ROOM], form: Form, side: u64, s: &[u8], x: Shape) -> Sum {
-    let begun = sum.out;
-    let out = tell::put_alone(begun, room, form, sum.number(), side, s, x);
-    sum.with(out, 1)
+    sum.with(told.out, skip as u64)
 }
 
 // ---- Two files
 
-// What stands at one place of both files, or what ends the walk.
+// What stands at one place of both files: a record in both, or in the first or the second only; or what ends the walk.
 enum Turn {
-    Both {
-        a: Source,
-        x: Shape,
-        b: Source,
-        y: Shape,
-    },
-    Left {
-        a: Source,
-        x: Shape,
-    },
-    Right {
-        b: Source,
-        y: Shape,
-    },
+    Both,
+    Left,
+    Right,
     Over,
     LeftFailed(Verdict),
     RightFailed(Verdict),
@@ -317,115 +207,51 @@ enum Found {
     RightFailed(Verdict),
 }
 
-// The left file has a record.
-fn left_goes(a: Source, x: Shape, right: Next) -> Turn {
+// By what was met in the second file, and what to do where that has a record, or none.
+fn by_right(right: Met, record: Turn, end: Turn) -> Turn {
     match right {
-        Next::Record { source, shape } => Turn::Both {
-            a,
-            x,
-            b: source,
-            y: shape,
-        },
-        Next::End => Turn::Left { a, x },
-        Next::Short => Turn::RightFailed(Verdict::Changed),
-        Next::Failed(v) => Turn::RightFailed(v),
+        Met::Record => record,
+        Met::End => end,
+        Met::Short => Turn::RightFailed(Verdict::Changed),
+        Met::Failed(v) => Turn::RightFailed(v),
     }
 }
 
-// The left file has no more records.
-fn left_ended(right: Next) -> Turn {
-    match right {
-        Next::Record { source, shape } => Turn::Right {
-            b: source,
-            y: shape,
-        },
-        Next::End => Turn::Over,
-        Next::Short => Turn::RightFailed(Verdict::Changed),
-        Next::Failed(v) => Turn::RightFailed(v),
-    }
-}
-
-fn turn_of(left: Next, right: Next) -> Turn {
+fn turn_of(left: Met, right: Met) -> Turn {
     match left {
-        Next::Record { source, shape } => left_goes(source, shape, right),
-        Next::End => left_ended(right),
-        Next::Short => Turn::LeftFailed(Verdict::Changed),
-        Next::Failed(v) => Turn::LeftFailed(v),
+        Met::Record => by_right(right, Turn::Both, Turn::Left),
+        Met::End => by_right(right, Turn::Right, Turn::Over),
+        Met::Short => Turn::LeftFailed(Verdict::Changed),
+        Met::Failed(v) => Turn::LeftFailed(v),
     }
 }
 
-// Both files behind a turn.
-struct Sources {
-    left: Source,
-    right: Source,
-}
-
-fn behind(turn: Turn, left: Source, right: Source) -> Sources {
-    match turn {
-        Turn::Both { a, x: _, b, y: _ } => Sources { left: a, right: b },
-        Turn::Left { a, x: _ } => Sources { left: a, right },
-        Turn::Right { b, y: _ } => Sources { left, right: b },
-        _ => Sources { left, right },
-    }
-}
-
-fn put_turn(
+// A record on one side only.
+fn put_alone(
     sum: Sum,
     room: &mut [u8; ROOM],
-    list: &mut [i64; LIST],
-    form: Form,
-    turn: Turn,
-    left: &[u8; BUFFER],
-    ta: &[i32; ATOMS],
-    tb: &[i32; BONDS],
-    right: &[u8; BUFFER],
-    ua: &[i32; ATOMS],
-    ub: &[i32; BONDS],
+    patterns: &[u8],
+    json: bool,
+    side: u64,
+    s: &[u8],
+    x: Shape,
 ) -> Sum {
-    match turn {
-        Turn::Both { a: _, x, b: _, y } => {
-            let s = record::bytes_of(left, x);
-            let u = record::bytes_of(right, y);
-            put_pair(sum, room, list, form, s, x, ta, tb, u, y, ua, ub)
-        }
-        Turn::Left { a: _, x } => {
-            let s = record::bytes_of(left, x);
-            put_alone(sum, room, form, 1, s, x)
-        }
-        Turn::Right { b: _, y } => {
-            let u = record::bytes_of(right, y);
-            put_alone(sum, room, form, 2, u, y)
-        }
-        _ => sum,
-    }
-}
-
-// The next record of either file, read into its tables.
-fn read_both(
-    a: Source,
-    b: Source,
-    left: &mut [u8; BUFFER],
-    right: &mut [u8; BUFFER],
-    ta: &mut [i32; ATOMS],
-    tb: &mut [i32; BONDS],
-    ua: &mut [i32; ATOMS],
-    ub: &mut [i32; BONDS],
-) -> Turn {
-    let l = record::next_record(a, left, ta, tb);
-    let r = record::next_record(b, right, ua, ub);
-    turn_of(l, r)
+    let begun = sum.out;
+    let out = tell::put_alone(begun, room, patterns, json, sum.number(), side, s, x);
+    sum.with(out, 1)
 }
 
 // The two files, opened.
 struct Open {
     first: i32,
     second: i32,
+    way: Way,
 }
 
 // The second reading of both, from their starts.
 fn hold(
     open: Open,
-    form: Form,
+    patterns: &[u8],
     left: &mut [u8; BUFFER],
     right: &mut [u8; BUFFER],
     room: &mut [u8; ROOM],
@@ -439,10 +265,43 @@ fn hold(
     let mut b = Source::new(open.second);
     let mut sum = Sum::new();
     let mut turns = u64::MAX;
+    let way = open.way;
     while turns > 0 {
         turns -= 1;
-        let turn = read_both(a, b, left, right, &mut ta, &mut tb, &mut ua, &mut ub);
-        match turn {
+        let l = a.next(left, &mut ta, &mut tb);
+        let r = b.next(right, &mut ua, &mut ub);
+        a = l.source;
+        b = r.source;
+        let x = l.shape;
+        let y = r.shape;
+        let left_met = l.met;
+        let right_met = r.met;
+        let s = source::bytes_of(left, x);
+        let u = source::bytes_of(right, y);
+        match turn_of(left_met, right_met) {
+            Turn::Both => {
+                sum = put_pair(
+                    sum,
+                    room,
+                    &mut list,
+                    way,
+                    patterns,
+                    s,
+                    x,
+                    &ta,
+                    &tb,
+                    u,
+                    y,
+                    &ua,
+                    &ub,
+                );
+            }
+            Turn::Left => {
+                sum = put_alone(sum, room, patterns, way.json, 1, s, x);
+            }
+            Turn::Right => {
+                sum = put_alone(sum, room, patterns, way.json, 2, u, y);
+            }
             Turn::Over => {
                 return Found::Done(sum);
             }
@@ -452,23 +311,10 @@ fn hold(
             Turn::RightFailed(v) => {
                 return Found::RightFailed(v);
             }
-            _ => {
-                sum = put_turn(
-                    sum,
-                    room,
-                    &mut list,
-                    form,
-                    turn,
-                    left,
-                    &ta,
-                    &tb,
-                    right,
-                    &ua,
-                    &ub,
-                );
-                let both = behind(turn, a, b);
-                a = both.left;
-                b = both.right;
+        }
+        if way.first {
+            if sum.places > 0 {
+                return Found::Done(sum);
             }
         }
     }
@@ -485,6 +331,7 @@ fn plural(text: Text, n: u64, word: &[u8]) -> Text {
     counted.byte(b's')
 }
 
+// What people are told besides.
 fn summary(sum: Sum) -> Text {
     if sum.differences == 0 {
         return plural(
@@ -498,125 +345,156 @@ fn summary(sum: Sum) -> Text {
     plural(placed, sum.records, b"record").byte(b'\n')
 }
 
-// People are told a summary.
-fn put_summary(sum: Sum, room: &mut [u8; ROOM], form: Form) -> Out {
-    let out = sum.out;
-    match form {
-        Form::Plain => out.text(room, summary(sum)).flush(room),
-        Form::Json => out.flush(room),
-    }
-}
-
-// What programs read of it.
-fn announce(sum: Sum) {
+// What programs read of it: the number of differences, or of the first record that differs.
+fn announced(sum: Sum, way: Way) -> Text {
     if sum.differences == 0 {
-        Text::new().word(b"same\n").write(program_verdict::CHANNEL);
-    } else {
-        let line = Text::new().word(b"differ ").number(sum.differences);
-        line.byte(b'\n').write(program_verdict::CHANNEL);
+        return Text::new().word(b"same\n");
     }
+    let line = Text::new().word(b"differ ");
+    if way.first {
+        return line.number(sum.records).byte(b'\n');
+    }
+    line.number(sum.differences).byte(b'\n')
 }
 
-fn conclude(sum: Sum, room: &mut [u8; ROOM], form: Form) {
-    let out = put_summary(sum, room, form);
+fn put_summary(sum: Sum, room: &mut [u8; ROOM], way: Way) -> Out {
+    let out = sum.out;
+    if way.json {
+        return out.flush(room);
+    }
+    if way.first {
+        return out.flush(room);
+    }
+    out.text(room, summary(sum)).flush(room)
+}
+
+fn conclude(sum: Sum, room: &mut [u8; ROOM], way: Way) {
+    let out = put_summary(sum, room, way);
     if out.good {
-        announce(sum);
+        announced(sum, way).write(program_verdict::CHANNEL);
     } else {
         program_verdict::tell(b"", Verdict::Unwritten);
     }
 }
 
-fn compare_accepted(
+// ---- What is asked
+
+// The first reading of a file. What has no place to go back to, as a pipe, is not read at all.
+fn judge(fd: i32, buf: &mut [u8; BUFFER], progress: bool) -> Verdict {
+    if libc::lseek(fd, 0, libc::SEEK_CUR) < 0 {
+        return Verdict::Once;
+    }
+    let v = program_verdict::judge(fd, true, buf, progress);
+    if libc::lseek(fd, 0, libc::SEEK_SET) < 0 {
+        return Verdict::Once;
+    }
+    v
+}
+
+// A file's verdict, told; whether it is accepted.
+fn is_accepted(name: &[u8], v: Verdict) -> bool {
+    program_verdict::tell(name, v);
+    match v {
+        Verdict::Accepted { records: _ } => true,
+        _ => false,
+    }
+}
+
+fn hold_accepted(
     first: &[u8],
     second: &[u8],
     open: Open,
-    form: Form,
     left: &mut [u8; BUFFER],
     right: &mut [u8; BUFFER],
 ) {
     let mut room = [0u8; ROOM];
-    match hold(open, form, left, right, &mut room) {
-        Found::Done(sum) => conclude(sum, &mut room, form),
+    let way = open.way;
+    let patterns = tell::patterns_of(&PATTERNS, way);
+    match hold(open, patterns, left, right, &mut room) {
+        Found::Done(sum) => conclude(sum, &mut room, way),
         Found::LeftFailed(v) => program_verdict::tell(first, v),
         Found::RightFailed(v) => program_verdict::tell(second, v),
     }
 }
 
-fn compare_judged(
-    first: &[u8],
-    second: &[u8],
-    open: Open,
-    form: Form,
-    left: &mut [u8; BUFFER],
-    right: &mut [u8; BUFFER],
-) {
-    if program_pairs::is_accepted(first, program_pairs::judge(open.first, left, false)) {
-        if program_pairs::is_accepted(second, program_pairs::judge(open.second, right, false)) {
-            compare_accepted(first, second, open, form, left, right);
+fn hold_open(first: &[u8], second: &[u8], open: Open) {
+    let mut left = [0u8; BUFFER];
+    let mut right = [0u8; BUFFER];
+    let way = open.way;
+    if is_accepted(first, judge(open.first, &mut left, way.progress)) {
+        if is_accepted(second, judge(open.second, &mut right, way.progress)) {
+            hold_accepted(first, second, open, &mut left, &mut right);
         }
     }
 }
 
-fn compare_open(first: &[u8], second: &[u8], open: Open, form: Form) {
-    let mut left = [0u8; BUFFER];
-    let mut right = [0u8; BUFFER];
-    compare_judged(first, second, open, form, &mut left, &mut right);
-}
-
-// The second file, where the first is open.
-fn compare_second(first: &[u8], fd: i32, second: &[u8], form: Form) {
-    let other = os::open_read(second);
-    if other < 0 {
-        program_verdict::tell(second, Verdict::Unreadable);
-        return;
-    }
-    compare_open(
-        first,
-        second,
-        Open {
-            first: fd,
-            second: other,
-        },
-        form,
-    );
-    libc::close(other);
-}
-
-fn compare_names(first: &[u8], second: &[u8], form: Form) {
-    let fd = os::open_read(first);
-    if fd < 0 {
+fn hold_files(first: &[u8], second: &[u8], way: Way) {
+    let a = os::open_read(first);
+    if a < 0 {
         program_verdict::tell(first, Verdict::Unreadable);
         return;
     }
-    compare_second(first, fd, second, form);
-    libc::close(fd);
+    let b = os::open_read(second);
+    if b < 0 {
+        program_verdict::tell(second, Verdict::Unreadable);
+    } else {
+        let open = Open {
+            first: a,
+            second: b,
+            way,
+        };
+        hold_open(first, second, open);
+        libc::close(b);
+    }
+    libc::close(a);
 }
 
-fn compare_with(first: &[u8], i: usize, form: Form) {
+fn hold_with(first: &[u8], i: usize, way: Way) {
     let mut name = io::buffer();
     let n = os::arg(i, &mut name);
     if os::errno() == 0 {
-        compare_names(first, &name[..n], form);
+        hold_files(first, &name[..n], way);
     } else {
         program_verdict::tell(b"file name", Verdict::Unreadable);
     }
 }
 
-fn compare_named(i: usize, j: usize, form: Form) {
+fn hold_named(i: usize, j: usize, way: Way) {
     let mut name = io::buffer();
     let n = os::arg(i, &mut name);
     if os::errno() == 0 {
-        compare_with(&name[..n], j, form);
+        hold_with(&name[..n], j, way);
     } else {
         program_verdict::tell(b"file name", Verdict::Unreadable);
     }
 }
 
 // Perhaps `--json`, then the names of two files: what differs between them.
-pub fn run() {
-    if program_io::is_argument(2, b"--json") {
-        compare_named(3, 4, Form::Json);
+pub fn compare() {
+    let json = program_io::is_argument(2, b"--json");
+    let way = Way {
+        json,
+        first: false,
+        progress: false,
+    };
+    if json {
+        hold_named(3, 4, way);
     } else {
-        compare_named(2, 3, Form::Plain);
+        hold_named(2, 3, way);
+    }
+}
+
+// Perhaps `--progress`, then the names of two files: whether they have the same reading.
+pub fn same() {
+    let progress = program_io::is_argument(2, b"--progress");
+    let way = Way {
+        json: false,
+        first: true,
+        progress,
+    };
+    if progress {
+        hold_named(3, 4, way);
+    } else {
+        hold_named(2, 3, way);
     }
 }

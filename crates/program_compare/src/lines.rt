@@ -1,9 +1,9 @@
-// The lines of a record's header and items, found by their numbers. Differences come in order, so the walk over the items only goes on.
+// Lines found by their numbers. Differences come in order, so the walk over a record's items only goes on.
 use line_text::ItemRead;
 use text::LineAt;
 
-// Header line k; an empty one where there is none.
-pub fn header_line(s: &[u8], k: u64) -> &[u8] {
+// Line k of a text; an empty one where there is none.
+pub fn line_of(s: &[u8], k: u64) -> &[u8] {
     let mut at: usize = 0;
     let mut left = k;
     while left > 0 {
@@ -47,18 +47,11 @@ fn span_of(line: &[u8]) -> Span {
 }
 
 // A sum that stays at the largest number.
-fn sum(a: usize, b: usize) -> usize {
+pub fn plus(a: usize, b: usize) -> usize {
     if usize::MAX - a < b {
         return usize::MAX;
     }
     a + b
-}
-
-fn up(n: u64) -> u64 {
-    if n < u64::MAX {
-        return n + 1;
-    }
-    n
 }
 
 impl Spot {
@@ -81,14 +74,14 @@ impl Spot {
         let start = self.next;
         let name = span_of(program_json::part(s, start, end));
         Spot {
-            item: up(self.item),
+            item: program_verdict::plus(self.item, 1),
             line: 0,
             start,
             end,
             next,
             inside: true,
-            name_from: sum(start, name.from),
-            name_to: sum(start, name.to),
+            name_from: plus(start, name.from),
+            name_to: plus(start, name.to),
         }
     }
 
@@ -101,7 +94,7 @@ impl Spot {
         if text::is_blank(program_json::part(s, self.next, end)) {
             spot.inside = false;
         } else {
-            spot.line = up(self.line);
+            spot.line = program_verdict::plus(self.line, 1);
         }
         spot
     }

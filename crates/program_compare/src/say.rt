@@ -1,6 +1,5 @@
-// A difference in a line for people, or as an object of JSON in a line for programs.
+// A difference as it stands in the list, and its figures in words.
 use field_symbols::SYMBOLS;
-use program_io::Out;
 use program_io::Text;
 
 // One difference, as it stands in the list.
@@ -42,56 +41,6 @@ pub fn row_at(list: &[i64], at: usize) -> Row {
         left: number_at(list, at, 5),
         right: number_at(list, at, 6),
     }
-}
-
-// Names of an atom's numbers, in their order.
-fn atom_field(k: u64) -> Text {
-    let name = Text::new();
-    match k {
-        1 => name.word(b"x"),
-        2 => name.word(b"y"),
-        3 => name.word(b"z"),
-        4 => name.word(b"symbol"),
-        5 => name.word(b"mass_difference"),
-        6 => name.word(b"charge"),
-        7 => name.word(b"radical"),
-        8 => name.word(b"isotope"),
-        _ => query_field(k),
-    }
-}
-
-// The others.
-fn query_field(k: u64) -> Text {
-    let name = Text::new();
-    match k {
-        9 => name.word(b"parity"),
-        10 => name.word(b"hydrogen_count"),
-        11 => name.word(b"care"),
-        12 => name.word(b"valence"),
-        13 => name.word(b"h0"),
-        14 => name.word(b"map"),
-        15 => name.word(b"inversion"),
-        _ => name.word(b"exact"),
-    }
-}
-
-fn bond_field(k: u64) -> Text {
-    let name = Text::new();
-    match k {
-        1 => name.word(b"first"),
-        2 => name.word(b"second"),
-        3 => name.word(b"type"),
-        4 => name.word(b"stereo"),
-        5 => name.word(b"topology"),
-        _ => name.word(b"centre"),
-    }
-}
-
-pub fn field_of(row: Row) -> Text {
-    if row.part == 5 {
-        return atom_field(row.field);
-    }
-    bond_field(row.field)
 }
 
 // A number without its sign.
@@ -142,51 +91,22 @@ fn symbol(text: Text, k: u64) -> Text {
     one.byte(letters[1])
 }
 
-// A figure as people read it.
-pub fn figure(row: Row, v: i64) -> Text {
-    if row.part == 5 {
-        if row.field == 4 {
-            return symbol(Text::new(), natural(v));
-        }
-        if row.field < 4 {
-            return decimal(v);
-        }
+// A figure as people read it, or as JSON, where coordinates are whole numbers of ten-thousandths.
+pub fn figure(row: Row, json: bool, v: i64) -> Text {
+    if row.part != 5 {
+        return integer(v);
     }
-    integer(v)
-}
-
-// A figure as JSON.
-pub fn json_figure(row: Row, v: i64) -> Text {
-    if row.part == 5 {
-        if row.field == 4 {
+    if row.field == 4 {
+        if json {
             return symbol(Text::new().byte(b'"'), natural(v)).byte(b'"');
         }
+        return symbol(Text::new(), natural(v));
+    }
+    if row.field < 4 {
+        if json {
+            return integer(v);
+        }
+        return decimal(v);
     }
     integer(v)
-}
-
-fn is_special(b: u8) -> bool {
-    if b == b'"' {
-        return true;
-    }
-    b == b'\\'
-}
-
-// One byte of a string of JSON.
-fn put_inner(out: Out, room: &mut [u8], b: u8) -> Out {
-    if is_special(b) {
-        return out.byte(room, b'\\').byte(room, b);
-    }
-    out.byte(room, b)
-}
-
-// A string of JSON.
-pub fn put_string(out: Out, room: &mut [u8], s: &[u8]) -> Out {
-    let mut o = out.byte(room, b'"');
-    let mut i: usize = 0;
-    while i < s.len() {
-        o = put_inner(o, room, s[i]);
-        i += 1;
-    }
-    o.byte(room, b'"')
 }

@@ -8,7 +8,7 @@ use program_io::Text;
 use program_json_rows::ATOM;
 use program_json_rows::BOND;
 use program_json_rows::ROW;
-use strings::put_string;
+pub use strings::put_string;
 use text::LineAt;
 
 // What stands before all but the first of a list.

@@ -287,25 +287,27 @@ fn settled(v: Verdict) -> Verdict {
     }
 }
 
-// Both readings of an open file.
-fn mend_open(name: &[u8], fd: i32, buf: &mut [u8; BUFFER]) -> Verdict {
+// A reading from the file's start. Called from two places it keeps its arrays out of the frame of `main`, where they would take stack from every other
+// sub-command.
+fn read_whole(name: &[u8], fd: i32, writing: bool) -> Verdict {
+    let mut buf = [0u8; BUFFER];
     let mut room = [0u8; ROOM];
     let mut repairs = [0u64; LIST];
+    let begun = Pass::new(fd, writing);
+    read_through(name, &mut buf, &mut room, &mut repairs, begun)
+}
+
+// Both readings of an open file.
+fn mend_open(name: &[u8], fd: i32) -> Verdict {
     if libc::lseek(fd, 0, libc::SEEK_CUR) < 0 {
         return Verdict::Once;
     }
-    let first = read_through(name, buf, &mut room, &mut repairs, Pass::new(fd, false));
+    let first = read_whole(name, fd, false);
     if libc::lseek(fd, 0, libc::SEEK_SET) < 0 {
         return Verdict::Once;
     }
     match first {
-        Verdict::Accepted { records: _ } => settled(read_through(
-            name,
-            buf,
-            &mut room,
-            &mut repairs,
-            Pass::new(fd, true),
-        )),
+        Verdict::Accepted { records: _ } => settled(read_whole(name, fd, true)),
         _ => first,
     }
 }
@@ -316,8 +318,7 @@ fn mend_named(path: &[u8], name: &[u8]) {
         program_verdict::tell(name, Verdict::Unreadable);
         return;
     }
-    let mut buf = [0u8; BUFFER];
-    program_verdict::tell(name, mend_open(name, fd, &mut buf));
+    program_verdict::tell(name, mend_open(name, fd));
     libc::close(fd);
 }
 

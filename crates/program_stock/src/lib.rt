@@ -4,7 +4,7 @@ mod lines;
 mod log;
 mod walk;
 
-use lines::Totals;
+use lines::ROOM;
 use lines::Way;
 use program_io::Out;
 use program_io::Text;
@@ -16,7 +16,6 @@ use store_lots::KEYS;
 use store_lots::LOTS;
 use walk::BUFFER;
 use walk::Pass;
-use walk::ROOM;
 use walk::Task;
 use walk::Walked;
 
@@ -61,39 +60,30 @@ fn next_file(pass: Pass) -> Pass {
     next
 }
 
-// The records of a file that was accepted with so many.
-fn walk_again(
-    records: usize,
-    pass: Pass,
-    buf: &mut [u8; BUFFER],
-    keys: &[u32; KEYS],
-    marks: &mut [u64; MARKS],
-    room: &mut [u8; ROOM],
-) -> Walked {
-    if libc::lseek(pass.fd, 0, libc::SEEK_SET) < 0 {
-        return Walked {
-            pass,
-            verdict: Verdict::Once,
-        };
+// The first reading of an open file. What has no place to go back to, as a pipe, is not read at all.
+fn judge(fd: i32, buf: &mut [u8; BUFFER]) -> Verdict {
+    if libc::lseek(fd, 0, libc::SEEK_CUR) < 0 {
+        return Verdict::Once;
     }
-    let walked = walk::walk(pass, buf, keys, marks, room);
-    let verdict = walked.verdict;
-    match verdict {
-        Verdict::Accepted { records: found } => {
-            if found == records {
-                return walked;
-            }
-            let pass = walked.pass;
-            Walked {
-                pass,
-                verdict: Verdict::Changed,
-            }
-        }
-        _ => walked,
+    let v = program_verdict::judge(fd, true, buf, false);
+    if libc::lseek(fd, 0, libc::SEEK_SET) < 0 {
+        return Verdict::Once;
     }
+    v
 }
 
-// An open file: judged, then walked. What has no place to go back to, as a pipe, is not read at all.
+// A file that was accepted with so many records has them at the second reading, too.
+fn settled(v: Verdict, records: usize) -> Verdict {
+    let Verdict::Accepted { records: found } = v else {
+        return v;
+    };
+    if found == records {
+        return v;
+    }
+    Verdict::Changed
+}
+
+// An open file: judged, then walked.
 fn walk_open(
     pass: Pass,
     buf: &mut [u8; BUFFER],
@@ -101,16 +91,16 @@ fn walk_open(
     marks: &mut [u64; MARKS],
     room: &mut [u8; ROOM],
 ) -> Walked {
-    if libc::lseek(pass.fd, 0, libc::SEEK_CUR) < 0 {
-        return Walked {
-            pass,
-            verdict: Verdict::Once,
-        };
-    }
-    let verdict = program_verdict::judge(pass.fd, true, buf, false);
-    match verdict {
-        Verdict::Accepted { records } => walk_again(records, pass, buf, keys, marks, room),
-        _ => Walked { pass, verdict },
+    let verdict = judge(pass.fd, buf);
+    let Verdict::Accepted { records } = verdict else {
+        return Walked { pass, verdict };
+    };
+    let walked = walk::walk(pass, buf, keys, marks, room);
+    let behind = walked.pass;
+    let again = walked.verdict;
+    Walked {
+        pass: behind,
+        verdict: settled(again, records),
     }
 }
 
@@ -131,9 +121,9 @@ fn tell(task: Task, path: &[u8], verdict: Verdict) {
     }
 }
 
-// A file by its path. Of a refused one nothing is counted, and it keeps its number.
-fn walk_path(
-    path: &[u8],
+// A file by its argument. Of a refused one nothing is counted, and it keeps its number.
+fn walk_argument(
+    i: usize,
     before: Pass,
     buf: &mut [u8; BUFFER],
     keys: &[u32; KEYS],
@@ -142,35 +132,23 @@ fn walk_path(
 ) -> Pass {
     let mut pass = next_file(before);
     let task = pass.task;
-    let fd = os::open_read(path);
+    let mut path = io::buffer();
+    let n = os::arg(i, &mut path);
+    if os::errno() != 0 {
+        tell(task, b"file name", Verdict::Unreadable);
+        return pass;
+    }
+    let fd = os::open_read(&path[..n]);
     if fd < 0 {
-        tell(task, path, Verdict::Unreadable);
+        tell(task, &path[..n], Verdict::Unreadable);
         return pass;
     }
     pass.fd = fd;
     let walked = walk_open(pass, buf, keys, marks, room);
     let verdict = walked.verdict;
-    tell(task, path, verdict);
+    tell(task, &path[..n], verdict);
     libc::close(fd);
     walked.pass
-}
-
-fn walk_argument(
-    i: usize,
-    pass: Pass,
-    buf: &mut [u8; BUFFER],
-    keys: &[u32; KEYS],
-    marks: &mut [u64; MARKS],
-    room: &mut [u8; ROOM],
-) -> Pass {
-    let mut path = io::buffer();
-    let n = os::arg(i, &mut path);
-    if os::errno() == 0 {
-        return walk_path(&path[..n], pass, buf, keys, marks, room);
-    }
-    let task = pass.task;
-    tell(task, b"file name", Verdict::Unreadable);
-    next_file(pass)
 }
 
 fn all_files(
@@ -203,10 +181,6 @@ struct Written {
     apart: bool,
 }
 
-fn wide(n: u32) -> u64 {
-    n as u64
-}
-
 // The lots in order of their first receipts.
 fn put_lots(
     pass: Pass,
@@ -226,11 +200,11 @@ fn put_lots(
             return Written { out, paper, apart };
         }
         let row = lines::row_of(i, keys, papers, counts, marks);
-        out = lines::put_row(out, room, way.json, row);
+        out = lines::put_row(out, room, way, row);
         if row.is_apart() {
             apart = true;
         }
-        paper = plus(paper, wide(row.paper));
+        paper = program_verdict::plus(paper, row.paper());
         i += 1;
     }
     Written { out, paper, apart }
@@ -255,22 +229,17 @@ fn list(
     all_files(start, buf, keys, &mut marks, room)
 }
 
-fn plus(a: u64, b: u64) -> u64 {
-    if u64::MAX - a < b {
-        return u64::MAX;
-    }
-    a + b
-}
-
-fn totals_of(lots: usize, paper: u64, join: Join) -> Totals {
-    Totals {
-        lots,
+// Lots and their paper, records, those received, never received and without a key.
+fn totals_of(lots: usize, paper: u64, join: Join) -> [u64; 6] {
+    let listed = program_verdict::plus(join.never, join.keyless);
+    [
+        lots as u64,
         paper,
-        records: plus(join.received, plus(join.never, join.keyless)),
-        received: join.received,
-        never: join.never,
-        keyless: join.keyless,
-    }
+        program_verdict::plus(join.received, listed),
+        join.received,
+        join.never,
+        join.keyless,
+    ]
 }
 
 fn is_settled(apart: bool, join: Join) -> bool {
@@ -285,24 +254,21 @@ fn is_settled(apart: bool, join: Join) -> bool {
 
 // The last line on the channel.
 fn announce(good: bool, settled: bool) {
-    if good {
-        if settled {
-            Text::new()
-                .word(b"settled\n")
-                .write(program_verdict::CHANNEL);
-        } else {
-            Text::new()
-                .word(b"unsettled\n")
-                .write(program_verdict::CHANNEL);
-        }
-    } else {
+    if !good {
         program_verdict::tell(b"standard output", Verdict::Unwritten);
+        return;
+    }
+    let line = Text::new();
+    if settled {
+        line.word(b"settled\n").write(program_verdict::CHANNEL);
+    } else {
+        line.word(b"unsettled\n").write(program_verdict::CHANNEL);
     }
 }
 
 // The totals last, and all that is gathered is written.
-fn finish(out: Out, room: &mut [u8; ROOM], json: bool, totals: Totals, settled: bool) {
-    let told = lines::put_totals(out, room, json, totals);
+fn finish(out: Out, room: &mut [u8; ROOM], way: Way, totals: [u64; 6], settled: bool) {
+    let told = lines::put_totals(out, room, way, totals);
     let done = told.flush(room);
     announce(done.good, settled);
 }
@@ -336,7 +302,7 @@ fn join_files(
     let totals = totals_of(lots, written.paper, join);
     let listed = last.out;
     let settled = is_settled(written.apart, join);
-    finish(listed, &mut room, way.json, totals, settled);
+    finish(listed, &mut room, way, totals, settled);
 }
 
 // ---- What is asked
@@ -368,24 +334,20 @@ fn join_log(way: Way, fd: i32, path: &[u8]) {
     }
 }
 
-fn join_path(way: Way, path: &[u8]) {
-    let fd = os::open_read(path);
-    if fd < 0 {
-        program_verdict::tell(path, Verdict::Unreadable);
-        return;
-    }
-    join_log(way, fd, path);
-    libc::close(fd);
-}
-
 fn join_named(way: Way) {
     let mut path = io::buffer();
     let n = os::arg(LOG, &mut path);
-    if os::errno() == 0 {
-        join_path(way, &path[..n]);
-    } else {
+    if os::errno() != 0 {
         program_verdict::tell(b"file name", Verdict::Unreadable);
+        return;
     }
+    let fd = os::open_read(&path[..n]);
+    if fd < 0 {
+        program_verdict::tell(&path[..n], Verdict::Unreadable);
+        return;
+    }
+    join_log(way, fd, &path[..n]);
+    libc::close(fd);
 }
 
 // A number below 1,000; 1,000 for anything else.

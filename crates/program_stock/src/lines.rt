@@ -1,7 +1,9 @@
-// What is written of the join: JSON, one object a line, or a table for people.
+// What is written of the join: JSON, one object a line, or a table for people. Lines are made by patterns, in which a capital letter stands for what is
+// filled in there.
 use program_io::Out;
 use program_io::Text;
 use stock_counts::COUNTS;
+use stock_join::Join;
 use stock_join::MARKS;
 use stock_key::Fault;
 use stock_key::KeyRead;
@@ -10,15 +12,28 @@ use store_lots::KEYS;
 use store_lots::LOTS;
 ghost use Prim.Native.Nat.{_<_};
 
-// A lot: its key, its paper, the shelf's figure and one at its last count with the paper then, its records and the first of them.
+// Output is gathered in room of so many bytes.
+pub const ROOM: usize = 65536;
+
+// How a line is written.
+pub struct Way {
+    pub json: bool,
+    pub pad: u8,
+}
+
+// What a line is made of. A lot: its key, the shelf's figure and one at its last count with the paper then, its first record, and as numbers its paper and
+// its records. A record: its place, and its key. The totals: six numbers.
 pub struct Row {
     key: [u8; 12],
-    pub paper: u32,
     counted: u32,
     then: u32,
-    records: u64,
     file: u64,
     number: u64,
+    numbers: [u64; 6],
+}
+
+fn wide(n: u32) -> u64 {
+    n as u64
 }
 
 fn low(w: u32) -> u8 {
@@ -62,16 +77,19 @@ pub fn row_of(
     };
     Row {
         key: bytes_of(key),
-        paper: papers[i],
         counted: counts[i],
         then: counts[512 + i],
-        records: marks[i],
         file: marks[512 + i],
         number: marks[1024 + i],
+        numbers: [wide(papers[i]), marks[i], 0, 0, 0, 0],
     }
 }
 
 impl Row {
+    pub fn paper(self) -> u64 {
+        self.numbers[0]
+    }
+
     // The last count differs from paper.
     fn differs(self) -> bool {
         if self.counted == 0 {
@@ -82,7 +100,7 @@ impl Row {
 
     // A lot that is not as it should be: its last count differs, or it has no record.
     pub fn is_apart(self) -> bool {
-        if self.records == 0 {
+        if self.numbers[1] == 0 {
             return true;
         }
         self.differs()
@@ -100,53 +118,54 @@ fn hex(digit: u8) -> u8
     b'a' - 10 + digit
 }
 
-fn is_printable(b: u8) -> bool {
+// A byte that stands for itself.
+fn is_plain(json: bool, b: u8) -> bool {
     if b < 32 {
         return false;
     }
-    b < 127
+    if 126 < b {
+        return false;
+    }
+    if json {
+        if b == b'"' {
+            return false;
+        }
+        return b != b'\\';
+    }
+    true
 }
 
 // A byte by its number, behind these words.
-fn numbered(text: Text, words: &[u8], b: u8) -> Text {
-    text.word(words).byte(hex(b / 16)).byte(hex(b % 16))
+fn numbered(words: &[u8], b: u8) -> Text {
+    Text::new().word(words).byte(hex(b / 16)).byte(hex(b % 16))
 }
 
-// One byte of a JSON string.
-fn inner(text: Text, b: u8) -> Text {
-    if b == b'"' {
-        return text.word(b"\\\"");
-    }
-    if b == b'\\' {
-        return text.word(b"\\\\");
-    }
-    if is_printable(b) {
-        return text.byte(b);
-    }
-    numbered(text, b"\\u00", b)
-}
-
-// One byte for people: what is not printable by its number.
-fn shown(text: Text, b: u8) -> Text {
-    if is_printable(b) {
-        return text.byte(b);
-    }
-    numbered(text, b"\\x", b)
-}
-
-fn one_byte(text: Text, json: bool, b: u8) -> Text {
+// Any other byte: in a JSON string, or for people by its number.
+fn escaped(json: bool, b: u8) -> Text {
     if json {
-        return inner(text, b);
+        if b == b'"' {
+            return Text::new().word(b"\\\"");
+        }
+        if b == b'\\' {
+            return Text::new().word(b"\\\\");
+        }
+        return numbered(b"\\u00", b);
     }
-    shown(text, b)
+    numbered(b"\\x", b)
 }
 
-// The bytes of a part of a key.
-fn bytes_in(text: Text, json: bool, part: &[u8]) -> Text {
-    let mut next = text;
+fn put_byte(out: Out, room: &mut [u8], json: bool, b: u8) -> Out {
+    if is_plain(json, b) {
+        return out.byte(room, b);
+    }
+    out.text(room, escaped(json, b))
+}
+
+fn put_bytes(out: Out, room: &mut [u8], json: bool, s: &[u8]) -> Out {
+    let mut next = out;
     let mut i: usize = 0;
-    while i < part.len() {
-        next = one_byte(next, json, part[i]);
+    while i < s.len() {
+        next = put_byte(next, room, json, s[i]);
         i += 1;
     }
     next
@@ -160,86 +179,22 @@ fn name_argument(file: u64) -> usize {
     0
 }
 
-// The bytes of a name in a JSON string.
-fn put_inner(out: Out, room: &mut [u8], name: &[u8]) -> Out {
-    let mut next = out;
-    let mut i: usize = 0;
-    while i < name.len() {
-        next = next.text(room, inner(Text::new(), name[i]));
-        i += 1;
+// The name of a file, as it was typed; a JSON string, or null where there is no file.
+fn put_file(out: Out, room: &mut [u8], json: bool, file: u64) -> Out {
+    if file == 0 {
+        return out.bytes(room, b"null");
     }
-    next
-}
-
-// The name of a file, as it was typed; a JSON string needs its quotes besides.
-fn put_name(out: Out, room: &mut [u8], json: bool, file: u64) -> Out {
     let mut name = io::buffer();
     let n = os::arg(name_argument(file), &mut name);
     let typed = program_io::front(&name, n);
     if json {
-        return put_inner(out, room, typed);
+        let opened = out.byte(room, b'"');
+        return put_bytes(opened, room, true, typed).byte(room, b'"');
     }
     out.bytes(room, typed)
 }
 
-// ---- A lot
-
-// Paper minus shelf at the last count, and what stands before it.
-fn difference(text: Text, shelf: u32, then: u32) -> Text {
-    if then < shelf {
-        return text.byte(b'-').number((shelf - then) as u64);
-    }
-    text.number((then - shelf) as u64)
-}
-
-fn counted(text: Text, row: Row) -> Text {
-    if row.counted == 0 {
-        return text.word(b",\"counted\":null,\"difference\":null");
-    }
-    let shelf = row.counted - 1;
-    let told = text.word(b",\"counted\":").number(shelf as u64);
-    difference(told.word(b",\"difference\":"), shelf, row.then)
-}
-
-fn figures(row: Row) -> Text {
-    let papered = Text::new().word(b",\"paper\":").number(row.paper as u64);
-    counted(papered, row)
-        .word(b",\"records\":")
-        .number(row.records)
-}
-
-fn key_json(key: [u8; 12]) -> Text {
-    let supplier = bytes_in(
-        Text::new().word(b"{\"supplier\":\""),
-        true,
-        program_io::front(&key, 4),
-    );
-    let lot = bytes_in(
-        supplier.word(b"\",\"lot\":\""),
-        true,
-        program_io::tail(&key, 4),
-    );
-    lot.byte(b'"')
-}
-
-// The first record of a lot.
-fn put_first(out: Out, room: &mut [u8], file: u64, number: u64) -> Out {
-    if file == 0 {
-        return out.bytes(room, b",\"file\":null,\"record\":null}\n");
-    }
-    let named = put_name(out.bytes(room, b",\"file\":\""), room, true, file);
-    let text = Text::new().word(b"\",\"record\":").number(number);
-    named.text(room, text.word(b"}\n"))
-}
-
-fn put_lot(out: Out, room: &mut [u8], row: Row) -> Out {
-    let key = row.key;
-    let keyed = out.text(room, key_json(key));
-    let told = keyed.text(room, figures(row));
-    put_first(told, room, row.file, row.number)
-}
-
-// ---- A line of the table
+// ---- Figures
 
 // A word of so many bytes ends in the column so many further.
 fn spaces(text: Text, size: usize, width: usize) -> Text {
@@ -252,88 +207,88 @@ fn spaces(text: Text, size: usize, width: usize) -> Text {
     next
 }
 
-fn cell(text: Text, n: u64, width: usize) -> Text {
+fn cell(n: u64, width: usize) -> Text {
     let mut digits = [0u8; 20];
     let k = io::decimal(n, &mut digits);
-    spaces(text, k, width).word(&digits[..k])
+    spaces(Text::new(), k, width).word(&digits[..k])
 }
 
-fn minus_cell(text: Text, n: u64, width: usize) -> Text {
+fn minus_cell(n: u64, width: usize) -> Text {
     let mut digits = [0u8; 20];
     let k = io::decimal(n, &mut digits);
-    spaces(text, k, width).byte(b'-').word(&digits[..k])
+    spaces(Text::new(), k, width).byte(b'-').word(&digits[..k])
 }
 
-fn difference_cell(text: Text, shelf: u32, then: u32) -> Text {
-    if then < shelf {
-        return minus_cell(text, (shelf - then) as u64, 10);
-    }
-    cell(text, (then - shelf) as u64, 11)
-}
-
-fn count_cells(text: Text, row: Row) -> Text {
+// The shelf's figure at the last count; where there was none, this.
+fn put_count(out: Out, room: &mut [u8], row: Row, none: &[u8], width: usize) -> Out {
     if row.counted == 0 {
-        return text.word(b"       -          -");
+        return out.bytes(room, none);
+    }
+    out.text(room, cell(wide(row.counted - 1), width))
+}
+
+// Paper minus shelf at the last count, in so many columns, or those without a sign.
+fn put_difference(
+    out: Out,
+    room: &mut [u8],
+    row: Row,
+    none: &[u8],
+    width: usize,
+    unsigned: usize,
+) -> Out {
+    if row.counted == 0 {
+        return out.bytes(room, none);
     }
     let shelf = row.counted - 1;
-    difference_cell(cell(text, shelf as u64, 8), shelf, row.then)
+    if row.then < shelf {
+        return out.text(room, minus_cell(wide(shelf - row.then), unsigned));
+    }
+    out.text(room, cell(wide(row.then - shelf), width))
 }
 
 // What is wrong with a lot, at the end of its line.
-fn marked(text: Text, row: Row) -> Text {
-    if row.differs() {
-        if row.records == 0 {
-            return text.word(b"  count differs, no record");
+fn marked(row: Row) -> Text {
+    let none = Text::new();
+    if row.numbers[1] == 0 {
+        if row.differs() {
+            return none.word(b"  count differs, no record");
         }
-        return text.word(b"  count differs");
+        return none.word(b"  no record");
     }
-    if row.records == 0 {
-        return text.word(b"  no record");
+    if row.differs() {
+        return none.word(b"  count differs");
     }
-    text
+    none
 }
 
-fn key_cells(key: [u8; 12]) -> Text {
-    let supplier = bytes_in(Text::new(), false, program_io::front(&key, 4));
-    bytes_in(supplier.word(b"     "), false, program_io::tail(&key, 4))
-}
-
-fn put_table_lot(out: Out, room: &mut [u8], row: Row) -> Out {
-    let key = row.key;
-    let cells = count_cells(cell(Text::new(), row.paper as u64, 9), row);
-    let told = marked(cell(cells, row.records, 8), row);
-    out.text(room, key_cells(key)).text(room, told.byte(b'\n'))
-}
-
-pub fn put_row(out: Out, room: &mut [u8], json: bool, row: Row) -> Out {
-    if json {
-        return put_lot(out, room, row);
+// Why a record has no key.
+fn reason(k: u64) -> Text {
+    let which = part_of(k);
+    if k % 3 == 0 {
+        return which.word(b" missing");
     }
-    put_table_lot(out, room, row)
-}
-
-// The names of the table's columns.
-pub fn put_heading(out: Out, room: &mut [u8], json: bool) -> Out {
-    if json {
-        return out;
+    if k % 3 == 1 {
+        return which.word(b" too long");
     }
-    out.bytes(
-        room,
-        b"supplier lot         paper counted difference records\n",
-    )
+    which.word(b" ends in the pad byte")
 }
 
-// ---- A record that is listed
-
-// File and number.
-fn put_place(out: Out, room: &mut [u8], json: bool, file: u64, number: u64) -> Out {
-    if json {
-        let named = put_name(out.bytes(room, b"{\"file\":\""), room, true, file);
-        return named.text(room, Text::new().word(b"\",\"record\":").number(number));
+fn part_of(k: u64) -> Text {
+    if k < 3 {
+        return Text::new().word(b"supplier");
     }
-    let named = put_name(out, room, false, file);
-    named.text(room, Text::new().word(b", record ").number(number))
+    Text::new().word(b"lot")
 }
+
+// The number of a record, or null where there is none.
+fn put_record(out: Out, room: &mut [u8], row: Row) -> Out {
+    if row.file == 0 {
+        return out.bytes(room, b"null");
+    }
+    out.text(room, Text::new().number(row.number))
+}
+
+// ---- Lines
 
 // How many bytes of a part of a key are its text: those before the pad bytes at its end.
 fn text_length(part: &[u8], pad: u8) -> usize {
@@ -347,116 +302,172 @@ fn text_length(part: &[u8], pad: u8) -> usize {
     n
 }
 
-fn text_of(part: &[u8], pad: u8) -> &[u8] {
-    program_io::front(part, text_length(part, pad))
+// A part of a key without the pad.
+fn put_text(out: Out, room: &mut [u8], way: Way, part: &[u8]) -> Out {
+    let text = program_io::front(part, text_length(part, way.pad));
+    put_bytes(out, room, way.json, text)
 }
 
-// These words, or those.
-fn words(text: Text, json: bool, for_json: &[u8], for_people: &[u8]) -> Text {
-    if json {
-        return text.word(for_json);
+// One of the six numbers, by its digit.
+fn number_at(row: Row, digit: u8) -> u64 {
+    let k = (digit % 8) as usize;
+    if k < 6 {
+        return row.numbers[k];
     }
-    text.word(for_people)
+    0
 }
 
-fn never_received(json: bool, key: Key, pad: u8) -> Text {
-    let bytes = bytes_of(key);
-    let opened = words(Text::new(), json, b",\"supplier\":\"", b": ");
-    let supplier = bytes_in(opened, json, text_of(program_io::front(&bytes, 4), pad));
-    let between = words(supplier, json, b"\",\"lot\":\"", b" ");
-    let lot = bytes_in(between, json, text_of(program_io::tail(&bytes, 4), pad));
-    words(
-        lot,
-        json,
-        b"\",\"never_received\":true}\n",
-        b" was never received\n",
+// A figure: in a column of the table, or null where there is none; a digit stands for one of the numbers.
+fn put_figure(out: Out, room: &mut [u8], b: u8, row: Row) -> Out {
+    match b {
+        b'P' => out.text(room, cell(row.numbers[0], 9)),
+        b'R' => out.text(room, cell(row.numbers[1], 8)),
+        b'C' => put_count(out, room, row, b"       -", 8),
+        b'D' => put_difference(out, room, row, b"          -", 11, 10),
+        b'I' => put_count(out, room, row, b"null", 0),
+        b'J' => put_difference(out, room, row, b"null", 0, 0),
+        b'N' => put_record(out, room, row),
+        _ => out.text(room, Text::new().number(number_at(row, b))),
+    }
+}
+
+// What stands for a capital letter: supplier and lot with all their bytes, or their texts; the file; what is wrong with a lot; why a record has no key.
+fn put_piece(out: Out, room: &mut [u8], b: u8, way: Way, row: Row) -> Out {
+    let key = row.key;
+    match b {
+        b'S' => put_bytes(out, room, way.json, program_io::front(&key, 4)),
+        b'L' => put_bytes(out, room, way.json, program_io::tail(&key, 4)),
+        b'T' => put_text(out, room, way, program_io::front(&key, 4)),
+        b'U' => put_text(out, room, way, program_io::tail(&key, 4)),
+        b'F' => put_file(out, room, way.json, row.file),
+        b'M' => out.text(room, marked(row)),
+        b'W' => out.text(room, reason(row.numbers[0])),
+        _ => put_figure(out, room, b, row),
+    }
+}
+
+fn is_mark(b: u8) -> bool {
+    if b < b'A' {
+        if b < b'0' {
+            return false;
+        }
+        return b <= b'9';
+    }
+    b <= b'Z'
+}
+
+fn put_line(out: Out, room: &mut [u8; ROOM], pattern: &[u8], way: Way, row: Row) -> Out {
+    let mut next = out;
+    let mut i: usize = 0;
+    while i < pattern.len() {
+        let b = pattern[i];
+        if is_mark(b) {
+            next = put_piece(next, room, b, way, row);
+        } else {
+            next = next.byte(room, b);
+        }
+        i += 1;
+    }
+    next
+}
+
+pub fn put_row(out: Out, room: &mut [u8; ROOM], way: Way, row: Row) -> Out {
+    if way.json {
+        let lot =
+            b"{\"supplier\":\"S\",\"lot\":\"L\",\"paper\":0,\"counted\":I,\"difference\":J,\"records\":1,\"file\":F,\"record\":N}\n";
+        return put_line(out, room, lot, way, row);
+    }
+    put_line(out, room, b"S     LPCDRM\n", way, row)
+}
+
+// The names of the table's columns.
+pub fn put_heading(out: Out, room: &mut [u8], json: bool) -> Out {
+    if json {
+        return out;
+    }
+    out.bytes(
+        room,
+        b"supplier lot         paper counted difference records\n",
     )
 }
 
-// How a line is written.
-pub struct Way {
-    pub json: bool,
-    pub pad: u8,
+// A record that has no key.
+fn put_keyless(out: Out, room: &mut [u8; ROOM], way: Way, row: Row) -> Out {
+    if way.json {
+        let keyless = b"{\"file\":F,\"record\":N,\"no_key\":\"W\"}\n";
+        return put_line(out, room, keyless, way, row);
+    }
+    put_line(out, room, b"F, record N: no key: W\n", way, row)
 }
 
-fn reason(text: Text, why: Fault) -> Text {
+// A record whose lot was never received.
+fn put_never(out: Out, room: &mut [u8; ROOM], way: Way, row: Row) -> Out {
+    if way.json {
+        let never =
+            b"{\"file\":F,\"record\":N,\"supplier\":\"T\",\"lot\":\"U\",\"never_received\":true}\n";
+        return put_line(out, room, never, way, row);
+    }
+    put_line(
+        out,
+        room,
+        b"F, record N: T U was never received\n",
+        way,
+        row,
+    )
+}
+
+fn fault_of(why: Fault) -> u64
+    ensures { λ r. ⌜ r < 3 ⌝ }
+{
     match why {
-        Fault::Missing => text.word(b" missing"),
-        Fault::TooLong => text.word(b" too long"),
-        Fault::Padded => text.word(b" ends in the pad byte"),
+        Fault::Missing => 0,
+        Fault::TooLong => 1,
+        Fault::Padded => 2,
     }
 }
 
-// Which text makes no key, and why.
-fn no_key(json: bool, which: &[u8], why: Fault) -> Text {
-    let opened = words(Text::new(), json, b",\"no_key\":\"", b": no key: ");
-    words(reason(opened.word(which), why), json, b"\"}\n", b"\n")
-}
-
-// What is said of a record that is listed.
-fn said(way: Way, read: KeyRead) -> Text {
-    match read {
-        KeyRead::Key { key } => never_received(way.json, key, way.pad),
-        KeyRead::NoSupplier { why } => no_key(way.json, b"supplier", why),
-        KeyRead::NoLot { why } => no_key(way.json, b"lot", why),
-        _ => Text::new().byte(b'\n'),
+// A record in its place, with the reason why it has no key.
+fn record_at(place: Join, key: [u8; 12], reason: u64) -> Row {
+    Row {
+        key,
+        counted: 0,
+        then: 0,
+        file: place.file,
+        number: place.number,
+        numbers: [reason, 0, 0, 0, 0, 0],
     }
 }
 
 // A record whose lot was never received, or that has no key.
-pub fn put_listed(
-    out: Out,
-    room: &mut [u8],
-    way: Way,
-    file: u64,
-    number: u64,
-    read: KeyRead,
-) -> Out {
-    put_place(out, room, way.json, file, number).text(room, said(way, read))
-}
-
-// ---- The last line
-
-pub struct Totals {
-    pub lots: usize,
-    pub paper: u64,
-    pub records: u64,
-    pub received: u64,
-    pub never: u64,
-    pub keyless: u64,
-}
-
-fn store_totals(t: Totals, lots: &[u8], paper: &[u8], records: &[u8]) -> Text {
-    let with_lots = Text::new().word(lots).number(t.lots as u64);
-    let papered = with_lots.word(paper).number(t.paper);
-    papered.word(records).number(t.records)
-}
-
-fn record_totals(t: Totals, received: &[u8], never: &[u8], keyless: &[u8], end: &[u8]) -> Text {
-    let counted = Text::new().word(received).number(t.received);
-    let listed = counted.word(never).number(t.never);
-    listed.word(keyless).number(t.keyless).word(end)
-}
-
-pub fn put_totals(out: Out, room: &mut [u8], json: bool, t: Totals) -> Out {
-    if json {
-        let store = store_totals(t, b"{\"lots\":", b",\"paper\":", b",\"records\":");
-        let records = record_totals(
-            t,
-            b",\"received\":",
-            b",\"never_received\":",
-            b",\"no_key\":",
-            b"}\n",
-        );
-        return out.text(room, store).text(room, records);
+pub fn put_listed(out: Out, room: &mut [u8; ROOM], way: Way, place: Join, read: KeyRead) -> Out {
+    let none = [0u8; 12];
+    match read {
+        KeyRead::Key { key } => put_never(out, room, way, record_at(place, bytes_of(key), 0)),
+        KeyRead::NoSupplier { why } => {
+            put_keyless(out, room, way, record_at(place, none, fault_of(why)))
+        }
+        KeyRead::NoLot { why } => {
+            put_keyless(out, room, way, record_at(place, none, 3 + fault_of(why)))
+        }
+        _ => out,
     }
-    let store = store_totals(t, b"lots: ", b"; paper: ", b"; records: ");
-    let records = record_totals(
-        t,
-        b", received: ",
-        b", never received: ",
-        b", without a key: ",
-        b"\n",
-    );
-    out.text(room, store).text(room, records)
+}
+
+// The last line: lots and their paper, records, those received, never received and without a key.
+pub fn put_totals(out: Out, room: &mut [u8; ROOM], way: Way, totals: [u64; 6]) -> Out {
+    let row = Row {
+        key: [0; 12],
+        counted: 0,
+        then: 0,
+        file: 0,
+        number: 0,
+        numbers: totals,
+    };
+    if way.json {
+        let line =
+            b"{\"lots\":0,\"paper\":1,\"records\":2,\"received\":3,\"never_received\":4,\"no_key\":5}\n";
+        return put_line(out, room, line, way, row);
+    }
+    let line = b"lots: 0; paper: 1; records: 2, received: 3, never received: 4, without a key: 5\n";
+    put_line(out, room, line, way, row)
 }

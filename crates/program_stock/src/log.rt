@@ -2,7 +2,6 @@
 use program_io::Filled;
 use program_verdict::Verdict;
 use stock_counts::COUNTS;
-use store_event::Key;
 use store_event::Scan;
 use store_lots::KEYS;
 use store_lots::LOTS;
@@ -38,12 +37,6 @@ pub struct Replayed {
     pub lots: usize,
 }
 
-// The key of a count that stands there.
-enum Counted {
-    Of(Key),
-    Nothing,
-}
-
 impl Pass {
     fn past(self, next: Replay) -> Turn {
         Turn::Next(Pass {
@@ -65,67 +58,24 @@ impl Pass {
     }
 }
 
-fn counted_at(log: &[u8], at: usize) -> Counted {
-    if log.len() <= at {
-        return Counted::Nothing;
-    }
-    match store_event::scan_at(log, at) {
-        Scan::Counted { key, quantity: _ } => Counted::Of(key),
-        _ => Counted::Nothing,
-    }
-}
-
-// A count noted under the lot of the whole store that it is of.
+// The count that stands there, noted under the lot of the whole store that it is of.
 fn note(
-    counted: Counted,
+    log: &[u8],
+    at: usize,
     paper: u32,
     shelf: u16,
     whole: &[u32; KEYS],
     lots: usize,
     counts: &mut [u32; COUNTS],
 ) {
-    match counted {
-        Counted::Of(key) => stock_counts::note(key, paper, shelf, whole, lots, counts),
-        Counted::Nothing => {}
+    if log.len() <= at {
+        return;
     }
-}
-
-fn take_event(
-    log: &[u8],
-    keys: &mut [u32; KEYS],
-    papers: &mut [u32; LOTS],
-    whole: &[u32; KEYS],
-    counts: &mut [u32; COUNTS],
-    pass: Pass,
-) -> Turn {
-    let state = pass.state;
-    match state.next(log, keys, papers) {
-        Step::Received { quantity: _, next } => pass.past(next),
-        Step::Issued { quantity: _, next } => pass.past(next),
-        Step::Day { next } => pass.past(next),
-        Step::Counted {
-            event: _,
-            lot: _,
-            paper,
-            shelf,
-            difference: _,
-            next,
-        } => {
-            let counted = counted_at(log, state.at);
-            note(counted, paper, shelf, whole, pass.lots, counts);
-            pass.past(next)
+    match store_event::scan_at(log, at) {
+        Scan::Counted { key, quantity: _ } => {
+            stock_counts::note(key, paper, shelf, whole, lots, counts);
         }
-        Step::Skipped {
-            no: _,
-            event: _,
-            next,
-        } => pass.past(next),
-        Step::Refused { no, event } => Turn::Refused {
-            no,
-            event,
-            at: state,
-        },
-        Step::End => Turn::End(state),
+        _ => {}
     }
 }
 
@@ -149,6 +99,7 @@ fn refill(buf: &mut [u8; SIZE], pass: Pass) -> Turn {
     }
 }
 
+// The next event, or more of the log.
 fn take_turn(
     buf: &mut [u8; SIZE],
     keys: &mut [u32; KEYS],
@@ -157,11 +108,39 @@ fn take_turn(
     counts: &mut [u32; COUNTS],
     pass: Pass,
 ) -> Turn {
-    if pass.has_event() {
-        let log = program_io::front(buf, pass.filled);
-        return take_event(log, keys, papers, whole, counts, pass);
+    let ready = pass.has_event();
+    if !ready {
+        return refill(buf, pass);
     }
-    refill(buf, pass)
+    let log = program_io::front(buf, pass.filled);
+    let state = pass.state;
+    match state.next(log, keys, papers) {
+        Step::Received { quantity: _, next } => pass.past(next),
+        Step::Issued { quantity: _, next } => pass.past(next),
+        Step::Day { next } => pass.past(next),
+        Step::Counted {
+            event: _,
+            lot: _,
+            paper,
+            shelf,
+            difference: _,
+            next,
+        } => {
+            note(log, state.at, paper, shelf, whole, pass.lots, counts);
+            pass.past(next)
+        }
+        Step::Skipped {
+            no: _,
+            event: _,
+            next,
+        } => pass.past(next),
+        Step::Refused { no, event } => Turn::Refused {
+            no,
+            event,
+            at: state,
+        },
+        Step::End => Turn::End(state),
+    }
 }
 
 fn ended(verdict: Verdict, state: Replay) -> Replayed {

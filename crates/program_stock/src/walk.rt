@@ -1,5 +1,6 @@
 // The records of a file that was accepted, read from its start, each with its fate.
 use crate::lines;
+use crate::lines::ROOM;
 use crate::lines::Way;
 use program_io::Filled;
 use program_io::Out;
@@ -13,8 +14,6 @@ use store_lots::KEYS;
 
 // The last byte of the buffer stands beside it: it tells whether input follows a full one.
 pub const BUFFER: usize = 1048577;
-
-pub const ROOM: usize = 65536;
 
 // The arguments that are the names of the two items, of which no good one has so many bytes.
 const SUPPLIER: usize = 3;
@@ -43,6 +42,7 @@ pub struct Pass {
     pub ended: bool,
 }
 
+// What a turn came to.
 enum Turn {
     Next(Pass),
     Done(Pass),
@@ -54,13 +54,6 @@ enum Turn {
 pub struct Walked {
     pub pass: Pass,
     pub verdict: Verdict,
-}
-
-fn plus(a: usize, b: usize) -> usize {
-    if usize::MAX - a < b {
-        return usize::MAX;
-    }
-    a + b
 }
 
 // Whether a record of this fate is listed.
@@ -95,20 +88,11 @@ fn read_key(pad: u8, record: &[u8]) -> KeyRead {
     stock_key::key_of(record, of_supplier, program_io::front(&lot, m), pad)
 }
 
-// The line of a record that is listed.
-fn put_line(pass: Pass, room: &mut [u8], join: Join, read: KeyRead, listed: bool) -> Out {
-    let out = pass.out;
-    if listed {
-        return lines::put_listed(out, room, pass.way, join.file, join.number, read);
-    }
-    out
-}
-
 // The pass behind a record of so many bytes.
 fn behind(pass: Pass, length: usize, join: Join, out: Out) -> Turn {
     if out.good {
         let mut next = pass;
-        next.at = plus(pass.at, length);
+        next.at = program_verdict::plus(pass.at as u64, length as u64) as usize;
         next.join = join;
         next.out = out;
         return Turn::Next(next);
@@ -122,7 +106,7 @@ fn take_record(
     record: &[u8],
     keys: &[u32; KEYS],
     marks: &mut [u64; MARKS],
-    room: &mut [u8],
+    room: &mut [u8; ROOM],
 ) -> Turn {
     let way = pass.way;
     let read = read_key(way.pad, record);
@@ -133,8 +117,11 @@ fn take_record(
         return Turn::Failed(Verdict::Changed);
     }
     let task = pass.task;
-    let listed = is_listed(task, fate);
-    let out = put_line(pass, room, join, read, listed);
+    let out = pass.out;
+    if is_listed(task, fate) {
+        let told = lines::put_listed(out, room, way, join, read);
+        return behind(pass, record.len(), join, told);
+    }
     behind(pass, record.len(), join, out)
 }
 
@@ -144,7 +131,7 @@ fn take_front(
     s: &[u8],
     keys: &[u32; KEYS],
     marks: &mut [u64; MARKS],
-    room: &mut [u8],
+    room: &mut [u8; ROOM],
 ) -> Turn {
     if s.len() == 0 {
         if pass.ended {
@@ -160,8 +147,12 @@ fn take_front(
     }
 }
 
-// The rest moved to the front, and more read behind it. A record that ends neither in a full buffer nor in the file has changed.
-fn refill(buf: &mut [u8; BUFFER], pass: Pass) -> Turn {
+// Where the record is not wholly there, the rest is moved to the front, and more read behind it. One that ends neither in a full buffer nor in the file has
+// changed.
+fn read_on(buf: &mut [u8; BUFFER], pass: Pass, turn: Turn) -> Turn {
+    let Turn::Short = turn else {
+        return turn;
+    };
     if pass.ended {
         return Turn::Failed(Verdict::Changed);
     }
@@ -180,13 +171,6 @@ fn refill(buf: &mut [u8; BUFFER], pass: Pass) -> Turn {
             Turn::Next(next)
         }
         Filled::Failed => Turn::Failed(Verdict::Unreadable),
-    }
-}
-
-fn read_on(buf: &mut [u8; BUFFER], pass: Pass, turn: Turn) -> Turn {
-    match turn {
-        Turn::Short => refill(buf, pass),
-        _ => turn,
     }
 }
 

@@ -88,10 +88,10 @@ fn main() {
         Verb::Pieces => of_records(Task::Pieces),
         Verb::Formula => formula(),
         Verb::Replay => program_replay::run(2),
-        Verb::Same => program_pairs::run(),
+        Verb::Same => program_compare::same(),
         Verb::Mend => program_mend::run(),
         Verb::Stock => program_stock::run(),
-        Verb::Compare => program_compare::run(),
+        Verb::Compare => program_compare::compare(),
         Verb::Tally => program_tally::run(2),
         Verb::Unknown => {
             io::write_all(

@@ -6,8 +6,8 @@ use Rattle.program_compare.proofs.list_apart.Reads as reads
 use Rattle.compare_record.proofs.records_apart.Reads as records-apart-reads
 use Rattle.program_compare.proofs.is_fitting.Reads as is-fitting-reads
 use Rattle.program_compare.proofs.numbers_of.Reads as numbers-of-reads
-use Rattle.program_compare.proofs.record.headers_of.Reads as headers-of-reads
-use Rattle.program_compare.proofs.record.items_of.Reads as items-of-reads
+use Rattle.program_compare.proofs.source.headers_of.Reads as headers-of-reads
+use Rattle.program_compare.proofs.source.items_of.Reads as items-of-reads
 
 numbers-of-requires : tie.Need-numbers-of-requires
 numbers-of-requires c κs = search needs

@@ -27,8 +27,8 @@ put-row-requires c κs = search needs
 is-apart-requires : tie.Need-is-apart-requires Inv-loop μ-loop
 is-apart-requires c κs = search needs
 
-wide-requires : tie.Need-wide-requires Inv-loop μ-loop
-wide-requires c κs = search needs
+paper-requires : tie.Need-paper-requires Inv-loop μ-loop
+paper-requires c κs = search needs
 
 plus-requires : tie.Need-plus-requires Inv-loop μ-loop
 plus-requires c κs = search needs
@@ -57,7 +57,7 @@ put-lots-spec =
     row-of-requires
     put-row-requires
     is-apart-requires
-    wide-requires
+    paper-requires
     plus-requires
     add-i
     loop-less

@@ -1,23 +1,20 @@
 use borrow.Author.Needs.{needs}
-use mathlib.Core.Path.{_≡_}
-use lib.ListN.{length}
-use Rattle.program_compare.proofs.put_rows.Statement.{statement}
-use Rattle.program_compare.proofs.put_rows.Tie as tie
-use Rattle.program_compare.proofs.put_rows.Reads as reads
+use Rattle.program_compare.proofs.tell.put_rows.Statement.{statement}
+use Rattle.program_compare.proofs.tell.put_rows.Tie as tie
+use Rattle.program_compare.proofs.tell.put_rows.Reads as reads
+use Rattle.program_compare.proofs.tell.put_rows.Lts as lts
+use Rattle.program_compare.proofs.lines.plus.Reads as plus-reads
 use Rattle.program_compare.proofs.say.row_at.Reads as row-at-reads
 use Rattle.program_compare.proofs.tell.put_row.Reads as put-row-reads
 
 abbrev Inv-loop : tie.InvT-loop
-Inv-loop room₀ form list count s x u y next₀ left₀ at₀ room next left at = length room ≡ length room₀
+Inv-loop room₀ patterns json list count s x u y next₀ left₀ at₀ room next left at = Unit {0}
 
 abbrev μ-loop : tie.MeasureT-loop
-μ-loop room₀ form list count s x u y next₀ left₀ at₀ room next left at = left
+μ-loop room₀ patterns json list count s x u y next₀ left₀ at₀ room next left at = left
 
 loop-holds : tie.Need-loop-holds Inv-loop μ-loop
 loop-holds c = search needs
-
-same-length : tie.Need-same-length Inv-loop μ-loop
-same-length c = search needs
 
 returns : tie.Need-returns Inv-loop μ-loop
 returns c = search needs
@@ -28,8 +25,8 @@ row-at-requires c κs = search needs
 put-row-requires : tie.Need-put-row-requires Inv-loop μ-loop
 put-row-requires c κs = search needs
 
-behind-row-requires : tie.Need-behind-row-requires Inv-loop μ-loop
-behind-row-requires c κs = search needs
+plus-requires : tie.Need-plus-requires Inv-loop μ-loop
+plus-requires c κs = search needs
 
 sub-left : tie.Need-sub-left Inv-loop μ-loop
 sub-left c = search needs
@@ -39,9 +36,6 @@ loop-less c = search needs
 
 loop-again : tie.Need-loop-again Inv-loop μ-loop
 loop-again c = search needs
-
-same-length-2 : tie.Need-same-length-2 Inv-loop μ-loop
-same-length-2 c = search needs
 
 returns-2 : tie.Need-returns-2 Inv-loop μ-loop
 returns-2 c = search needs
@@ -53,13 +47,11 @@ put-rows-spec =
     Inv-loop
     μ-loop
     loop-holds
-    same-length
     returns
     row-at-requires
     put-row-requires
-    behind-row-requires
+    plus-requires
     sub-left
     loop-less
     loop-again
-    same-length-2
     returns-2)

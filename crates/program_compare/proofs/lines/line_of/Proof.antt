@@ -1,7 +1,7 @@
 use borrow.Author.Needs.{needs}
-use Rattle.program_compare.proofs.lines.header_line.Statement.{statement}
-use Rattle.program_compare.proofs.lines.header_line.Tie as tie
-use Rattle.program_compare.proofs.lines.header_line.Reads as reads
+use Rattle.program_compare.proofs.lines.line_of.Statement.{statement}
+use Rattle.program_compare.proofs.lines.line_of.Tie as tie
+use Rattle.program_compare.proofs.lines.line_of.Reads as reads
 use Rattle.program_io.proofs.front.Reads as front-reads
 use Rattle.program_json.proofs.part.Reads as part-reads
 use Rattle.text.proofs.line_at.Reads as line-at-reads
@@ -51,8 +51,8 @@ front-requires-2 c κs = search needs
 returns-3 : tie.Need-returns-3 Inv-loop μ-loop
 returns-3 c = search needs
 
-pub header-line-spec : {M : Type 1} → statement M
-header-line-spec =
+pub line-of-spec : {M : Type 1} → statement M
+line-of-spec =
     tie.close
     (tie.spec
     Inv-loop
