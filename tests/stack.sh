@@ -1,4 +1,4 @@
-# Every verb that runs `records`, with no more stack than is usual, 8 MB.
+# Every verb that runs `records` or `mend_files`, with no more stack than is usual, 8 MB.
 
 in_usual_stack() { # WORDS...
     (ulimit -S -s 8192 && exec ./capellanote "$@")

@@ -2,7 +2,7 @@ usage="[-o FILE] FILE"
 about="an SDfile with what can be mended mended; each repair is told on standard error"
 options="-o="
 takes="one file" fewest=1 most=1
-programs="records"
+programs="mend_files"
 place=55
 
 explain() {
@@ -19,7 +19,7 @@ verb() { # FILE
     twice "$1"
     shown=$1
     [ "$shown" != - ] || shown="standard input"
-    run records mend "$path" "$shown"
+    run mend_files "$path" "$shown"
     case $verdict in
     "refused "*) tell "$shown, mended" ;;
     *) tell "$shown" ;;

@@ -322,10 +322,10 @@ fn mend_named(path: &[u8], name: &[u8]) {
     libc::close(fd);
 }
 
-// Argument 3 is the name that is said, where there is one.
+// Argument 2 is the name that is said, where there is one.
 fn mend_at(path: &[u8]) {
     let mut name = io::buffer();
-    let n = os::arg(3, &mut name);
+    let n = os::arg(2, &mut name);
     if os::errno() == 0 {
         mend_named(path, &name[..n]);
     } else {
@@ -333,10 +333,10 @@ fn mend_at(path: &[u8]) {
     }
 }
 
-// The file that argument 2 names: its mended text on standard output, its repairs on standard error.
+// The file that argument 1 names: its mended text on standard output, its repairs on standard error.
 pub fn run() {
     let mut path = io::buffer();
-    let n = os::arg(2, &mut path);
+    let n = os::arg(1, &mut path);
     if os::errno() == 0 {
         mend_at(&path[..n]);
     } else {

@@ -9,7 +9,6 @@ enum Verb {
     Formula,
     Replay,
     Same,
-    Mend,
     Stock,
     Compare,
     Tally,
@@ -37,9 +36,6 @@ fn asked() -> Verb {
     }
     if program_io::is_argument(1, b"same") {
         return Verb::Same;
-    }
-    if program_io::is_argument(1, b"mend") {
-        return Verb::Mend;
     }
     if program_io::is_argument(1, b"stock") {
         return Verb::Stock;
@@ -89,7 +85,6 @@ fn main() {
         Verb::Formula => formula(),
         Verb::Replay => program_replay::run(2),
         Verb::Same => program_compare::same(),
-        Verb::Mend => program_mend::run(),
         Verb::Stock => program_stock::run(),
         Verb::Compare => program_compare::compare(),
         Verb::Tally => program_tally::run(2),
