@@ -19,127 +19,96 @@ Inv-loop room₀ «record» count found o₀ i₀ k₀ t10 t11 room o i k = (len
 abbrev μ-loop : tie.MeasureT-loop
 μ-loop room₀ «record» count found o₀ i₀ k₀ t10 t11 room o i k = 354 - i
 
--- src/lib.rt:56:50
 slice-aggregate-of-record : tie.Need-slice-aggregate-of-record Inv-loop μ-loop
 slice-aggregate-of-record c = search (needs, arith)
 
--- src/lib.rt:56:32
 of-record-requires : tie.Need-of-record-requires Inv-loop μ-loop
 of-record-requires c κs = search (needs, arith)
 
--- src/lib.rt:56:9
 text-requires : tie.Need-text-requires Inv-loop μ-loop
 text-requires c κs = search (needs, arith)
 
--- src/lib.rt:59:5
 loop-holds : tie.Need-loop-holds Inv-loop μ-loop
 loop-holds c = search (needs, arith)
 
--- src/lib.rt:59:11
 add-loop : tie.Need-add-loop Inv-loop μ-loop
 add-loop c = search (needs, arith)
 
--- src/lib.rt:61:33
 new-requires : tie.Need-new-requires Inv-loop μ-loop
 new-requires c κs = search (needs, arith)
 
--- src/lib.rt:61:50
 slice-aggregate-word : tie.Need-slice-aggregate-word Inv-loop μ-loop
 slice-aggregate-word c = search (needs, arith)
 
--- src/lib.rt:61:33
 word-requires : tie.Need-word-requires Inv-loop μ-loop
 word-requires c κs = search (needs, arith)
 
--- src/lib.rt:61:13
 text-requires-2 : tie.Need-text-requires-2 Inv-loop μ-loop
 text-requires-2 c κs = search (needs, arith)
 
--- src/lib.rt:61:13
 same-length : tie.Need-same-length Inv-loop μ-loop
 same-length c = search (needs, arith)
 
--- src/lib.rt:61:13
 returns : tie.Need-returns Inv-loop μ-loop
 returns c = search (needs, arith)
 
--- src/lib.rt:65:32
 mul-difference : tie.Need-mul-difference Inv-loop μ-loop
 mul-difference c = search (needs, arith)
 
--- src/lib.rt:65:32
 element-copy-out-difference : tie.Need-element-copy-out-difference Inv-loop μ-loop
 element-copy-out-difference c = search (needs, arith)
 
--- src/lib.rt:65:48
 add-difference : tie.Need-add-difference Inv-loop μ-loop
 add-difference c = search (needs, arith)
 
--- src/lib.rt:65:42
 mul-difference-2 : tie.Need-mul-difference-2 Inv-loop μ-loop
 mul-difference-2 c = search (needs, arith)
 
--- src/lib.rt:65:42
 element-copy-out-difference-2 : tie.Need-element-copy-out-difference-2 Inv-loop μ-loop
 element-copy-out-difference-2 c = search (needs, arith)
 
--- src/lib.rt:65:62
 add-difference-2 : tie.Need-add-difference-2 Inv-loop μ-loop
 add-difference-2 c = search (needs, arith)
 
--- src/lib.rt:65:56
 mul-difference-3 : tie.Need-mul-difference-3 Inv-loop μ-loop
 mul-difference-3 c = search (needs, arith)
 
--- src/lib.rt:65:56
 element-copy-out-difference-3 : tie.Need-element-copy-out-difference-3 Inv-loop μ-loop
 element-copy-out-difference-3 c = search (needs, arith)
 
--- src/lib.rt:65:13
 difference-requires : tie.Need-difference-requires Inv-loop μ-loop
 difference-requires c κs = search (needs, arith)
 
--- src/lib.rt:63:9
 text-requires-3 : tie.Need-text-requires-3 Inv-loop μ-loop
 text-requires-3 c κs = search (needs, arith)
 
--- src/lib.rt:67:9
 add-i : tie.Need-add-i Inv-loop μ-loop
 add-i c = search (needs, arith)
 
--- src/lib.rt:68:9
 add-k : tie.Need-add-k Inv-loop μ-loop
 add-k c = search (needs, arith)
 
--- src/lib.rt:59:5
 loop-less : tie.Need-loop-less Inv-loop μ-loop
 loop-less c = search (needs, arith)
 
--- src/lib.rt:59:5
 loop-again : tie.Need-loop-again Inv-loop μ-loop
 loop-again c = search (needs, arith)
 
--- src/lib.rt:70:18
 new-requires-2 : tie.Need-new-requires-2 Inv-loop μ-loop
 new-requires-2 c κs = search (needs, arith)
 
--- src/lib.rt:70:35
 slice-aggregate-word-2 : tie.Need-slice-aggregate-word-2 Inv-loop μ-loop
 slice-aggregate-word-2 c = search (needs, arith)
 
--- src/lib.rt:70:18
 word-requires-2 : tie.Need-word-requires-2 Inv-loop μ-loop
 word-requires-2 c κs = search (needs, arith)
 
--- src/lib.rt:70:5
 text-requires-4 : tie.Need-text-requires-4 Inv-loop μ-loop
 text-requires-4 c κs = search (needs, arith)
 
--- src/lib.rt:49:1
 same-length-2 : tie.Need-same-length-2 Inv-loop μ-loop
 same-length-2 c = search (needs, arith)
 
--- src/lib.rt:49:1
 returns-2 : tie.Need-returns-2 Inv-loop μ-loop
 returns-2 c = search (needs, arith)
 

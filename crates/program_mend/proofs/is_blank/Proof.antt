@@ -16,35 +16,27 @@ Inv-loop s at₀ at = Unit {0}
 abbrev μ-loop : tie.MeasureT-loop
 μ-loop s at₀ at = length s - at
 
--- src/lib.rt:136:5
 loop-holds : tie.Need-loop-holds Inv-loop μ-loop
 loop-holds c = search (needs, scan-less)
 
--- src/lib.rt:137:13
 piece-at-requires : tie.Need-piece-at-requires Inv-loop μ-loop
 piece-at-requires c κs = search (needs, scan-less)
 
--- src/lib.rt:138:27
 part-requires : tie.Need-part-requires Inv-loop μ-loop
 part-requires c κs = search (needs, scan-less)
 
--- src/lib.rt:138:12
 is-blank-requires : tie.Need-is-blank-requires Inv-loop μ-loop
 is-blank-requires c κs = search (needs, scan-less)
 
--- src/lib.rt:136:5
 loop-less : tie.Need-loop-less Inv-loop μ-loop
 loop-less c = search (needs, scan-less)
 
--- src/lib.rt:136:5
 loop-again : tie.Need-loop-again Inv-loop μ-loop
 loop-again c = search (needs, scan-less)
 
--- src/lib.rt:141:13
 returns : tie.Need-returns Inv-loop μ-loop
 returns c = search (needs, scan-less)
 
--- src/lib.rt:134:1
 returns-2 : tie.Need-returns-2 Inv-loop μ-loop
 returns-2 c = search (needs, scan-less)
 

@@ -15,47 +15,36 @@ Inv-loop fd buf₀ was place₀ turns₀ buf place turns = length buf ≡ length
 abbrev μ-loop : tie.MeasureT-loop
 μ-loop fd buf₀ was place₀ turns₀ buf place turns = turns
 
--- src/lib.rt:203:18
 new-requires : tie.Need-new-requires Inv-loop μ-loop
 new-requires c κs = search needs
 
--- src/lib.rt:210:5
 loop-holds : tie.Need-loop-holds Inv-loop μ-loop
 loop-holds c = search needs
 
--- src/lib.rt:211:13
 take-turn-requires : tie.Need-take-turn-requires Inv-loop μ-loop
 take-turn-requires c κs = search needs
 
--- src/lib.rt:216:13
 settle-requires : tie.Need-settle-requires Inv-loop μ-loop
 settle-requires c κs = search needs
 
--- src/lib.rt:216:13
 same-length : tie.Need-same-length Inv-loop μ-loop
 same-length c = search needs
 
--- src/lib.rt:216:13
 returns : tie.Need-returns Inv-loop μ-loop
 returns c = search needs
 
--- src/lib.rt:218:9
 sub-turns : tie.Need-sub-turns Inv-loop μ-loop
 sub-turns c = search needs
 
--- src/lib.rt:210:5
 loop-less : tie.Need-loop-less Inv-loop μ-loop
 loop-less c = search needs
 
--- src/lib.rt:210:5
 loop-again : tie.Need-loop-again Inv-loop μ-loop
 loop-again c = search needs
 
--- src/lib.rt:201:1
 same-length-2 : tie.Need-same-length-2 Inv-loop μ-loop
 same-length-2 c = search needs
 
--- src/lib.rt:201:1
 returns-2 : tie.Need-returns-2 Inv-loop μ-loop
 returns-2 c = search needs
 

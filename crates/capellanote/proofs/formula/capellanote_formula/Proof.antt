@@ -7,23 +7,18 @@ use Rattle.capellanote.proofs.formula.capellanote_formula.Lts as lts
 use Rattle.capellanote.proofs.formula.of_compared.Reads as of-compared-reads
 use Rattle.formula_record.proofs.compare_formula.Reads as compare-formula-reads
 
--- src/formula.rt:35:27
 compare-formula-requires : tie.Need-compare-formula-requires
 compare-formula-requires c κs = search needs
 
--- src/formula.rt:35:15
 of-compared-requires : tie.Need-of-compared-requires
 of-compared-requires c κs = search needs
 
--- src/formula.rt:21:1
 same-length : tie.Need-same-length
 same-length c = search needs
 
--- src/formula.rt:21:1
 same-length-2 : tie.Need-same-length-2
 same-length-2 c = search needs
 
--- src/formula.rt:21:1
 returns : tie.Need-returns
 returns c =
     let o = c .of-compared .ensures in

@@ -5,23 +5,18 @@ use Rattle.capellanote.proofs.formula.of_compared.Tie as tie
 use Rattle.capellanote.proofs.formula.of_compared.Reads as reads
 use Rattle.capellanote.proofs.formula.of_compared.Lts as lts
 
--- src/formula.rt:15:28
 enum-known-r : tie.Need-enum-known-r
 enum-known-r c = search needs
 
--- src/formula.rt:16:29
 enum-known-r-2 : tie.Need-enum-known-r-2
 enum-known-r-2 c = search needs
 
--- src/formula.rt:16:52
 cast-t8 : tie.Need-cast-t8
 cast-t8 c = search needs
 
--- src/formula.rt:11:1
 returns : tie.Need-returns
 returns c = search (needs, compared-array)
 
--- src/formula.rt:11:1
 returns-2 : tie.Need-returns-2
 returns-2 c = search (needs, compared-array)
 

@@ -7,23 +7,18 @@ use Rattle.capellanote.proofs.mend.capellanote_mend.Lts as lts
 use Rattle.capellanote.proofs.mend.of_mended.Reads as of-mended-reads
 use Rattle.mend_file.proofs.mend_file.Reads as mend-file-reads
 
--- src/mend.rt:27:25
 mend-file-requires : tie.Need-mend-file-requires
 mend-file-requires c κs = search needs
 
--- src/mend.rt:27:15
 of-mended-requires : tie.Need-of-mended-requires
 of-mended-requires c κs = search needs
 
--- src/mend.rt:17:1
 same-length : tie.Need-same-length
 same-length c = search needs
 
--- src/mend.rt:17:1
 same-length-2 : tie.Need-same-length-2
 same-length-2 c = search needs
 
--- src/mend.rt:17:1
 returns : tie.Need-returns
 returns c = (search (needs, mend-laws), search (needs, mend-laws))
 

@@ -5,23 +5,18 @@ use Rattle.capellanote.proofs.mend.of_mended.Tie as tie
 use Rattle.capellanote.proofs.mend.of_mended.Reads as reads
 use Rattle.capellanote.proofs.mend.of_mended.Lts as lts
 
--- src/mend.rt:11:24
 enum-known-r : tie.Need-enum-known-r
 enum-known-r c = search needs
 
--- src/mend.rt:12:27
 enum-known-r-2 : tie.Need-enum-known-r-2
 enum-known-r-2 c = search needs
 
--- src/mend.rt:12:50
 cast-t10 : tie.Need-cast-t10
 cast-t10 c = search needs
 
--- src/mend.rt:7:1
 returns : tie.Need-returns
 returns c = search (needs, mend-array)
 
--- src/mend.rt:7:1
 returns-2 : tie.Need-returns-2
 returns-2 c = search (needs, mend-array)
 

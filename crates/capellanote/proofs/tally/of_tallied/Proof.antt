@@ -5,23 +5,18 @@ use Rattle.capellanote.proofs.tally.of_tallied.Tie as tie
 use Rattle.capellanote.proofs.tally.of_tallied.Reads as reads
 use Rattle.capellanote.proofs.tally.of_tallied.Lts as lts
 
--- src/tally.rt:12:25
 enum-known-r : tie.Need-enum-known-r
 enum-known-r c = search needs
 
--- src/tally.rt:14:13
 enum-known-r-2 : tie.Need-enum-known-r-2
 enum-known-r-2 c = search needs
 
--- src/tally.rt:18:15
 cast-t9 : tie.Need-cast-t9
 cast-t9 c = search needs
 
--- src/tally.rt:8:1
 returns : tie.Need-returns
 returns c = search (needs, tallied-array)
 
--- src/tally.rt:8:1
 returns-2 : tie.Need-returns-2
 returns-2 c = search (needs, tallied-array)
 

@@ -5,19 +5,15 @@ use Rattle.capellanote.proofs.tally.of_totals.Tie as tie
 use Rattle.capellanote.proofs.tally.of_totals.Reads as reads
 use Rattle.capellanote.proofs.tally.of_totals.Lts as lts
 
--- src/tally.rt:27:37
 enum-known-r : tie.Need-enum-known-r
 enum-known-r c = search needs
 
--- src/tally.rt:33:14
 enum-told : tie.Need-enum-told
 enum-told c = search needs
 
--- src/tally.rt:23:1
 returns : tie.Need-returns
 returns c = search (needs, totals-array)
 
--- src/tally.rt:23:1
 returns-2 : tie.Need-returns-2
 returns-2 c = search (needs, totals-array)
 

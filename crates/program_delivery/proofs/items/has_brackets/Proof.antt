@@ -14,31 +14,24 @@ Inv-loop line state₀ i₀ state i = i ≤ length line
 abbrev μ-loop : tie.MeasureT-loop
 μ-loop line state₀ i₀ state i = length line - i
 
--- src/items.rt:211:5
 loop-holds : tie.Need-loop-holds Inv-loop μ-loop
 loop-holds c = search needs
 
--- src/items.rt:212:32
 shared-slice-read-bracket : tie.Need-shared-slice-read-bracket Inv-loop μ-loop
 shared-slice-read-bracket c = search needs
 
--- src/items.rt:212:9
 bracket-requires : tie.Need-bracket-requires Inv-loop μ-loop
 bracket-requires c κs = search needs
 
--- src/items.rt:213:9
 add-i : tie.Need-add-i Inv-loop μ-loop
 add-i c = search needs
 
--- src/items.rt:211:5
 loop-less : tie.Need-loop-less Inv-loop μ-loop
 loop-less c = search needs
 
--- src/items.rt:211:5
 loop-again : tie.Need-loop-again Inv-loop μ-loop
 loop-again c = search needs
 
--- src/items.rt:208:1
 returns : tie.Need-returns Inv-loop μ-loop
 returns c = search needs
 

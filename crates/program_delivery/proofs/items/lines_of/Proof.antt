@@ -15,35 +15,27 @@ Inv-loop s n₀ i₀ n i = Unit {0}
 abbrev μ-loop : tie.MeasureT-loop
 μ-loop s n₀ i₀ n i = length s - i
 
--- src/items.rt:149:5
 loop-holds : tie.Need-loop-holds Inv-loop μ-loop
 loop-holds c = search needs
 
--- src/items.rt:150:38
 shared-slice-read-ends-line : tie.Need-shared-slice-read-ends-line Inv-loop μ-loop
 shared-slice-read-ends-line c = search needs
 
--- src/items.rt:150:28
 ends-line-requires : tie.Need-ends-line-requires Inv-loop μ-loop
 ends-line-requires c κs = search needs
 
--- src/items.rt:150:9
 plus-requires : tie.Need-plus-requires Inv-loop μ-loop
 plus-requires c κs = search needs
 
--- src/items.rt:151:9
 add-i : tie.Need-add-i Inv-loop μ-loop
 add-i c = search needs
 
--- src/items.rt:149:5
 loop-less : tie.Need-loop-less Inv-loop μ-loop
 loop-less c = search needs
 
--- src/items.rt:149:5
 loop-again : tie.Need-loop-again Inv-loop μ-loop
 loop-again c = search needs
 
--- src/items.rt:146:1
 returns : tie.Need-returns Inv-loop μ-loop
 returns c = search needs
 

@@ -16,55 +16,42 @@ Inv-loop s from table₀ room₀ now₀ at₀ turns₀ table room now at turns =
 abbrev μ-loop : tie.MeasureT-loop
 μ-loop s from table₀ room₀ now₀ at₀ turns₀ table room now at turns = turns
 
--- src/items.rt:314:5
 loop-holds : tie.Need-loop-holds Inv-loop μ-loop
 loop-holds c = search needs
 
--- src/items.rt:315:13
 next-arrow-requires : tie.Need-next-arrow-requires Inv-loop μ-loop
 next-arrow-requires c κs = search needs
 
--- src/items.rt:316:42
 line-at-requires : tie.Need-line-at-requires Inv-loop μ-loop
 line-at-requires c κs = search needs
 
--- src/items.rt:316:28
 enum-known-end : tie.Need-enum-known-end Inv-loop μ-loop
 enum-known-end c = search needs
 
--- src/items.rt:317:13
 enum-told : tie.Need-enum-told Inv-loop μ-loop
 enum-told c = search needs
 
--- src/items.rt:317:13
 same-length : tie.Need-same-length Inv-loop μ-loop
 same-length c = search needs
 
--- src/items.rt:317:13
 returns : tie.Need-returns Inv-loop μ-loop
 returns c = search needs
 
--- src/items.rt:319:9
 look-line-requires : tie.Need-look-line-requires Inv-loop μ-loop
 look-line-requires c κs = search needs
 
--- src/items.rt:321:9
 sub-turns : tie.Need-sub-turns Inv-loop μ-loop
 sub-turns c = search needs
 
--- src/items.rt:314:5
 loop-less : tie.Need-loop-less Inv-loop μ-loop
 loop-less c = search needs
 
--- src/items.rt:314:5
 loop-again : tie.Need-loop-again Inv-loop μ-loop
 loop-again c = search needs
 
--- src/items.rt:304:1
 same-length-2 : tie.Need-same-length-2 Inv-loop μ-loop
 same-length-2 c = search needs
 
--- src/items.rt:304:1
 returns-2 : tie.Need-returns-2 Inv-loop μ-loop
 returns-2 c = search needs
 

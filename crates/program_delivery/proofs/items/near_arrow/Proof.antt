@@ -14,35 +14,27 @@ Inv-loop s at i₀ i = i ≤ length s
 abbrev μ-loop : tie.MeasureT-loop
 μ-loop s at i₀ i = length s - i
 
--- src/items.rt:235:5
 loop-holds : tie.Need-loop-holds Inv-loop μ-loop
 loop-holds c = search needs
 
--- src/items.rt:235:11
 sub-loop : tie.Need-sub-loop Inv-loop μ-loop
 sub-loop c = search needs
 
--- src/items.rt:236:12
 arrow-in-block-requires : tie.Need-arrow-in-block-requires Inv-loop μ-loop
 arrow-in-block-requires c κs = search needs
 
--- src/items.rt:237:13
 returns : tie.Need-returns Inv-loop μ-loop
 returns c = search needs
 
--- src/items.rt:239:9
 add-i : tie.Need-add-i Inv-loop μ-loop
 add-i c = search needs
 
--- src/items.rt:235:5
 loop-less : tie.Need-loop-less Inv-loop μ-loop
 loop-less c = search needs
 
--- src/items.rt:235:5
 loop-again : tie.Need-loop-again Inv-loop μ-loop
 loop-again c = search needs
 
--- src/items.rt:231:1
 returns-2 : tie.Need-returns-2 Inv-loop μ-loop
 returns-2 c = search needs
 

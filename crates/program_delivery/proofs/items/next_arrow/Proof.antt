@@ -14,39 +14,30 @@ Inv-loop s at i₀ i = Unit {0}
 abbrev μ-loop : tie.MeasureT-loop
 μ-loop s at i₀ i = length s - i
 
--- src/items.rt:252:9
 returns : tie.Need-returns Inv-loop μ-loop
 returns c = search needs
 
--- src/items.rt:254:9
 near-arrow-requires : tie.Need-near-arrow-requires Inv-loop μ-loop
 near-arrow-requires c κs = search needs
 
--- src/items.rt:255:5
 loop-holds : tie.Need-loop-holds Inv-loop μ-loop
 loop-holds c = search needs
 
--- src/items.rt:256:12
 shared-slice-read-if2 : tie.Need-shared-slice-read-if2 Inv-loop μ-loop
 shared-slice-read-if2 c = search needs
 
--- src/items.rt:257:13
 returns-2 : tie.Need-returns-2 Inv-loop μ-loop
 returns-2 c = search needs
 
--- src/items.rt:259:9
 add-i : tie.Need-add-i Inv-loop μ-loop
 add-i c = search needs
 
--- src/items.rt:255:5
 loop-less : tie.Need-loop-less Inv-loop μ-loop
 loop-less c = search needs
 
--- src/items.rt:255:5
 loop-again : tie.Need-loop-again Inv-loop μ-loop
 loop-again c = search needs
 
--- src/items.rt:250:1
 returns-3 : tie.Need-returns-3 Inv-loop μ-loop
 returns-3 c = search needs
 

@@ -15,47 +15,36 @@ Inv-loop room₀ table names o₀ k₀ t7 room o k = (length room ≡ length roo
 abbrev μ-loop : tie.MeasureT-loop
 μ-loop room₀ table names o₀ k₀ t7 room o k = names .used - k
 
--- src/items.rt:350:5
 loop-holds : tie.Need-loop-holds Inv-loop μ-loop
 loop-holds c = search needs
 
--- src/items.rt:351:9
 put-name-requires : tie.Need-put-name-requires Inv-loop μ-loop
 put-name-requires c κs = search needs
 
--- src/items.rt:352:9
 add-k : tie.Need-add-k Inv-loop μ-loop
 add-k c = search needs
 
--- src/items.rt:350:5
 loop-less : tie.Need-loop-less Inv-loop μ-loop
 loop-less c = search needs
 
--- src/items.rt:350:5
 loop-again : tie.Need-loop-again Inv-loop μ-loop
 loop-again c = search needs
 
--- src/items.rt:355:30
 slice-aggregate-bytes : tie.Need-slice-aggregate-bytes Inv-loop μ-loop
 slice-aggregate-bytes c = search needs
 
--- src/items.rt:355:9
 bytes-requires : tie.Need-bytes-requires Inv-loop μ-loop
 bytes-requires c κs = search needs
 
--- src/items.rt:355:9
 same-length : tie.Need-same-length Inv-loop μ-loop
 same-length c = search needs
 
--- src/items.rt:355:9
 returns : tie.Need-returns Inv-loop μ-loop
 returns c = search needs
 
--- src/items.rt:347:1
 same-length-2 : tie.Need-same-length-2 Inv-loop μ-loop
 same-length-2 c = search needs
 
--- src/items.rt:347:1
 returns-2 : tie.Need-returns-2 Inv-loop μ-loop
 returns-2 c = search needs
 

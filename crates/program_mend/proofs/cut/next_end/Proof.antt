@@ -13,51 +13,39 @@ Inv-loop s from at₀ turns₀ at turns = Unit {0}
 abbrev μ-loop : tie.MeasureT-loop
 μ-loop s from at₀ turns₀ at turns = turns
 
--- src/cut.rt:42:5
 loop-holds : tie.Need-loop-holds Inv-loop μ-loop
 loop-holds c = search needs
 
--- src/cut.rt:43:42
 line-at-requires : tie.Need-line-at-requires Inv-loop μ-loop
 line-at-requires c κs = search needs
 
--- src/cut.rt:43:28
 enum-known-end : tie.Need-enum-known-end Inv-loop μ-loop
 enum-known-end c = search needs
 
--- src/cut.rt:44:13
 enum-told : tie.Need-enum-told Inv-loop μ-loop
 enum-told c = search needs
 
--- src/cut.rt:44:13
 returns : tie.Need-returns Inv-loop μ-loop
 returns c = search needs
 
--- src/cut.rt:46:21
 part-requires : tie.Need-part-requires Inv-loop μ-loop
 part-requires c κs = search needs
 
--- src/cut.rt:46:12
 is-close-requires : tie.Need-is-close-requires Inv-loop μ-loop
 is-close-requires c κs = search needs
 
--- src/cut.rt:47:13
 returns-2 : tie.Need-returns-2 Inv-loop μ-loop
 returns-2 c = search needs
 
--- src/cut.rt:50:9
 sub-turns : tie.Need-sub-turns Inv-loop μ-loop
 sub-turns c = search needs
 
--- src/cut.rt:42:5
 loop-less : tie.Need-loop-less Inv-loop μ-loop
 loop-less c = search needs
 
--- src/cut.rt:42:5
 loop-again : tie.Need-loop-again Inv-loop μ-loop
 loop-again c = search needs
 
--- src/cut.rt:39:1
 returns-3 : tie.Need-returns-3 Inv-loop μ-loop
 returns-3 c = search needs
 

@@ -13,55 +13,42 @@ Inv-loop s room₀ list₀ from₀ turns₀ room list from turns = Unit {0}
 abbrev μ-loop : tie.MeasureT-loop
 μ-loop s room₀ list₀ from₀ turns₀ room list from turns = turns
 
--- src/cut.rt:77:5
 loop-holds : tie.Need-loop-holds Inv-loop μ-loop
 loop-holds c = search needs
 
--- src/cut.rt:78:15
 next-end-requires : tie.Need-next-end-requires Inv-loop μ-loop
 next-end-requires c κs = search needs
 
--- src/cut.rt:79:23
 enum-known-end : tie.Need-enum-known-end Inv-loop μ-loop
 enum-known-end c = search needs
 
--- src/cut.rt:79:45
 front-requires : tie.Need-front-requires Inv-loop μ-loop
 front-requires c κs = search needs
 
--- src/cut.rt:79:37
 try-one-requires : tie.Need-try-one-requires Inv-loop μ-loop
 try-one-requires c κs = search needs
 
--- src/cut.rt:81:21
 enum-told : tie.Need-enum-told Inv-loop μ-loop
 enum-told c = search needs
 
--- src/cut.rt:84:21
 returns : tie.Need-returns Inv-loop μ-loop
 returns c = search needs
 
--- src/cut.rt:88:17
 enum-told-2 : tie.Need-enum-told-2 Inv-loop μ-loop
 enum-told-2 c = search needs
 
--- src/cut.rt:88:17
 returns-2 : tie.Need-returns-2 Inv-loop μ-loop
 returns-2 c = search needs
 
--- src/cut.rt:91:9
 sub-turns : tie.Need-sub-turns Inv-loop μ-loop
 sub-turns c = search needs
 
--- src/cut.rt:77:5
 loop-less : tie.Need-loop-less Inv-loop μ-loop
 loop-less c = search needs
 
--- src/cut.rt:77:5
 loop-again : tie.Need-loop-again Inv-loop μ-loop
 loop-again c = search needs
 
--- src/cut.rt:74:1
 returns-3 : tie.Need-returns-3 Inv-loop μ-loop
 returns-3 c = search needs
 

@@ -13,31 +13,24 @@ Inv-loop s count₀ i₀ count i = Unit {0}
 abbrev μ-loop : tie.MeasureT-loop
 μ-loop s count₀ i₀ count i = length s - i
 
--- src/list.rt:17:5
 loop-holds : tie.Need-loop-holds Inv-loop μ-loop
 loop-holds c = search needs
 
--- src/list.rt:18:12
 shared-slice-read-if1 : tie.Need-shared-slice-read-if1 Inv-loop μ-loop
 shared-slice-read-if1 c = search needs
 
--- src/list.rt:19:13
 plus-requires : tie.Need-plus-requires Inv-loop μ-loop
 plus-requires c κs = search needs
 
--- src/list.rt:21:9
 add-i : tie.Need-add-i Inv-loop μ-loop
 add-i c = search needs
 
--- src/list.rt:17:5
 loop-less : tie.Need-loop-less Inv-loop μ-loop
 loop-less c = search needs
 
--- src/list.rt:17:5
 loop-again : tie.Need-loop-again Inv-loop μ-loop
 loop-again c = search needs
 
--- src/list.rt:14:1
 returns : tie.Need-returns Inv-loop μ-loop
 returns c = search needs
 

@@ -14,39 +14,30 @@ Inv-loop name t₀ i₀ t i = Unit {0}
 abbrev μ-loop : tie.MeasureT-loop
 μ-loop name t₀ i₀ t i = length name - i
 
--- src/lines.rt:31:9
 byte-requires : tie.Need-byte-requires Inv-loop μ-loop
 byte-requires c κs = search needs
 
--- src/lines.rt:33:5
 loop-holds : tie.Need-loop-holds Inv-loop μ-loop
 loop-holds c = search needs
 
--- src/lines.rt:34:24
 shared-slice-read-escaped : tie.Need-shared-slice-read-escaped Inv-loop μ-loop
 shared-slice-read-escaped c = search needs
 
--- src/lines.rt:34:9
 escaped-requires : tie.Need-escaped-requires Inv-loop μ-loop
 escaped-requires c κs = search needs
 
--- src/lines.rt:35:9
 add-i : tie.Need-add-i Inv-loop μ-loop
 add-i c = search needs
 
--- src/lines.rt:33:5
 loop-less : tie.Need-loop-less Inv-loop μ-loop
 loop-less c = search needs
 
--- src/lines.rt:33:5
 loop-again : tie.Need-loop-again Inv-loop μ-loop
 loop-again c = search needs
 
--- src/lines.rt:37:5
 byte-requires-2 : tie.Need-byte-requires-2 Inv-loop μ-loop
 byte-requires-2 c κs = search needs
 
--- src/lines.rt:30:1
 returns : tie.Need-returns Inv-loop μ-loop
 returns c = search needs
 

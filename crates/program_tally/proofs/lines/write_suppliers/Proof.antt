@@ -12,59 +12,45 @@ Inv-loop names lengths counts entries i₀ i = Unit {0}
 abbrev μ-loop : tie.MeasureT-loop
 μ-loop names lengths counts entries i₀ i = 64 - i
 
--- src/lines.rt:57:19
 cast-entries : tie.Need-cast-entries Inv-loop μ-loop
 cast-entries c = search needs
 
--- src/lines.rt:59:5
 loop-holds : tie.Need-loop-holds Inv-loop μ-loop
 loop-holds c = search needs
 
--- src/lines.rt:61:13
 returns : tie.Need-returns Inv-loop μ-loop
 returns c = search needs
 
--- src/lines.rt:63:24
 slice-aggregate-write-supplier : tie.Need-slice-aggregate-write-supplier Inv-loop μ-loop
 slice-aggregate-write-supplier c = search needs
 
--- src/lines.rt:63:32
 mul-write-supplier : tie.Need-mul-write-supplier Inv-loop μ-loop
 mul-write-supplier c = search needs
 
--- src/lines.rt:63:46
 mul-write-supplier-2 : tie.Need-mul-write-supplier-2 Inv-loop μ-loop
 mul-write-supplier-2 c = search needs
 
--- src/lines.rt:63:46
 array-read-write-supplier : tie.Need-array-read-write-supplier Inv-loop μ-loop
 array-read-write-supplier c = search needs
 
--- src/lines.rt:63:58
 mul-write-supplier-3 : tie.Need-mul-write-supplier-3 Inv-loop μ-loop
 mul-write-supplier-3 c = search needs
 
--- src/lines.rt:63:58
 array-read-write-supplier-2 : tie.Need-array-read-write-supplier-2 Inv-loop μ-loop
 array-read-write-supplier-2 c = search needs
 
--- src/lines.rt:63:9
 write-supplier-requires : tie.Need-write-supplier-requires Inv-loop μ-loop
 write-supplier-requires c κs = search needs
 
--- src/lines.rt:64:9
 add-i : tie.Need-add-i Inv-loop μ-loop
 add-i c = search needs
 
--- src/lines.rt:59:5
 loop-less : tie.Need-loop-less Inv-loop μ-loop
 loop-less c = search needs
 
--- src/lines.rt:59:5
 loop-again : tie.Need-loop-again Inv-loop μ-loop
 loop-again c = search needs
 
--- src/lines.rt:53:1
 returns-2 : tie.Need-returns-2 Inv-loop μ-loop
 returns-2 c = search needs
 
