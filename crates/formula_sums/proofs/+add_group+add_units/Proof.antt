@@ -1,4 +1,4 @@
-use Prim.Native.Nat.{ℕ, _+_, _-_, _*_}
+use Prim.Native.Nat.{ℕ, _<_, _+_, _-_, _*_}
 use lib.ListN.{length}
 use mathlib.Core.Path.{ap, _∙_}
 use borrow.Author.Needs.{needs}
