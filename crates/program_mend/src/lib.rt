@@ -287,8 +287,7 @@ fn settled(v: Verdict) -> Verdict {
     }
 }
 
-// A reading from the file's start. Called from two places it keeps its arrays out of the frame of `main`, where they would take stack from every other
-// sub-command.
+// A reading from the file's start.
 fn read_whole(name: &[u8], fd: i32, writing: bool) -> Verdict {
     let mut buf = [0u8; BUFFER];
     let mut room = [0u8; ROOM];
