@@ -8,10 +8,10 @@ use reader_cursor::Cursor;
 use reader_feed::Fed;
 use reader_file::Next;
 use reader_item::Found;
-use reader_record::Counted;
-use reader_record::RecordRead;
-use writer_catalogue::Catalogue;
-use writer_copy::Copied;
+use reader_answer::Counted;
+use reader_answer::RecordRead;
+use writer_answer::Catalogue;
+use writer_answer::Copied;
 use writer_record::Written;
 
 pub fn of_check(a: Answer) -> [u64; 3]
