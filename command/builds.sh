@@ -121,6 +121,9 @@ build() { # PROGRAM...
         tail -n 5 "$log" >&2
         die "$* not built; $log has the whole"
     fi
-    for program in "$@"; do mv -f "$here/target/built/$program.new" "$here/target/built/$program"; done
+    for program in "$@"; do
+        touch -r "$here/target/built/$program.new" "$here/target/bin/$program" # a source that changed meanwhile is newer
+        mv -f "$here/target/built/$program.new" "$here/target/built/$program"
+    done
     unlock
 }
