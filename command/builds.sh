@@ -34,7 +34,11 @@ why_built() { # PROGRAM
         return
     fi
     newer=$(newer_source "$1")
-    [ -z "$newer" ] || why="$1 is older than its sources (crates/$newer)"
+    case $newer in
+    "") ;;
+    ../*) why="$1 is older than its sources (${newer#../})" ;;
+    *) why="$1 is older than its sources (crates/$newer)" ;;
+    esac
 }
 
 # The programs that a verb runs: there, and newer than their sources.

@@ -78,6 +78,11 @@ is "build: mends a broken program" 0 "built: check_files records" "check_files i
 got at_repo repo/capellanote check sample.sdf
 is "build: mended" 0 "$good" ""
 
+sleep 1
+touch "$repo/crates.txt"
+got at_repo repo/capellanote check sample.sdf
+is "build: a program older than crates.txt" 0 "$good" "check_files is older than its sources (crates.txt)"
+
 # A program that is cut anywhere, as by a full disk: one sentence that says what to do, and a build mends it.
 for cut in 0 1 1000 9000 40000; do
     head -c "$cut" "$PWD/target/bin/check_files" >"$repo/target/bin/check_files"
