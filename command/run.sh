@@ -163,23 +163,30 @@ pipe() { # NAME
     [ -p "$room/$1" ] || mkfifo "$room/$1" || die "no pipe can be made in ${TMPDIR:-/tmp}"
 }
 
-# A filter that reads from such pipes what the programs started write, and writes to standard output; then waits for all.
+# A filter that reads from such pipes what the programs started write, and writes to standard output; then waits for all. What it writes goes
+# through cat, whose status tells whether it was written: that of awk does not on every machine.
 sieve() { # COMMAND WORDS...
-    "$@" 2>"$room/said" &
+    pipe sifted
+    "$@" >"$room/sifted" 2>"$room/said" &
     filter=$!
-    wait "$filter"
-    sifted=$?
-    filter=
-    case $sifted in
-    0) await ;;
+    cat <"$room/sifted" 2>"$room/unwritten" &
+    writer=$!
+    filter="$filter $writer"
+    wait "$writer"
+    written=$?
+    case $written in
+    0) ;;
     141) stopped PIPE ;;
-    126 | 127) die "$(cat "$room/said"): give fewer names at a time" ;; # it was not started
     *)
-        if grep -q 'No space left' "$room/said"; then unwritten "No space left on device"; fi
-        cat "$room/said" >&2
+        if grep -q 'No space left' "$room/unwritten"; then unwritten "No space left on device"; fi
         unwritten
         ;;
     esac
+    wait "${filter% *}"
+    sifted=$?
+    filter=
+    [ "$sifted" = 0 ] || die "$(cat "$room/said") (status $sifted), so what is written is not whole"
+    await
 }
 
 # A program that broke down: it is not whole, or it has less stack than it needs.

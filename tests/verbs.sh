@@ -121,6 +121,21 @@ for task in "names $sample" "tally $sample" "tally --json $sample" "mend $sample
     [ "$status" = 2 ] && grep -Eq 'standard output: |cannot be written' "$room/err" && ! grep -q 'of no refusal' "$room/err" && ok || bad "full disk: ${task%% /*}" "status $status: $(head -c 300 "$room/err")"
 done
 
+# The same with an awk whose status says nothing of what could not be written, as that of many machines.
+mkdir "$v/awk"
+printf '#!/bin/sh\n%s "$@" 2>/dev/null\nexit 0\n' "$(command -v awk)" >"$v/awk/awk"
+chmod +x "$v/awk/awk"
+for task in "check $sample" "names $sample" "fetch LOT $sample" "canon $v/one.mol"; do
+    # shellcheck disable=SC2086
+    in_tmp env PATH="$v/awk:$PATH" ./capellanote $task >/dev/full 2>"$room/err"
+    status=$?
+    [ "$status" = 2 ] && grep -q 'standard output: No space left on device' "$room/err" && ok || bad "full disk, another awk: ${task%% *}" "status $status: $(head -c 300 "$room/err")"
+    # shellcheck disable=SC2086
+    in_tmp env PATH="$v/awk:$PATH" ./capellanote $task >&- 2>"$room/err"
+    status=$?
+    [ "$status" = 2 ] && grep -q 'standard output: ' "$room/err" && ok || bad "closed standard output, another awk: ${task%% *}" "status $status: $(head -c 300 "$room/err")"
+done
+
 # Closed descriptors: the output and its status are as they were, and without standard output it is 2.
 for task in "names $sample" "tally $sample" "mend $damaged" "compare $sample $v/other.sdf" "stock $door $sample" "formula $sample" "replay $door" "explain 17" "canon $v/one.mol" "same $sample $v/other.sdf"; do
     # shellcheck disable=SC2086
