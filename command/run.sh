@@ -1,6 +1,6 @@
 # Running a program: where it and its loader are, its verdict, its files, and what becomes of it when the command is stopped.
 
-room= running= filter= temporary= staged=
+room= running= filter= temporary= staged= leash=
 
 # ---- Ends
 
@@ -169,7 +169,8 @@ sieve() { # COMMAND WORDS...
     pipe sifted
     "$@" >"$room/sifted" 2>"$room/said" &
     filter=$!
-    cat <"$room/sifted" 2>"$room/unwritten" &
+    # shellcheck disable=SC2086
+    $leash cat <"$room/sifted" 2>"$room/unwritten" &
     writer=$!
     filter="$filter $writer"
     wait "$writer"
@@ -226,12 +227,13 @@ twice() { # FILE
     copies=$((copies + 1)) shown=$1
     mkdir "$room/$copies"
     path="$room/$copies/standard input"
+    # shellcheck disable=SC2086
     if [ "$1" = - ]; then
         [ -z "${spooled:-}" ] || misused "standard input can be read once, and - stands twice"
         spooled=yes shown="standard input"
-        cat <&7 >"$path" &
+        $leash cat <&7 >"$path" &
     else
-        { exec cat <"$1" >"$path"; } <&7 & # so that /dev/stdin is the command's own
+        { exec $leash cat <"$1" >"$path"; } <&7 & # so that /dev/stdin is the command's own
     fi
     running=$!
     wait "$running" || die "$shown was not copied to ${TMPDIR:-/tmp}, so it cannot be read twice: set TMPDIR to a folder with room"

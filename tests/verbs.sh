@@ -166,7 +166,7 @@ done
 
 # A signal stops a command that waits for standard input, for a pipe or for a page, at once, and nothing is left.
 in_tmp python3 - "$v" "$sample" <<'END' && ok || bad "a signal while nothing comes" "see above"
-import os, signal, subprocess, sys, time
+import os, shutil, signal, subprocess, sys, threading, time
 v, sample = sys.argv[1:]
 os.mkfifo(v + "/pipe")
 bad = 0
@@ -186,9 +186,32 @@ def stopped(words, number, **how):
         bad = 1
 
 for number in (signal.SIGTERM, signal.SIGINT, signal.SIGHUP):
+    signal.signal(number, signal.SIG_DFL) # also where the tests run in the background, which ignores some
     for words in (["read", "-"], ["fetch", "LOT", sample, "-"], ["canon", v + "/pipe"], ["tally", "-"], ["check", "-"], ["count"]):
         stopped(words, number, stdin=subprocess.PIPE)
     stopped(["report", "-o", v + "/never.html", v + "/huge.sdf"], number)
+# Killed outright, it says nothing more: no sums of files that it has not read.
+if subprocess.run("setpriv --pdeathsig TERM true", shell=True, stderr=subprocess.DEVNULL).returncode == 0:
+    for words in (["check", "-", sample], ["read", "-"]):
+        run = subprocess.Popen(["./capellanote"] + words, stdin=subprocess.PIPE, stdout=subprocess.PIPE)
+        time.sleep(1)
+        run.kill()
+        run.wait()
+        reader = threading.Thread(target=lambda: run.stdout.read())
+        reader.start()
+        reader.join(5)
+        if reader.is_alive():
+            print(words, "killed outright: a program goes on")
+            bad = 1
+    run = subprocess.Popen(["./capellanote", "check", "-", sample], stdin=subprocess.PIPE, stdout=subprocess.PIPE)
+    time.sleep(1)
+    run.kill()
+    said = run.stdout.read()
+    if said:
+        print("check, killed outright:", said)
+        bad = 1
+    for name in os.listdir(os.environ["TMPDIR"]):
+        shutil.rmtree(os.path.join(os.environ["TMPDIR"], name))
 if os.path.exists(v + "/never.html"):
     print("a page is there")
     bad = 1

@@ -40,7 +40,8 @@ tell_files() { # FILES...
     : >"$room/beside"
     LC_ALL=C
     export LC_ALL
-    exec awk -v molfile="$option_molfile" -v sdfile="$option_sdfile" -v json="$option_json" -v all="$to_end" -v strict="$option_strict" \
+    # shellcheck disable=SC2086
+    exec $leash awk -v molfile="$option_molfile" -v sdfile="$option_sdfile" -v json="$option_json" -v all="$to_end" -v strict="$option_strict" \
         -v names="${only_names:-}" -f "$here/command/tell.awk" "$room" "$@"
 }
 

@@ -94,7 +94,8 @@ merge='
 merge_items() { # FILES...
     NAMES=$names ROOM=$room LC_ALL=C
     export NAMES ROOM LC_ALL
-    exec awk -v tsv="$option_tsv" -v several="$several" "$merge" "$@"
+    # shellcheck disable=SC2086
+    exec $leash awk -v tsv="$option_tsv" -v several="$several" "$merge" "$@"
 }
 
 # A process a name, for all files. Of one file the lines go straight on; of several they wait for the verdicts.
