@@ -224,7 +224,7 @@ copies=0
 twice() { # FILE
     plain "$1"
     case $1 in -) ;; *) [ -p "$1" ] || return 0 ;; esac
-    copies=$((copies + 1)) shown=$1
+    copies=$((copies + 1)) shown=$1 from=$path
     mkdir "$room/$copies"
     path="$room/$copies/standard input"
     # shellcheck disable=SC2086
@@ -233,7 +233,7 @@ twice() { # FILE
         spooled=yes shown="standard input"
         $leash cat <&7 >"$path" &
     else
-        { exec $leash cat <"$1" >"$path"; } <&7 & # so that /dev/stdin is the command's own
+        $leash cat "$from" <&7 >"$path" & # with the command's own standard input, which the name may be, too
     fi
     running=$!
     wait "$running" || die "$shown was not copied to ${TMPDIR:-/tmp}, so it cannot be read twice: set TMPDIR to a folder with room"

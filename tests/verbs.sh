@@ -192,7 +192,7 @@ for number in (signal.SIGTERM, signal.SIGINT, signal.SIGHUP):
     stopped(["report", "-o", v + "/never.html", v + "/huge.sdf"], number)
 # Killed outright, it says nothing more: no sums of files that it has not read.
 if subprocess.run("setpriv --pdeathsig TERM true", shell=True, stderr=subprocess.DEVNULL).returncode == 0:
-    for words in (["check", "-", sample], ["read", "-"]):
+    for words in (["check", "-", sample], ["read", "-"], ["read", v + "/pipe"]):
         run = subprocess.Popen(["./capellanote"] + words, stdin=subprocess.PIPE, stdout=subprocess.PIPE)
         time.sleep(1)
         run.kill()
