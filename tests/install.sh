@@ -224,7 +224,10 @@ printf '#!/bin/sh\nsleep 2\nexec %s "$@"\n' "$(command -v cp)" >"$i/slow/cp"
 chmod +x "$i/slow/cp"
 PATH=$i/slow:$PATH ./capellanote install "$i/both" >"$room/first" 2>&1 &
 first=$!
-while [ -z "$(ls -d "$i"/both/lib/capellanote.*/new 2>/dev/null)" ]; do sleep 0.1; done
+for _ in $(seq 1 100); do
+    [ -z "$(ls -d "$i"/both/lib/capellanote.*/new 2>/dev/null)" ] || break
+    sleep 0.1
+done
 kill -s TERM "$first"
 wait "$first"
 [ "$?" = 143 ] && ok || bad "install: stopped" "another status: $(cat "$room/first")"
