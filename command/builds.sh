@@ -34,7 +34,11 @@ why_built() { # PROGRAM
         return
     fi
     newer=$(newer_source "$1")
-    [ -z "$newer" ] || why="$1 is older than its sources (crates/$newer)"
+    case $newer in
+    "") ;;
+    ../*) why="$1 is older than its sources (${newer#../})" ;;
+    *) why="$1 is older than its sources (crates/$newer)" ;;
+    esac
 }
 
 # The programs that a verb runs: there, and newer than their sources.
@@ -121,6 +125,9 @@ build() { # PROGRAM...
         tail -n 5 "$log" >&2
         die "$* not built; $log has the whole"
     fi
-    for program in "$@"; do mv -f "$here/target/built/$program.new" "$here/target/built/$program"; done
+    for program in "$@"; do
+        touch -r "$here/target/built/$program.new" "$here/target/bin/$program" # a source that changed meanwhile is newer
+        mv -f "$here/target/built/$program.new" "$here/target/built/$program"
+    done
     unlock
 }

@@ -3,7 +3,7 @@
 # The entry of a verb's options that a word is, in $entry.
 entry_of() { # WORD
     for entry in $options; do
-        case $entry in "$1" | "$1=" | "$1+") return 0 ;; esac
+        [ "${entry%[=+]}" != "$1" ] || return 0
     done
     return 1
 }
@@ -11,6 +11,11 @@ entry_of() { # WORD
 # An option's value is kept under its name: one value, or one more line of them.
 keep_option() { # OPTION VALUE
     held=option_${1##*-}
+    case $1$2 in
+    -o | -n) misused "$1 takes a name, and this one is empty" ;;
+    -n*"
+"*) misused "no item has a line end in its name" ;;
+    esac
     case $entry in
     *+) eval "$held=\${$held:+\$$held
 }\$2" ;;
@@ -18,9 +23,8 @@ keep_option() { # OPTION VALUE
     esac
 }
 
-# One option, with its value where it takes one. How many words more it took is left in $more.
-take_option() { # WORDS...
-    more=0
+# One option. Where its value is the next word, the option is left in $wants.
+take_option() { # WORD
     case $1 in
     --*=*)
         entry_of "${1%%=*}" || misused "unknown option ${1%%=*}"
@@ -32,11 +36,7 @@ take_option() { # WORDS...
         case $1 in --molfile | --sdfile | --progress | -o) misused "$1 is no option of this command" ;; *) misused "unknown option $1" ;; esac
     fi
     case $entry in
-    *[=+])
-        [ $# -gt 1 ] || misused "$1 takes a value"
-        keep_option "$1" "$2"
-        more=1
-        ;;
+    *[=+]) wants=$1 ;;
     *) keep_option "$1" yes ;;
     esac
 }
@@ -44,26 +44,30 @@ take_option() { # WORDS...
 # Sorts a verb's words: options into $option_NAME; the places of all others into $words, for `eval "set -- $words"`,
 # so that no byte of a name is touched.
 sort_words() { # WORDS...
-    asked_help= words= at=0 all=
+    asked_help= at=0 all= wants=
+    begin_list
     option_o= option_progress= option_molfile= option_sdfile=
     for entry in $options; do
         bare=${entry%[=+]}
         eval "option_${bare##*-}="
     done
-    while [ $# -gt 0 ]; do
+    for word in "$@"; do
         at=$((at + 1))
-        case $all$1 in
+        if [ -n "$wants" ]; then
+            keep_option "$wants" "$word"
+            wants=
+            continue
+        fi
+        case $all$word in
         --help | -h) asked_help=yes ;;
         --) all=/ ;;
-        -?*)
-            take_option "$@"
-            at=$((at + more))
-            shift "$more"
-            ;;
-        *) words="$words \"\${$at}\"" ;;
+        -?*) take_option "$word" ;;
+        *) add "\"\${$at}\"" ;;
         esac
-        shift
     done
+    [ -z "$wants" ] || misused "$wants takes a value"
+    end_list
+    words=$list
 }
 
 # The kind of a file, in $kind: as the options say, or by its name.

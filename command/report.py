@@ -1,14 +1,16 @@
 #!/usr/bin/env python3
-"""report.py COMMAND LAST LOG TITLE FILE...: a delivery on one page of HTML, on standard output. LAST, LOG and TITLE may be empty.
+"""report.py COMMAND TITLE LAST NAME LOG NAME [FILE NAME]...: a delivery on one page of HTML, on standard output. TITLE, LAST and LOG may be empty.
 
-Every figure comes from the command's own verbs with --json; this page counts their lines and computes widths, nothing else. Whatever comes
-from a file is escaped. It needs Python 3 alone. Status: 0 nothing to object to; 1 a record is refused or a lot differs; 2 no page.
+A file is read by its path, and named by the name behind it. Every figure comes from the command's own verbs with --json; this page counts their
+lines and computes widths, nothing else. Whatever comes from a file is escaped. It needs Python 3 alone.
+Status: 0 nothing to object to; 3 a record is refused or a lot differs; 2 no page, for a reason that is said.
 """
 
 import hashlib
 import html
 import json
 import os
+import signal
 import subprocess
 import sys
 import tempfile
@@ -65,6 +67,18 @@ def die(words):
 
 # ---- What the verbs say
 
+NAMES = {}              # of files by their paths, where these are others
+
+
+def named(path):
+    return NAMES.get(path, path)
+
+
+def operand(path):
+    """A path that no verb takes for an option."""
+    return "./" + path if path.startswith("-") else path
+
+
 def spoken(words):
     """A command line as a person would type it."""
     def quoted(word):
@@ -83,7 +97,7 @@ class Verb:
     def objects(self):
         with tempfile.TemporaryFile() as errors:
             try:
-                run = subprocess.Popen([self.command, *self.words], stdout=subprocess.PIPE, stderr=errors, stdin=subprocess.DEVNULL)
+                run = subprocess.Popen([self.command, *self.words], stdout=subprocess.PIPE, stderr=errors)
             except OSError as trouble:
                 die("%s cannot be run: %s" % (self.command, trouble.strerror))
             for line in run.stdout:
@@ -95,7 +109,7 @@ class Verb:
             die("%s ended with status %d: %s" % (self.said(), self.status, self.errors.strip()))
 
     def said(self):
-        return spoken(["capellanote", *self.words])
+        return spoken(["capellanote", *map(named, self.words)])
 
 
 def meaning(command, number, known={}):
@@ -197,7 +211,7 @@ class Checked:
     """What `check --all --json` says."""
 
     def __init__(self, command, files):
-        self.verb = Verb(command, "check", "--all", "--json", *files)
+        self.verb = Verb(command, "check", "--all", "--json", *map(operand, files))
         self.refusals, self.warnings, self.files = Kept(), Kept(), []
         self.command, self.numbers = command, Counter()
         for told in self.verb.objects():
@@ -208,6 +222,9 @@ class Checked:
                 self.warnings.add(told)
             elif "verdict" in told and "file" in told:
                 self.files.append(told)
+        if self.verb.status == 2:
+            sys.stderr.write(self.verb.errors)
+            die("no page, for a file was not read")
 
     def sum(self, name):
         return sum(told.get(name) or 0 for told in self.files)
@@ -238,17 +255,23 @@ class Checked:
         if not self.refusals.count:
             parts.append("<p>None.</p>\n")
         else:
-            rows = [("%d: %s" % (number, escaped(meaning(self.command, number))), count) for number, count in sorted(self.numbers.items())]
+            rows = [(self.words_of(number), count) for number, count in sorted(self.numbers.items(), key=lambda row: row[0] or 0)]
             parts.append(bars("Refused records by the number of the refusal", rows))
             parts.append(folded("What to ask the supplier for, record by record", self.refusals, self.refusal_table(several)))
         if self.warnings.count:
-            rows = [[*([code(told.get("file"))] if several else []), told.get("record", ""), told.get("line", ""), escaped(told.get("message") or told["warning"]),
+            rows = [[*([code(named(told.get("file")))] if several else []), told.get("record", ""), told.get("line", ""), escaped(told.get("message") or told["warning"]),
                      code(told["text"]) if "text" in told else ""]
                     for told in self.warnings.rows]
             heads = [*(["File"] if several else []), "Record", "Line", "Warning", "What stands there"]
             parts.append("<h2>Warnings</h2>\n<p>Warnings change no verdict.</p>\n" + folded(
                 "%s" % counted(self.warnings.count, "warning"), self.warnings, table("Warnings", heads, rows, (len(heads) - 4, len(heads) - 3))))
         return "".join(parts)
+
+    def words_of(self, number, message=None):
+        """A refusal by its number; a record that is too long has none."""
+        if number is None:
+            return "too long: the record does not end within 1,048,576 bytes"
+        return "%d: %s" % (number, escaped(message or meaning(self.command, number)))
 
     def refusal_table(self, several):
         rows = []
@@ -258,8 +281,9 @@ class Checked:
                 stands = "%s: %s" % (escaped(told["field"]), stands)
             may = told.get("allowed") or told.get("expected") or ""
             quoted = marked(told["text"], told.get("column") or 1) if told.get("text") is not None else ""
-            rows.append([*([code(told.get("file"))] if several else []), told.get("record") or "", code(told.get("title")), "%s:%s" % (told["line"], told["column"]),
-                         "%d: %s" % (told["number"], escaped(told.get("message") or meaning(self.command, told["number"]))), stands, escaped(may),
+            place = "%s:%s" % (told["line"], told["column"]) if told["column"] else told["line"]
+            rows.append([*([code(named(told.get("file")))] if several else []), told.get("record") or "", code(told.get("title")), place,
+                         self.words_of(told["number"], told.get("message")), stands, escaped(may),
                          escaped(told.get("ask") or ""), quoted])
         heads = [*(["File"] if several else []), "Record", "Title", "Line", "Refused", "What stands there", "What may stand there", "Ask for"]
         return table("Refused records", heads, rows, (len(heads) - 7, len(heads) - 5))
@@ -275,7 +299,7 @@ class Changes:
     """What `compare --json` says of the last delivery and this one."""
 
     def __init__(self, command, old, new):
-        self.verb = Verb(command, "compare", "--json", old, new)
+        self.verb = Verb(command, "compare", "--json", operand(old), operand(new))
         self.kept, self.parts, self.only = Kept(), Counter(), Counter()
         self.changed, before = 0, None
         for told in self.verb.objects():
@@ -327,7 +351,7 @@ class Suppliers:
     """What `tally --json` says."""
 
     def __init__(self, command, files):
-        self.verb = Verb(command, "tally", "--json", *files)
+        self.verb = Verb(command, "tally", "--json", *map(operand, files))
         self.rows, self.foot = [], {}
         for told in self.verb.objects():
             if "supplier" in told:
@@ -353,7 +377,7 @@ class Stock:
     """What `stock --json` says."""
 
     def __init__(self, command, log, files):
-        self.verb = Verb(command, "stock", "--json", log, *files)
+        self.verb = Verb(command, "stock", "--json", operand(log), *map(operand, files))
         self.lots, self.never, self.keyless, self.foot, self.most = Kept(), Kept(), Kept(), {}, 0
         for told in self.verb.objects():
             if "lots" in told:
@@ -386,11 +410,11 @@ class Stock:
             *(format(foot[name], ",") for name in ("received", "never_received", "no_key")))
         text += folded("Lots", self.lots, self.lot_table())
         if self.never.count:
-            rows = [[code(told["file"]), told["record"], code(told["supplier"]), code(told["lot"])] for told in self.never.rows]
+            rows = [[code(named(told["file"])), told["record"], code(told["supplier"]), code(told["lot"])] for told in self.never.rows]
             text += folded("Records never received: %s" % format(self.never.count, ","), self.never,
                            table("Records whose lot the log never received", ["File", "Record", "Supplier", "Lot"], rows, (1,)))
         if self.keyless.count:
-            rows = [[code(told["file"]), told["record"], escaped(told["no_key"])] for told in self.keyless.rows]
+            rows = [[code(named(told["file"])), told["record"], escaped(told["no_key"])] for told in self.keyless.rows]
             text += folded("Records without a key: %s" % format(self.keyless.count, ","), self.keyless,
                            table("Records that cannot be looked up", ["File", "Record", "Why"], rows, (1,)))
         return head + text
@@ -403,11 +427,14 @@ def foot(command, files, verbs):
     rows = []
     for name in files:
         digest, size = hashlib.sha256(), 0
-        with open(name, "rb") as file:
-            for part in iter(lambda: file.read(CHUNK), b""):
-                digest.update(part)
-                size += len(part)
-        rows.append([code(name), format(size, ","), "<code>%s</code>" % digest.hexdigest()])
+        try:
+            with open(name, "rb") as file:
+                for part in iter(lambda: file.read(CHUNK), b""):
+                    digest.update(part)
+                    size += len(part)
+        except OSError as trouble:
+            die("%s: %s" % (named(name), trouble.strerror))
+        rows.append([code(named(name)), format(size, ","), "<code>%s</code>" % digest.hexdigest()])
     text = table("Files", ["Name", "Bytes", "SHA-256"], rows, (1,))
     text += "<h3>The same figures, to check</h3>\n<ul>%s</ul>\n" % "".join("<li><code>%s</code></li>" % escaped(verb.said()) for verb in verbs)
     return "<footer>\n<h2>How this page was made</h2>\n%s<p>%s, Python %s.</p>\n</footer>\n" % (text, escaped(version or "capellanote"), sys.version.split()[0])
@@ -432,20 +459,24 @@ def page(command, asked):
         verbs.append(stock.verb)
         others.append(asked["log"])
         status = max(status, 1 if stock.verb.status else 0)
-    title = escaped(asked["title"] or "Delivery: %s" % ", ".join(os.path.basename(name) for name in asked["files"]))
+    title = escaped(asked["title"] or "Delivery: %s" % ", ".join(os.path.basename(named(name)) for name in asked["files"]))
     text = '<!DOCTYPE html>\n<html lang="en">\n<head>\n<meta charset="utf-8">\n<meta name="viewport" content="width=device-width, initial-scale=1">\n'
     text += "<title>%s</title>\n<style>%s</style>\n</head>\n<body>\n<main>\n<h1>%s</h1>\n%s</main>\n%s</body>\n</html>\n" % (
         title, STYLE, title, "".join(parts), foot(command, asked["files"] + others, verbs))
-    return text, min(status, 2)
+    return text, 3 if status else 0
 
 
-def main(command, last, log, title, *files):
+def main(command, title, *words):
+    paths, names = words[0::2], words[1::2]
+    NAMES.update((path, name) for path, name in zip(paths, names) if path != name)
+    last, log, files = paths[0], paths[1], paths[2:]
     asked = {"last": last, "log": log, "title": title, "files": list(files)}
     if last and len(files) > 1:
         die("report: --last goes with one file, since a comparison takes two")
     for name in [*files, *filter(None, (last, log))]:
         if not os.path.isfile(name):
-            die("%s: %s" % (name, "not a file that can be read several times" if os.path.exists(name) else "no such file"))
+            die("%s: %s" % (named(name), "not a file that can be read several times" if os.path.exists(name) else "no such file"))
+    signal.signal(signal.SIGPIPE, signal.SIG_DFL)
     text, status = page(command, asked)
     try:
         sys.stdout.buffer.write(text.encode("utf-8", "backslashreplace"))
@@ -456,6 +487,6 @@ def main(command, last, log, title, *files):
 
 
 if __name__ == "__main__":
-    if len(sys.argv) < 6:
-        sys.exit(__doc__)
+    if len(sys.argv) < 9 or len(sys.argv) % 2 == 0:
+        die("report.py is called by the verb report")
     sys.exit(main(*sys.argv[1:]))

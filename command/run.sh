@@ -1,6 +1,6 @@
 # Running a program: where it and its loader are, its verdict, its files, and what becomes of it when the command is stopped.
 
-room= running= filter= temporary=
+room= running= filter= temporary= staged= leash=
 
 # ---- Ends
 
@@ -9,6 +9,7 @@ clean_up() {
     for process in $running $filter; do kill_tree "$process"; done
     [ -z "$temporary" ] || rm -f "$temporary"
     [ -z "$room" ] || rm -rf "$room"
+    [ -z "$staged" ] || rm -rf "$staged"
     unlock
 }
 
@@ -48,24 +49,49 @@ say() { # FORMAT WORDS...
 
 make_room() {
     [ -z "$room" ] || return 0
-    room=$(umask 077 && mktemp -d "${TMPDIR:-/tmp}/capellanote.XXXXXX" 2>/dev/null) ||
+    room=$(umask 077 && mktemp -d "${TMPDIR:-/tmp}/capellanote.XXXXXX" 2>/dev/null) && echo room 2>/dev/null >"$room/room" ||
         die "no temporary folder can be made in ${TMPDIR:-/tmp}: set TMPDIR to a folder with room"
+    case $room in /*) ;; *) room=$PWD/$room ;; esac
 }
 
-# With -o the output goes to a file beside the one asked for, which takes its place once it is complete.
+# What was to be kept there was not.
+no_room() {
+    die "${TMPDIR:-/tmp} has no room for $1: set TMPDIR to a folder with room"
+}
+
+# With -o the output goes to a file beside the one asked for, which takes its place once it is complete. - is standard output.
 open_output() {
-    [ -n "$option_o" ] || return 0
     target=$option_o
-    case $target in -*) target=./$target ;; esac
+    case $target in
+    "" | - | /dev/stdout) return 0 ;;
+    -*) target=./$target ;;
+    /dev/stderr | /dev/fd/* | /proc/self/fd/*)
+        exec >>"$target" # a descriptor, whatever stands behind it
+        return
+        ;;
+    esac
     if [ -d "$target" ]; then die "$option_o: is a directory"; fi
     if [ -e "$target" ] && [ ! -f "$target" ]; then
         exec >"$target"
         return
     fi
     [ ! -L "$target" ] || target=$(resolved "$target")
-    temporary=$(mktemp "$(dirname "$target")/.capellanote.XXXXXX" 2>/dev/null) || { temporary= && die "$option_o: cannot be written there"; }
-    chmod "$(printf '%o' $((0666 & ~$(umask))))" "$temporary" # as any new file is
+    [ ! -L "$target" ] || die "$option_o: a link that leads back to itself; name another file"
+    if [ -e "$target" ] && [ ! -w "$target" ]; then die "$option_o: may not be written by you; name another file"; fi
+    temporary=$(mktemp "$(dirname "$target")/.capellanote.XXXXXX" 2>/dev/null) ||
+        { temporary= && die "$option_o: cannot be written there; name a file in a folder of yours"; }
+    like_target
     exec >"$temporary"
+}
+
+# The mode and the owner of what stood there; else the mode of any new file.
+like_target() {
+    if [ -e "$target" ] && mode=$(stat -c %a "$target" 2>/dev/null); then
+        chown "$(stat -c %u:%g "$target")" "$temporary" 2>/dev/null || :
+    else
+        mode=$(printf '%o' $((0666 & ~$(umask))))
+    fi
+    chmod "$mode" "$temporary"
 }
 
 close_output() {
@@ -122,6 +148,7 @@ await() {
         case $ended in
         0) ;;
         141) stopped PIPE ;; # whoever read the output has stopped reading
+        132 | 135 | 136 | 139) broken ;; # an instruction or a place that is none: no whole program comes to one
         *)
             [ "$ended" -lt 129 ] || die "the program $program was ended by signal $((ended - 128)), so its output is not whole"
             broken
@@ -136,29 +163,40 @@ pipe() { # NAME
     [ -p "$room/$1" ] || mkfifo "$room/$1" || die "no pipe can be made in ${TMPDIR:-/tmp}"
 }
 
-# A filter that reads from such pipes what the programs started write, and writes to standard output; then waits for all.
+# A filter that reads from such pipes what the programs started write, and writes to standard output; then waits for all. What it writes goes
+# through cat, whose status tells whether it was written: that of awk does not on every machine.
 sieve() { # COMMAND WORDS...
-    "$@" 2>"$room/said" &
+    pipe sifted
+    "$@" >"$room/sifted" 2>"$room/said" &
     filter=$!
-    wait "$filter"
-    sifted=$?
-    filter=
-    case $sifted in
-    0) await ;;
+    # shellcheck disable=SC2086
+    $leash cat <"$room/sifted" 2>"$room/unwritten" &
+    writer=$!
+    filter="$filter $writer"
+    wait "$writer"
+    written=$?
+    case $written in
+    0) ;;
     141) stopped PIPE ;;
     *)
-        if grep -q 'No space left' "$room/said"; then unwritten "No space left on device"; fi
-        cat "$room/said" >&2
+        if grep -q 'No space left' "$room/unwritten"; then unwritten "No space left on device"; fi
         unwritten
         ;;
     esac
+    wait "${filter% *}"
+    sifted=$?
+    filter=
+    [ "$sifted" = 0 ] || die "$(cat "$room/said") (status $sifted), so what is written is not whole"
+    await
 }
 
+# A program that broke down: it is not whole, or it has less stack than it needs.
 broken() {
+    case $ended in 132 | 135 | 136 | 139) how="signal $((ended - 128)); or \`ulimit -s\` gives less than 8192" ;; *) how="status $ended" ;; esac
     if [ -d "$here/run" ]; then
-        die "the program $program is broken (status $ended); install capellanote again"
+        die "the program $program is broken ($how); install capellanote again"
     fi
-    die "the program $program is broken (status $ended); build it anew: capellanote build"
+    die "the program $program is broken ($how); build it anew: capellanote build"
 }
 
 # Runs a program to its end; its first verdict line is left in $verdict.
@@ -180,19 +218,85 @@ plain() { # FILE
     esac
 }
 
-# A file that is read twice: what comes once, standard input and pipes, is copied first.
+# A file that is read twice: what comes once, standard input and pipes, is copied first. The copying has a process of its own, so that
+# a signal stops the command while nothing comes.
 copies=0
 twice() { # FILE
     plain "$1"
     case $1 in -) ;; *) [ -p "$1" ] || return 0 ;; esac
-    copies=$((copies + 1))
+    copies=$((copies + 1)) shown=$1 from=$path
     mkdir "$room/$copies"
     path="$room/$copies/standard input"
+    # shellcheck disable=SC2086
     if [ "$1" = - ]; then
         [ -z "${spooled:-}" ] || misused "standard input can be read once, and - stands twice"
-        spooled=yes
-        cat <&7 >"$path" || die "standard input was not copied to ${TMPDIR:-/tmp}, so it cannot be read twice"
+        spooled=yes shown="standard input"
+        $leash cat <&7 >"$path" &
     else
-        cat <"$1" >"$path" || die "$1 was not copied to ${TMPDIR:-/tmp}, so it cannot be read twice"
+        $leash cat "$from" <&7 >"$path" & # with the command's own standard input, which the name may be, too
     fi
+    running=$!
+    wait "$running" || die "$shown was not copied to ${TMPDIR:-/tmp}, so it cannot be read twice: set TMPDIR to a folder with room"
+    running=
+}
+
+# Words for `eval`, one by one into $list; a long list grows by parts, for a string that grows is copied each time.
+begin_list() { list= part= added=0; }
+
+add() { # WORD
+    part="$part $1" added=$((added + 1))
+    if [ "$added" = 400 ]; then list=$list$part part= added=0; fi
+}
+
+end_list() { list=$list$part; }
+
+# The files of a verb whose program reads SDfiles, twice: the words for them in $list, for `eval`; with $paired each with its name behind it.
+# A good molfile is an SDfile's record without items and without its last line, so the program is handed a copy with that line.
+paired=
+settle() { # FILES...
+    begin_list
+    at=0
+    mkdir "$room/molfiles"
+    for file in "$@"; do
+        at=$((at + 1))
+        kind_of "$file"
+        twice "$file"
+        if [ "$kind" = molfile ] && [ -f "$path" ] && [ -r "$path" ]; then
+            head -c 2097152 <"$path" >"$room/molfiles/$at" || no_room "a copy of $file" # a longer one is refused within these bytes
+            path=$room/molfiles/$at
+        fi
+        case $path in
+        "$file") add "\"\${$at}\"" ;;
+        "./$file") add "\"./\${$at}\"" ;;
+        *) add "\"\$room${path#"$room"}\"" ;;
+        esac
+        [ -z "$paired" ] || add "\"\${$at}\""
+    done
+    end_list
+    rmdir "$room/molfiles" 2>/dev/null || judge_molfiles "$room/molfiles"/*
+}
+
+# Copies of molfiles are judged as what they are, all by one process. In the place of a refused one the program sees a text that is refused, too.
+judge_molfiles() { # COPIES...
+    need check_files
+    start "$room/judged" /dev/null check_files molfile "$@"
+    await
+    exec 8<"$room/judged"
+    for copy in "$@"; do
+        verdict=
+        IFS= read -r verdict <&8
+        case $verdict in
+        "accepted "*) echo '$$$$' >>"$copy" || no_room "a copy of a molfile" ;;
+        *)
+            printf '%s\n' "$verdict" >"$room/verdict.molfile.${copy##*/}"
+            printf x >"$copy"
+            ;;
+        esac
+    done
+    exec 8<&-
+}
+
+# The verdict on the file of this place: of a refused molfile its own.
+own_verdict() { # PLACE
+    [ ! -f "$room/verdict.molfile.$1" ] || IFS= read -r verdict <"$room/verdict.molfile.$1"
 }

@@ -55,7 +55,7 @@ hint() { # NUMBER
     13) echo "'A  ', 'V  ', 'M  STY' and other lines than the four are not served" ;;
     16) echo "text after the header's name, such as (1), a name above 30 bytes, or a blank line too many is the common cause" ;;
     17) echo "the blank line after the item's values is missing" ;;
-    18) echo "an SDfile is checked without --molfile" ;;
+    18) echo "an SDfile is read without --molfile, and one whose name ends in .mol with --sdfile" ;;
     19) echo "a last line without its line end, or a missing 'M  END' or \$\$\$\$ line, is the common cause" ;;
     esac
 }

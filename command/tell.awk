@@ -1,6 +1,7 @@
 # What is said of files, made of the facts that the program check_files writes: for people, or as JSON.
-# awk -f tell.awk ROOM KIND NAME KIND NAME...   with the facts of the files of a kind to be read from ROOM/KIND
-# -v json=yes: objects. -v all=yes: a tally. -v strict=yes: a warning makes status 1. -v names=yes: item names alone. The status goes to ROOM/status, what belongs on standard error to ROOM/beside.
+# awk -f tell.awk ROOM NAME...   with the facts of the files of a kind to be read from ROOM/molfile and ROOM/sdfile
+# -v molfile=yes, -v sdfile=yes: all files are of that kind. -v json=yes: objects. -v all=yes: a tally. -v strict=yes: a warning makes status 1.
+# -v names=yes: item names alone. The status goes to ROOM/status, what belongs on standard error to ROOM/beside.
 
 # ---- Text
 
@@ -259,7 +260,7 @@ function judge_it(    rest, k, s) {
     } else if (number == 18) {
         sentence = "a line after 'M  END', with which a molfile ends"
         ask = "nothing"
-        also = "an SDfile is checked without --molfile"
+        also = molfile != "" ? "an SDfile is checked without --molfile" : "the name says that this is a molfile: an SDfile of such a name is checked with --sdfile"
     } else cut_short()
     rest = first_bytes()
     if (rest != "") { also = rest; if (number != 18) ask = "" }
@@ -481,14 +482,14 @@ BEGIN {
     decimals = "spaces, digits, a point and four decimals, ending in the field's last column"
     for (i = 1; i < 32; i++) controls = controls sprintf("%c", i)
     room = ARGV[1]
-    for (i = 2; i + 1 < ARGC; i += 2) {
-        kind = ARGV[i]
-        name = ARGV[i + 1]
+    for (i = 2; i < ARGC; i++) {
+        name = ARGV[i]
+        kind = molfile != "" || (sdfile == "" && name ~ /\.[mM][oO][lL]$/) ? "molfile" : "sdfile"
         status = tell_file()
         sums[status]++
         if (status > worst) worst = status
     }
-    if (!json && !names && ARGC > 4) print plural((ARGC - 2) / 2, "file") ": " sums[0] + 0 " accepted with " plural(total + 0, "record") ", " sums[1] + 0 " refused, " sums[2] + 0 " not read"
+    if (!json && !names && ARGC > 3) print plural(ARGC - 2, "file") ": " sums[0] + 0 " accepted with " plural(total + 0, "record") ", " sums[1] + 0 " refused, " sums[2] + 0 " not read"
     print worst + 0 >(room "/status")
     exit
 }

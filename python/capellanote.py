@@ -23,7 +23,10 @@ BOND_FIELDS = ("first", "second", "type", "stereo", "topology", "centre")
 def _load():
     here = os.path.dirname(os.path.abspath(__file__))
     name = os.environ.get("CAPELLANOTE_LIBRARY") or os.path.join(here, "..", "target", "sharedlib", "libcapellanote.so")
-    library = ctypes.CDLL(name)
+    try:
+        library = ctypes.CDLL(name)
+    except OSError as trouble:
+        raise OSError("%s; library/build makes the shared library, for x86-64, and CAPELLANOTE_LIBRARY names another place for it" % trouble) from None
     library.capellanote_sentence_of.restype = ctypes.c_char_p
     library.capellanote_sentence_of.argtypes = [ctypes.c_size_t]
     text, table, answer = [ctypes.c_char_p, ctypes.c_size_t], [ctypes.POINTER(ctypes.c_int32), ctypes.c_size_t], [ctypes.POINTER(ctypes.c_uint64)]
@@ -82,6 +85,8 @@ def _accepted(answer):
 def check(text, kind=SDFILE):
     """The number of records of a text; Refused where it is not well formed."""
     text, answer = _bytes(text), (ctypes.c_uint64 * 3)()
+    if kind not in (MOLFILE, SDFILE):
+        raise Refused(1, 0, 0)
     _library.capellanote_check(kind, text, len(text), answer)
     return _accepted(answer)[1]
 
@@ -172,11 +177,30 @@ def _table(rows, places, kind):
     return table
 
 
+def _part(lines):
+    """Lines as one text, in which each is a line: a line end within one would make two of it."""
+    for number, line in enumerate(lines, 1):
+        for end in b"\n", b"\r":
+            if end in line:
+                raise Refused(4, number, line.index(end) + 1)
+    return b"".join(line + b"\n" for line in lines)
+
+
+def _item_lines(items):
+    for name, values in items:
+        yield b">  <" + _bytes(name) + b">"
+        for line in map(_bytes, values):
+            if not line.strip(b" "):
+                raise ValueError("a value line of the item %r is blank, and a blank line ends an item" % name)
+            yield line
+        yield b""
+
+
 def write(record):
-    """The canonical text of a record; Refused where it cannot be written."""
+    """The canonical text of a record; Refused where it cannot be written. What is read of it is the record again."""
     atoms, bonds = _table(record.atoms, ATOM, "atoms"), _table(record.bonds, BOND, "bonds")
-    header = b"".join(_bytes(line) + b"\n" for line in record.header)
-    items = b"".join(b">  <" + _bytes(name) + b">\n" + b"".join(_bytes(line) + b"\n" for line in values) + b"\n" for name, values in record.items)
+    header = _part([_bytes(line) for line in record.header])
+    items = _part(list(_item_lines(record.items)))
     size = 4096 + 70 * len(record.atoms) + 22 * len(record.bonds) + 3 * 18 * LIMIT + len(header) + len(items)
     room, answer = ctypes.create_string_buffer(size), (ctypes.c_uint64 * 3)()
     _library.capellanote_write_record(atoms, len(atoms), bonds, len(bonds), len(record.atoms), len(record.bonds), record.chiral,

@@ -78,6 +78,35 @@ is "build: mends a broken program" 0 "built: check_files records" "check_files i
 got at_repo repo/capellanote check sample.sdf
 is "build: mended" 0 "$good" ""
 
+sleep 1
+touch "$repo/crates.txt"
+got at_repo repo/capellanote check sample.sdf
+is "build: a program older than crates.txt" 0 "$good" "check_files is older than its sources (crates.txt)"
+
+# A program that is cut anywhere, as by a full disk: one sentence that says what to do, and a build mends it.
+for cut in 0 1 1000 9000 40000; do
+    head -c "$cut" "$PWD/target/bin/check_files" >"$repo/target/bin/check_files"
+    got at_repo repo/capellanote check sample.sdf
+    [ "$status" = 2 ] && [ ! -s "$room/out" ] && grep -q "the program check_files is broken .*capellanote build" "$room/err" && ok || bad "build: a program cut at $cut" "status $status: $(head -c 300 "$room/out" "$room/err")"
+done
+got at_repo repo/capellanote build
+is "build: mends a program that is cut" 0 "built: check_files records" "check_files is broken"
+
+# A source that changes while it is built makes the program old again. TMPDIR may be relative.
+sleep 1
+touch "$repo/crates/reader/src/lib.rt"
+at_repo env SLOW=1 TMPDIR=tmp repo/capellanote check sample.sdf >"$room/first" 2>&1 &
+first=$!
+while [ ! -s "$repo/target/building/process" ]; do sleep 0.1; done
+sleep 0.5
+touch "$repo/crates/reader/src/lib.rt"
+wait "$first"
+grep -q "$good" "$room/first" && ok || bad "build: a relative TMPDIR" "$(cat "$room/first")"
+got at_repo repo/capellanote check sample.sdf
+is "build: a source that changed meanwhile" 0 "$good" "check_files is older than its sources (crates/reader/src/lib.rt)"
+got at_repo repo/capellanote check sample.sdf
+is "build: a source that changed meanwhile, once" 0 "$good" ""
+
 # A build that fails; without the toolchain; two at once; one that is killed.
 touch "$repo/crates/reader/src/lib.rt"
 got at_repo env FAILS=yes repo/capellanote check sample.sdf
@@ -142,6 +171,8 @@ if as_other sh -c 'cd "$1" && cat repo/capellanote' sh "$i" >/dev/null 2>&1; the
     chmod 555 "$i/closed"
     got at_repo as_other repo/capellanote install "$i/closed"
     is "install: not allowed" 2 "" "may not be written by you"
+    got at_repo as_other env -u HOME repo/capellanote install
+    [ "$(id -u)" != 0 ] || is "install: no HOME" 2 "" "HOME is not set: name the folder"
     chmod -R u+w "$repo" "$i/closed"
 else
     echo "tests/install.sh: no other user can be tried here: not tried where nothing may be written"
@@ -178,6 +209,31 @@ got ./capellanote install "$i/moved"
 is "install: again" 0 "installed: $i/moved/bin/capellanote" ""
 got bare check "$sample"
 is "install: again, and it runs" 0 "$sample: accepted, 5 records" ""
+(cd "$i" && "$OLDPWD/capellanote" install relative) >"$room/out" 2>"$room/err"
+status=$?
+is "install: a relative folder" 0 "installed: $i/relative/bin/capellanote" ""
+
+# Two installs at once; one that is stopped leaves what stood there, and nothing beside it.
+./capellanote install "$i/both" >"$room/first" 2>&1 &
+first=$!
+got ./capellanote install "$i/both"
+is "install: two at once" 0 "installed: $i/both/bin/capellanote" ""
+wait "$first" && ok || bad "install: two at once" "the other: $(cat "$room/first")"
+mkdir "$i/slow"
+printf '#!/bin/sh\nsleep 2\nexec %s "$@"\n' "$(command -v cp)" >"$i/slow/cp"
+chmod +x "$i/slow/cp"
+PATH=$i/slow:$PATH ./capellanote install "$i/both" >"$room/first" 2>&1 &
+first=$!
+for _ in $(seq 1 100); do
+    [ -z "$(ls -d "$i"/both/lib/capellanote.*/new 2>/dev/null)" ] || break
+    sleep 0.1
+done
+kill -s TERM "$first"
+wait "$first"
+[ "$?" = 143 ] && ok || bad "install: stopped" "another status: $(cat "$room/first")"
+[ "$(ls "$i/both/lib" "$i/both/lib/capellanote")" = "$(ls "$i/moved/lib" "$i/moved/lib/capellanote" | sed "s,$i/moved,$i/both,")" ] && ok || bad "install: at once and stopped" "$(ls "$i/both/lib" "$i/both/lib/capellanote")"
+got env -i PATH="$i/few" "$i/both/bin/capellanote" check "$sample"
+is "install: at once and stopped, and it runs" 0 "$sample: accepted, 5 records" ""
 rm "$i/moved/lib/capellanote/bin/check_files"
 got bare check "$sample"
 is "install: a program is missing" 2 "" "install capellanote again"

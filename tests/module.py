@@ -3,6 +3,7 @@ The status is 1 where something differs; the last line says what was tried."""
 import io
 import os
 import random
+import subprocess
 import sys
 
 top = os.path.join(os.path.dirname(os.path.abspath(__file__)), "..")
@@ -79,6 +80,40 @@ record.atoms[0] = (0, 0, 0, 999) + (0,) * 12
 same("tables that cannot be written", refusal(capellanote.write, record), ("refused", 21, 0, 0))
 record.atoms[0] = (2 ** 31,) + (0,) * 15
 same("a number above 32 bits", refusal(capellanote.write, record), ("refused", 21, 0, 0))
+
+
+def written(**parts):
+    """What is read of a record that was written, or its refusal."""
+    try:
+        text = capellanote.write(capellanote.Record(**parts))
+    except capellanote.Refused as error:
+        return ("refused", error.number, error.line, error.column)
+    except ValueError as error:
+        return str(error)
+    (record,) = capellanote.read(text)
+    return record.header, record.items
+
+
+# A line stays one line: no item comes of a value, and none is lost.
+blank = "a value line of the item b'A' is blank, and a blank line ends an item"
+for items, expected in (
+        ([(b"A", [b"1"]), (b"B", [])], ([b"", b"", b""], [(b"A", [b"1"]), (b"B", [])])),
+        ([(b"A", [b"1\n\n>  <B>\n2"])], ("refused", 4, 2, 2)),
+        ([(b"A", [b"1"]), (b"B>\n\n>  <C", [b"2"])], ("refused", 4, 4, 7)),
+        ([(b"A", [b"1\r"])], ("refused", 4, 2, 2)),
+        ([(b"A", [b"", b">  <B>", b"2"])], blank),
+        ([(b"A", [b"1", b"  "])], blank),
+        ([(b"A", [b">  <B>"])], ("refused", 17, 2, 1)),
+        ([(b"A", [b"$$$$"])], ("refused", 17, 2, 1)),
+        ([(b"A> <B", [b"1"])], ("refused", 16, 1, 1))):
+    same("write of items", written(items=items), expected)
+same("write of a header", written(header=[b"a\nb", b"c", b""]), ("refused", 4, 1, 2))
+same("write of a header", written(header=[b"a\r", b"", b""]), ("refused", 4, 1, 2))
+for kind in (2, 256, 257, -1):
+    same("a kind that is none", refusal(capellanote.check, b"", kind), ("refused", 1, 0, 0))
+run = subprocess.run([sys.executable, "-c", "import capellanote"], cwd=os.path.join(top, "python"), stderr=subprocess.PIPE,
+                     env=dict(os.environ, CAPELLANOTE_LIBRARY="/nowhere/libcapellanote.so"))
+same("a library that is not there", b"library/build makes the shared library" in run.stderr, True)
 numbers = [n for n in range(1, 40) if "no sentence" not in capellanote.sentence(n)]
 same("a sentence for each number", len({capellanote.sentence(n) for n in numbers}), len(numbers))
 print("tests/module.py: %d answers as the second program has them" % tried)

@@ -116,6 +116,51 @@ if [ -e "$room/report/none.html" ]; then bad "no page where nothing is said" "it
 got ./capellanote report -o "$room/report/none.html" "$room/report/nowhere.sdf"
 is "a file that is not there" 2 "" "no such file"
 
+# A record that is too long; names that look like options or are no UTF-8; standard input and a pipe; molfiles; a file that may not be read; a Python that
+# breaks down. Where there is no page, standard error says why.
+python3 - "$room/report/" <<'END'
+import sys
+sample = open("examples/sample.sdf", "rb").read()
+record = sample[:sample.index(b"$$$$")]
+open(sys.argv[1] + "long.sdf", "wb").write(record + (b">  <X>\n" + b"x" * 200 + b"\n\n") * 6000 + b"$$$$\n" + sample)
+END
+page_of "a record too long" 1 "$room/report/long.sdf"
+shows "a record too long in words" "too long: the record does not end within 1,048,576 bytes"
+shows "what lies behind a record too long" "5 accepted, 1 refused"
+cp "$room/report/clean.sdf" "$room/report/-all.sdf"
+(cd "$room/report" && "$OLDPWD/capellanote" report --last -all.sdf -o page.html -- -all.sdf) >"$room/out" 2>"$room/err"
+status=$?
+is "a name that looks like an option" 0 "" ""
+odd_name=$(printf '%s/\351.sdf' "$room/report")
+cp "$room/report/clean.sdf" "$odd_name"
+page_of "a name that is no UTF-8" 0 "$odd_name"
+cat "$room/report/clean.sdf" | ./capellanote report -o "$room/report/page.html" - >"$room/out" 2>"$room/err"
+status=$?
+is "standard input" 0 "" ""
+python3 "$room/page.py" "$room/report/page.html" >"$room/text"
+shows "standard input: its records" "1 file with 3 records: 3 accepted"
+shows "standard input: its name" "capellanote check --all --json -"
+page_of "a pipe" 0 <(cat "$room/report/clean.sdf")
+sed -n 1,9p examples/sample.sdf >"$room/report/one.mol"
+page_of "a molfile beside an SDfile" 0 "$room/report/one.mol" "$room/report/clean.sdf"
+shows "a molfile's record" "2 files with 4 records: 4 accepted"
+shows "a molfile's bottle" "no supplier named 1"
+mkdir "$room/report/bin"
+printf '#!/bin/sh\nexit 1\n' >"$room/report/bin/python3"
+chmod +x "$room/report/bin/python3"
+got env PATH="$room/report/bin:$PATH" ./capellanote report -o "$room/report/none.html" "$room/report/clean.sdf"
+is "a Python that breaks down" 2 "" "no page is written"
+chmod 755 "$room" "$room/report"
+cp "$room/report/clean.sdf" "$room/report/closed.sdf"
+chmod 0 "$room/report/closed.sdf"
+as_reader() { if [ "$(id -u)" = 0 ]; then setpriv --reuid=65534 --regid=65534 --clear-groups "$@"; else "$@"; fi; }
+if as_reader sh -c 'cd "$1" && cat capellanote "$2/clean.sdf"' sh "$PWD" "$room/report" >/dev/null 2>&1; then
+    chmod 777 "$room/report"
+    got as_reader ./capellanote report -o "$room/report/none.html" "$room/report/closed.sdf"
+    is "a file that may not be read" 2 "" "closed.sdf: Permission denied"
+fi
+if [ -e "$room/report/none.html" ]; then bad "no page where there is no reason for one" "it is there"; else ok; fi
+
 # A browser opens the page without a word on its console.
 browser=$(command -v chromium || command -v chromium-browser) || browser=
 if [ -n "$browser" ]; then

@@ -61,6 +61,8 @@ in_room python3 - "$room/status/many.sdf" <<'END' && ok || bad "status: a killed
 import signal, subprocess, sys
 bad = 0
 signals = [signal.SIGTERM, signal.SIGINT, signal.SIGHUP]
+for number in signals:
+    signal.signal(number, signal.SIG_DFL) # also where the tests run in the background, which ignores some
 if subprocess.run("setpriv --pdeathsig TERM true", shell=True, stderr=subprocess.DEVNULL).returncode == 0:
     signals.append(signal.SIGKILL)
 for verb in (["read"], ["fetch", "LOT"], ["canon"]):

@@ -1,6 +1,6 @@
-usage="[--progress] [-o FILE] FILE"
-about="the canonical text of an SDfile"
-options="--progress -o="
+usage="[--molfile | --sdfile] [--progress] [-o FILE] FILE"
+about="the canonical text of an SDfile or a molfile"
+options="--molfile --sdfile --progress -o="
 takes="one file" fewest=1 most=1
 programs="records"
 place=50
@@ -13,7 +13,16 @@ END
 }
 
 verb() { # FILE
-    twice "$1"
-    run records canon ${option_progress:+--progress} "$path"
+    settle "$1"
+    kind_of "$1"
+    if [ "$kind" = sdfile ]; then
+        eval "run records canon \${option_progress:+--progress} $list"
+    else
+        eval "start \"\$room/verdict\" \"\$room/canon\" records canon $list"
+        await
+        sieve awk 'NR > 1 { print last } { last = $0 }' "$room/canon" # a molfile ends before the $$$$ line
+        IFS= read -r verdict <"$room/verdict" || :
+        own_verdict 1
+    fi
     tell "$1"
 }

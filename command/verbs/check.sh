@@ -20,41 +20,44 @@ END
 
 # The files of one kind, judged by one process, which writes facts of each in the order of their names.
 judge_kind() { # KIND FILES...
-    wanted=$1 at=1 names=
+    wanted=$1 at=0
     shift
+    begin_list
     for file in "$@"; do
-        kind_of "$file"
-        if [ "$kind" = "$wanted" ]; then
-            case $file in -?*) names="$names \"./\${$at}\"" ;; *) names="$names \"\${$at}\"" ;; esac
-        fi
         at=$((at + 1))
+        kind_of "$file"
+        [ "$kind" = "$wanted" ] || continue
+        case $file in -?*) add "\"./\${$at}\"" ;; *) add "\"\${$at}\"" ;; esac
     done
-    [ -n "$names" ] || return 0
+    end_list
+    [ -n "$list" ] || return 0
     pipe "$wanted"
-    eval "start \"\$room/verdict.\$wanted\" \"\$room/\$wanted\" check_files \"\$wanted\" \${option_progress:+--progress} \${to_end:+--all} $names"
+    eval "start \"\$room/verdict.\$wanted\" \"\$room/\$wanted\" check_files \"\$wanted\" \${option_progress:+--progress} \${to_end:+--all} $list"
 }
 
-# What is said of the files, in the order of their names. It has a process of its own.
+# What is said of the files, in the order of their names, whose kinds it knows as kind_of does. It has a process of its own.
 tell_files() { # FILES...
-    at=1 names_of=
-    for file in "$@"; do
-        kind_of "$file"
-        names_of="$names_of $kind \"\${$at}\"" at=$((at + 1))
-    done
     : >"$room/beside"
     LC_ALL=C
     export LC_ALL
-    eval "exec awk -v json=\"\$option_json\" -v all=\"\$to_end\" -v strict=\"\$option_strict\" -v names=\"\${only_names:-}\" -f \"\$here/command/tell.awk\" \"\$room\" $names_of"
+    # shellcheck disable=SC2086
+    exec $leash awk -v molfile="$option_molfile" -v sdfile="$option_sdfile" -v json="$option_json" -v all="$to_end" -v strict="$option_strict" \
+        -v names="${only_names:-}" -f "$here/command/tell.awk" "$room" "$@"
 }
 
-verb() { # FILES...
+# The files of both kinds in one run.
+judge_files() { # FILES...
     dashes=0
     for file in "$@"; do [ "$file" != - ] || dashes=$((dashes + 1)); done
     [ "$dashes" -lt 2 ] || misused "standard input can be read once, and - stands twice"
-    to_end=${option_all}${option_json}
     judge_kind sdfile "$@"
     judge_kind molfile "$@"
     sieve tell_files "$@"
     cat "$room/beside" >&2
     status=$(cat "$room/status")
+}
+
+verb() { # FILES...
+    to_end=${option_all}${option_json}
+    judge_files "$@"
 }

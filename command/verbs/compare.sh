@@ -1,6 +1,6 @@
-usage="[--json] [-o FILE] OLD NEW"
-about="what differs between two SDfiles, record by record"
-options="--json -o="
+usage="[--json] [--molfile | --sdfile] [-o FILE] OLD NEW"
+about="what differs between two files, record by record"
+options="--json --molfile --sdfile -o="
 takes="two files" fewest=2 most=2
 programs="records"
 place=81
@@ -15,16 +15,15 @@ END
 
 # The program announces the verdict on each file, and then what they are to each other, a line each.
 verb() { # OLD NEW
-    twice "$1"
-    first=$path
-    twice "$2"
-    run records compare ${option_json:+--json} "$first" "$path"
+    settle "$@"
+    eval "run records compare \${option_json:+--json} $list"
     told=0
     while IFS= read -r line; do told=$((told + 1)) verdict=$line; done <"$room/verdict"
     case $verdict in
     same) status=0 && return ;;
     "differ "*) status=1 whole=yes && return ;;
     esac
+    own_verdict "$told"
     [ "$told" -lt 2 ] || shift
     tell "$1"
     status=2

@@ -1,6 +1,6 @@
-usage="[--progress] [FILE]"
-about="count the records of an SDfile, or of standard input"
-options="--progress"
+usage="[--molfile | --sdfile] [--progress] [FILE]"
+about="count the records of a file, or of standard input"
+options="--molfile --sdfile --progress"
 takes="one file, or none" fewest=0 most=1
 programs="check_files"
 place=20
@@ -16,7 +16,8 @@ END
 
 verb() { # [FILE]
     plain "${1:--}"
-    run check_files sdfile ${option_progress:+--progress} "$path" >/dev/null
+    kind_of "$path"
+    run check_files "$kind" ${option_progress:+--progress} "$path" >/dev/null
     # shellcheck disable=SC2086
     set -- "${1:-standard input}" $verdict
     case ${2:-} in

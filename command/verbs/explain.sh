@@ -10,9 +10,11 @@ explain() {
 verb() { # NUMBERS...
     status=0
     for number in "$@"; do
-        if ! LC_ALL=C awk -F '\t' -v number="$number" '
-            $1 == number "" { print "refused " $1 ": " $2 "\n  why: " $3 "\n  ask for: " $4; known = 1 }
-            END { exit !known }' "$here/command/numbers.txt"; then
+        told=$(NUMBER=$number LC_ALL=C awk -F '\t' '
+            $1 == ENVIRON["NUMBER"] "" { print "refused " $1 ": " $2 "\n  why: " $3 "\n  ask for: " $4 }' "$here/command/numbers.txt")
+        if [ -n "$told" ]; then
+            say '%s\n' "$told"
+        else
             printf 'capellanote: %s is the number of no refusal\n' "$number" >&2
             status=2
         fi

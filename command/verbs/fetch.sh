@@ -1,6 +1,6 @@
-usage="[--tsv] [--progress] [-o FILE] NAME FILE... | -n NAME [-n NAME]... FILE..."
+usage="[--tsv] [--molfile | --sdfile] [--progress] [-o FILE] NAME FILE... | -n NAME [-n NAME]... FILE..."
 about="the items of these names in every record, as JSON or as a table"
-options="--tsv --progress -o= -n+"
+options="--tsv --molfile --sdfile --progress -o= -n+"
 takes="the name of an item and a file" fewest=1
 programs="records"
 place=40
@@ -10,7 +10,7 @@ explain() {
 One name: a line a record, {"record":1,"line":1,"value":["00417"]}: its value lines, null where the record has no such item.
 Several names, with -n: {"record":1,"line":1,"values":{"LOT":["00417"],"DRUM":null}}. Several files: "file" stands first.
 --tsv: a table, tab between columns, with file, record and a column a name; value lines are joined by \n, a backslash is \\,
-and a record without the item has nothing there.
+in the name of a file a line feed is \n and a tab \t, and a record without the item has nothing there.
 A name that no record of a file has is told on standard error. Nothing of a refused file is written; the others are.
 END
 }
@@ -48,8 +48,15 @@ merge='
         }
         return 1
     }
+    # Text of any bytes as one cell.
+    function one_cell(s) {
+        gsub(/\\/, "&&", s)
+        gsub(/\n/, "\\n", s)
+        gsub(/\t/, "\\t", s)
+        return s
+    }
     function as_table(file,    out, k) {
-        out = file "\t" substr(head, 10, index(head, ",") - 10)
+        out = one_cell(file) "\t" substr(head, 10, index(head, ",") - 10)
         for (k = 1; k <= count; k++) out = out "\t" cell(row[k])
         return out
     }
@@ -61,6 +68,7 @@ merge='
     }
     BEGIN {
         for (i = 1; i < 32; i++) low = low sprintf("%c", i)
+        room = ENVIRON["ROOM"]
         count = split(ENVIRON["NAMES"], names, "\n")
         for (f = 1; f < ARGC; f++) {
             left = 1 # of one file: as long as there are any
@@ -84,23 +92,10 @@ merge='
 
 # It has a process of its own.
 merge_items() { # FILES...
-    NAMES=$names LC_ALL=C
-    export NAMES LC_ALL
-    exec awk -v room="$room" -v tsv="$option_tsv" -v several="$several" "$merge" "$@"
-}
-
-# The places of the files among the arguments, as names that can be read twice, in $paths.
-settle() { # FILES...
-    paths= at=0
-    for file in "$@"; do
-        at=$((at + 1))
-        twice "$file"
-        case $path in
-        "$file") paths="$paths \"\${$at}\"" ;;
-        "./$file") paths="$paths \"./\${$at}\"" ;;
-        *) paths="$paths \"\$room/$copies/standard input\"" ;;
-        esac
-    done
+    NAMES=$names ROOM=$room LC_ALL=C
+    export NAMES ROOM LC_ALL
+    # shellcheck disable=SC2086
+    exec $leash awk -v tsv="$option_tsv" -v several="$several" "$merge" "$@"
 }
 
 # A process a name, for all files. Of one file the lines go straight on; of several they wait for the verdicts.
@@ -110,28 +105,36 @@ fetch_items() { # FILES...
     while IFS= read -r name; do
         k=$((k + 1))
         [ -n "$several" ] || pipe "item.$k"
-        eval "start \"\$room/verdict.$k\" \"\$room/item.$k\" records fetch \"\$name\" \$progress $paths"
+        eval "start \"\$room/verdict.$k\" \"\$room/item.$k\" records fetch \"\$name\" \$progress $list"
         progress=
     done <"$room/names"
     [ -n "$several" ] || return 0
     await
+    [ "$(cat "$room"/verdict.[0-9]* | grep -vc '^unwritten')" = $((k * $#)) ] || no_room "what is fetched"
     ! grep -q '^changed' "$room/verdict.1" || die "a file changed while it was read, so nothing is written"
 }
 
-# What the verdict lines say of the files, and which names no record of a file has.
+# What the verdict lines say of the files, and which names no record of a file has: lines that begin with the file's number, in their order.
 tell_files() { # FILES...
-    worst=0 at=0
+    worst=0 at=0 line=
     exec 8<"$room/verdict.1"
+    : >>"$room/missing"
+    exec 9<"$room/missing"
+    IFS= read -r line <&9 || :
     for file in "$@"; do
         at=$((at + 1)) verdict=
         IFS= read -r verdict <&8
+        own_verdict "$at"
         tell "$file"
         [ "$status" -le "$worst" ] || worst=$status
-        [ ! -f "$room/missing" ] || while read -r whose name; do
-            [ "$whose" != "$at" ] || printf 'capellanote: %s: no record has an item named %s\n' "$file" "$name" >&2
-        done <"$room/missing"
+        while [ "${line%% *}" = "$at" ]; do
+            printf 'capellanote: %s: no record has an item named %s\n' "$file" "${line#* }" >&2
+            line=
+            IFS= read -r line <&9 || :
+        done
     done
     status=$worst
+    [ -z "$several" ] || whole=yes # of those that are not refused
 }
 
 # The columns of a table.
@@ -146,8 +149,11 @@ verb() { # [NAME] FILES...
     if [ -z "$names" ]; then
         names=$1
         shift
-        case $names in *"
-"*) misused "no item has a line end in its name" ;; esac
+        case $names in
+        "") misused "fetch takes the name of an item, and this one is empty" ;;
+        *"
+"*) misused "no item has a line end in its name" ;;
+        esac
     fi
     [ $# -gt 0 ] || misused "fetch takes $takes"
     printf '%s\n' "$names" >"$room/names"

@@ -1,6 +1,6 @@
-usage="[--progress] [-o FILE] FILE"
+usage="[--molfile | --sdfile] [--progress] [-o FILE] FILE"
 about="the FORMULA item of every record against its atoms, as JSON"
-options="--progress -o="
+options="--molfile --sdfile --progress -o="
 takes="one file" fewest=1 most=1
 programs="records"
 place=70
@@ -16,8 +16,9 @@ END
 
 # Where records do not agree, the verdict has the number 0 and how many they are.
 verb() { # FILE
-    twice "$1"
-    run records formula ${option_progress:+--progress} "$path"
+    settle "$1"
+    eval "run records formula \${option_progress:+--progress} $list"
+    own_verdict 1
     case $verdict in
     "refused 0 "*) status=1 whole=yes ;;
     *) tell "$1" ;;

@@ -25,24 +25,36 @@ gather() { # FOLDER
     chmod -R a+rX "$1"
 }
 
+# A folder of this install beside the place, in $staged; what installs that were killed outright left there is removed.
+stage() { # PLACE
+    for staged in "$1".[0-9]*; do
+        kill -0 "${staged##*.}" 2>/dev/null || rm -rf "$staged"
+    done
+    staged=$1.$$
+    mkdir "$staged" || die "$staged was not made; is the disk full?"
+}
+
 verb() { # [PREFIX]
     [ ! -d "$here/run" ] || die "this is an installed copy; install from the repository"
     . "$here/command/verbs/build.sh"
     build_all
     umask 022 # what is installed is for everybody
-    if [ "$(id -u)" = 0 ]; then prefix=/usr/local; else prefix=${HOME:-}/.local; fi
+    if [ "$(id -u)" = 0 ]; then prefix=/usr/local; else prefix=${HOME:+$HOME/.local}; fi
     prefix=${1:-$prefix}
-    mkdir -p "$prefix/lib" "$prefix/bin" "$prefix/share/man/man1" 2>/dev/null && [ -w "$prefix/lib" ] && [ -w "$prefix/bin" ] ||
+    [ -n "$prefix" ] || misused "HOME is not set: name the folder to install under"
+    case $prefix in /*) ;; *) prefix=./$prefix ;; esac
+    mkdir -p "$prefix/lib" "$prefix/bin" "$prefix/share/man/man1" 2>/dev/null && [ -w "$prefix/lib" ] && [ -w "$prefix/bin" ] && [ -w "$prefix/share/man/man1" ] ||
         die "$prefix may not be written by you: name a folder of yours, as in \`capellanote install \$HOME/.local\`"
     prefix=$(cd "$prefix" && pwd -P)
     place=$prefix/lib/capellanote
-    rm -rf "$place.new" "$place.old"
-    gather "$place.new" || { rm -rf "$place.new" && die "$place.new was not written; is the disk full?"; }
-    [ ! -e "$place" ] || mv "$place" "$place.old"
-    mv "$place.new" "$place"
-    rm -rf "$place.old"
-    ln -sf ../lib/capellanote/capellanote "$prefix/bin/capellanote"
-    [ ! -f "$here/docs/capellanote.1" ] || cp "$here/docs/capellanote.1" "$prefix/share/man/man1/"
+    stage "$place"
+    gather "$staged/new" || die "$place was not written; is the disk full?"
+    trap '' HUP INT TERM # from here to the end
+    [ ! -e "$place" ] || mv "$place" "$staged/old" 2>/dev/null || :
+    mv "$staged/new" "$place" || die "$place was not written; install again"
+    rm -rf "$place/new" # where another install was quicker
+    ln -sf ../lib/capellanote/capellanote "$prefix/bin/capellanote" || die "$prefix/bin/capellanote was not written"
+    [ ! -f "$here/docs/capellanote.1" ] || cp "$here/docs/capellanote.1" "$prefix/share/man/man1/" || die "$prefix/share/man/man1 was not written"
     say 'installed: %s\n' "$prefix/bin/capellanote"
     status=0
 }

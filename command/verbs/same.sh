@@ -1,5 +1,5 @@
 usage="[--progress] A B"
-about="whether two SDfiles have the same reading; if not, the first record that differs"
+about="whether two files have the same reading; if not, the first record that differs"
 options="--progress"
 takes="two files" fewest=2 most=2
 programs="records"
@@ -14,16 +14,15 @@ END
 
 # The program announces the verdict on each file, and then what they are to each other, a line each.
 verb() { # FIRST SECOND
-    twice "$1"
-    first=$path
-    twice "$2"
-    run records same ${option_progress:+--progress} "$first" "$path"
+    settle "$@"
+    eval "run records same \${option_progress:+--progress} $list"
     told=0
     while IFS= read -r line; do told=$((told + 1)) verdict=$line; done <"$room/verdict"
     case $verdict in
     same) status=0 && return ;;
     "differ "*) status=1 && return ;;
     esac
+    own_verdict "$told"
     [ "$told" -lt 2 ] || shift
     tell "$1"
     status=2

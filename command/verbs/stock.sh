@@ -1,6 +1,6 @@
-usage="[--supplier NAME] [--lot NAME] [--pad BYTE] [--json] [-o FILE] LOG FILE..."
+usage="[--supplier NAME] [--lot NAME] [--pad BYTE] [--json] [--molfile | --sdfile] [-o FILE] LOG FILE..."
 about="a scanner log against the catalogue, lot by lot"
-options="--supplier= --lot= --pad= --json -o="
+options="--supplier= --lot= --pad= --json --molfile --sdfile -o="
 takes="a log and the names of files" fewest=2
 programs="records"
 place=95
@@ -49,7 +49,7 @@ tell_log() { # LOG
 }
 
 # A verdict line for the log, one for each file, and then what failed later, or whether the store is as it should be.
-tell_all() { # LOG [PATH NAME]...
+tell_all() { # LOG FILES...
     exec 8<"$room/verdict"
     verdict=
     IFS= read -r verdict <&8 || :
@@ -57,12 +57,13 @@ tell_all() { # LOG [PATH NAME]...
     worst=$status
     shift
     [ "$worst" -lt 2 ] || return 0 # the log was not read, so no file was
-    while [ $# -gt 0 ]; do
-        verdict=
+    at=0
+    for file in "$@"; do
+        verdict= at=$((at + 1))
         IFS= read -r verdict <&8 || :
-        tell "$2"
+        own_verdict "$at"
+        tell "$file"
         [ "$status" -le "$worst" ] || worst=$status
-        shift 2
     done
     verdict=
     while IFS= read -r verdict <&8; do
@@ -75,17 +76,11 @@ verb() { # LOG FILES...
     mode=table
     [ -z "$option_json" ] || mode=json
     twice "$1"
-    log=$1 left=$(($# - 1))
+    log=$1 log_path=$path
     shift
-    set -- "$@" "$mode" "${option_supplier:-SUPPLIER}" "${option_lot:-LOT}" "$pad" "$path"
-    while [ "$left" -gt 0 ]; do
-        twice "$1"
-        set -- "$@" "$path" "$1"
-        shift
-        left=$((left - 1))
-    done
-    run records stock "$@"
-    shift 5
+    paired=yes
+    settle "$@"
+    eval "run records stock \"\$mode\" \"\${option_supplier:-SUPPLIER}\" \"\${option_lot:-LOT}\" \"\$pad\" \"\$log_path\" $list"
     tell_all "$log" "$@"
     status=$worst
     [ "$status" -gt 1 ] || whole=yes

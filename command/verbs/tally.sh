@@ -1,6 +1,6 @@
-usage="[--json] [-o FILE] FILE..."
-about="bottles per supplier: how many records each one sent, over many SDfiles"
-options="--json -o="
+usage="[--json] [--molfile | --sdfile] [-o FILE] FILE..."
+about="bottles per supplier: how many records each one sent, over many files"
+options="--json --molfile --sdfile -o="
 takes="the names of files" fewest=1
 programs="records"
 place=95
@@ -30,25 +30,25 @@ show_tally() { # FILE
     [ -z "$cause" ] || printf '  hint: %s\n' "$cause" >&2
 }
 
-# All files by one process, which writes the report and a verdict line each.
+# All files by one process, which writes the report and a verdict line each. The report is kept until it is known to be whole.
 tally_files() { # FILES...
-    count=$#
-    for file in "$@"; do
-        twice "$file"
-        set -- "$@" "$path"
-    done
-    shift "$count"
-    start "$room/tallied" "" records tally ${option_json:+--json} "$@"
+    settle "$@"
+    eval "start \"\$room/tallied\" \"\$room/report\" records tally \${option_json:+--json} $list"
     await
+    case $(tail -n 1 "$room/report") in
+    *" total" | '{"missing":'*'}') sieve cat "$room/report" ;;
+    *) no_room "the report" ;;
+    esac
 }
 
 verb() { # FILES...
     tally_files "$@"
-    worst=0
+    worst=0 at=0
     exec 8<"$room/tallied"
     for file in "$@"; do
-        verdict=
+        verdict= at=$((at + 1))
         IFS= read -r verdict <&8
+        own_verdict "$at"
         show_tally "$file"
         [ "$status" -le "$worst" ] || worst=$status
     done
