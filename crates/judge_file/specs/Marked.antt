@@ -9,7 +9,7 @@ use lib.Dec.{eqb, leb}
 use native.Mathlib.Omega.{arith}
 use Rattle.text.specs.Text.{Line, bytes, byte}
 use Rattle.text.specs.Columns.{column, columns}
-use Rattle.text.specs.Find.{badColumn, inkColumn}
+use Rattle.text.specs.Find.{badColumn, inkColumn, isBlank}
 use Rattle.text.specs.Agree.{bad-within, ink-within}
 use Rattle.text.specs.declared.Found.{Found}
 use Rattle.field_numbers.specs.Read.{numberIn, signedIn}
@@ -25,7 +25,7 @@ use Rattle.judge_line.specs.Got.{Got, got, bad, then, need}
 use Rattle.judge_line.specs.Field.{numberGot, numberAt, signedGot, signedAt, elem, listedAt, elemSigned, signedListedAt, coordinateGot, coordinateAt, symbolGot}
 use Rattle.judge_line.specs.Field.{symbolAt, spaceAt, noneFound, spacesFrom, has, within}
 use Rattle.judge_line.specs.Judge.{reserved, firstHeaderOf, countsOf, atomOf, bondOf, entryNumberAt, entriesOf, listOf, propertyOf, HeaderRead, named, none}
-use Rattle.judge_line.specs.Judge.{headerOf, itemOf, titleGot, isClose, valueOf, notHeader, blankb, begins}
+use Rattle.judge_line.specs.Judge.{headerOf, itemOf, titleGot, isClose, valueOf, notHeader, begins}
 use Rattle.judge_file.specs.Place.{FileKind, Place, first, second, third, counts, atoms, bonds, properties, over, items, values, seenIn, lineOf, longest}
 use Rattle.judge_file.specs.Place.{turnOf}
 
@@ -208,7 +208,7 @@ marked-item l = marked-cond (isClose l) value (go (headerOf l))
 
 marked-value : (l : Line) → Marked (valueOf l)
 unfolding valueOf
-marked-value l = marked-cond (blankb l) value (marked-cond (begins (bytes "$$$$") l) (refusal 17 1 (omega arith) (omega arith)) (go (headerOf l)))
+marked-value l = marked-cond (isBlank l) value (marked-cond (begins (bytes "$$$$") l) (refusal 17 1 (omega arith) (omega arith)) (go (headerOf l)))
   where
     go : (h : HeaderRead) → Marked (notHeader h)
     go (named name) = refusal 17 1 (omega arith) (omega arith)

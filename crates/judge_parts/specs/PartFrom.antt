@@ -8,7 +8,7 @@ use lib.Dec.{leb}
 use lib.ListN.{length}
 use Rattle.text.specs.Text.{Bytes, Line, bytes}
 use Rattle.text.specs.Columns.{Within}
-use Rattle.text.specs.Find.{badColumn}
+use Rattle.text.specs.Find.{badColumn, isBlank}
 use Rattle.text.specs.Agree.{bad-within}
 use Rattle.text.specs.declared.Found.{Found}
 use Rattle.rules.specs.Forms.{FirstHeaderLine, HeaderLine, DataHeader, BlankLine, ValueLine}
@@ -17,7 +17,7 @@ use Rattle.rules.specs.Canon.{HeaderPart, ItemPart}
 use Rattle.judge_line.specs.Got.{Got, got, bad, then, need}
 use Rattle.judge_line.specs.GotLaws.{got-inj, bad-got, then-got, then-is}
 use Rattle.judge_line.specs.Field.{noneFound, within}
-use Rattle.judge_line.specs.Judge.{begins, reserved, firstHeaderOf, HeaderRead, named, none, headerOf, blankb, isClose, titleGot, itemOf, ItemOrEnd, title, close}
+use Rattle.judge_line.specs.Judge.{begins, reserved, firstHeaderOf, HeaderRead, named, none, headerOf, isClose, titleGot, itemOf, ItemOrEnd, title, close}
 use Rattle.judge_line.specs.Judge.{notHeader, valueOf, ValueOrBlank, value, blank}
 use Rattle.judge_line.specs.Agree.{within-got, within-is, header-agrees, title-agrees, value-agrees, blank-agrees}
 use Rattle.judge_file.specs.Marked.{Marked}
@@ -166,7 +166,7 @@ marked-item l = go (isClose l) (headerOf l)
 
 marked-value : (l : Line) → Marked (valueOf l)
 unfolding valueOf
-marked-value l = go (blankb l) (begins (bytes "$$$$") l) (headerOf l)
+marked-value l = go (isBlank l) (begins (bytes "$$$$") l) (headerOf l)
   where
     go : (t u : Bool) (h : HeaderRead) → Marked (cond t (got blank) (cond u (bad 17 1) (notHeader h)))
     go true u h = Marked.value

@@ -10,6 +10,8 @@ use lib.ListN.{length}
 use borrow.Author.Tests.{eqb-true, eqb-false, ne-eqb, not-true, not-false}
 use Rattle.text.specs.Text.{Bytes, Line, bytes, Each}
 use Rattle.text.specs.Columns.{Has, Allowed, Within, Blank}
+use Rattle.text.specs.Find.{isBlank}
+use Rattle.text.specs.Agree.{blank-is}
 use Rattle.field_numbers.specs.Number.{Number, OneOf}
 use Rattle.field_numbers.specs.Agree.{one-number}
 use Rattle.rules.specs.Forms.{Begins, Kind, CHG, RAD, ISO, tag, Entry, Property, DataHeader, RecordEnd}
@@ -17,9 +19,9 @@ use Rattle.rules.specs.Record.{listed, NotListed}
 use Rattle.judge_line.specs.Got.{got}
 use Rattle.judge_line.specs.Field.{elem, has, spacesFrom}
 use Rattle.judge_line.specs.Judge.{last, entryNumberAt, entriesOf, listOf, propertyOf}
-use Rattle.judge_line.specs.Judge.{HeaderRead, named, none, begins, blankb, headerOf, titleGot, isClose, itemOf, value, notHeader, valueOf}
+use Rattle.judge_line.specs.Judge.{HeaderRead, named, none, begins, headerOf, titleGot, isClose, itemOf, value, notHeader, valueOf}
 use Rattle.judge_line.specs.AgreeField.{number-got, has-got, has-is}
-use Rattle.judge_line.specs.AgreeText.{true-false, begins-got, begins-is, blank-got}
+use Rattle.judge_line.specs.AgreeText.{true-false, begins-got, begins-is}
 use Rattle.judge_line.specs.AgreeItem.{header-got, header-is, close-got, close-is}
 use Rattle.judge_refusals.specs.Demand.{Demand, _else_at-column_, _and-then_, Some, given, whichever}
 use Rattle.judge_refusals.specs.Refusals.{spaces-from, entryNumber, entries, listing, propertyDemands, headerOrEnd, valueOrBlank, oneOfFour}
@@ -224,7 +226,7 @@ blank-header l b d =
 pub value-tells : (l : Line) → Within 200 l → Tells (valueOrBlank l) (valueOf l)
 unfolding valueOf
 value-tells l w =
-    cond-tells (blankb l) (λ t. let b = blank-got l t in T.value ((blank-begins l b, blank-header l b), tt)) λ t.
+    cond-tells (isBlank l) (λ t. let b = blank-is l .0 t in T.value ((blank-begins l b, blank-header l b), tt)) λ t.
     cond-tells (begins (bytes "$$$$") l) (λ u. T.refusal (inl ((λ h. h .0 (begins-got (bytes "$$$$") l u)), refl, refl))) λ u.
     go (λ h. true-false (begins (bytes "$$$$") l) (rw (h .1) (begins-is (bytes "$$$$") (h .0))) u) (headerOf l) refl
   where

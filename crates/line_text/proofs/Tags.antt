@@ -15,7 +15,7 @@ use Rattle.text.specs.Find.{sameBytes, hasText, isBlank}
 use Rattle.text.specs.Agree.{columns-after}
 use Rattle.text.specs.Laws.{and-true}
 use Rattle.judge_line.specs.Got.{got, bad, need}
-use Rattle.judge_line.specs.Judge.{begins, contains, reserved, firstHeaderOf, blankb}
+use Rattle.judge_line.specs.Judge.{begins, contains, reserved, firstHeaderOf}
 use Rattle.judge_line.specs.AgreeText.{true-false}
 use Rattle.line_text.specs.Parts.{spaceless, tagged}
 
@@ -47,16 +47,8 @@ begins-got t l r s e = e ∙ has-begins t l s
 pub tail-is : (l : Line) (i : ℕ) → take (length l - i) (drop i l) ≡ drop i l
 tail-is l i = take-all (length l - i) (drop i l) (omega (arith, length-drop i l))
 
-blank-same : (l : Line) → isBlank l ≡ blankb l
-unfolding isBlank blankb
-blank-same [] = refl
-blank-same (b ∷ l) = ap (λ (x : Bool). eqb b 32 && x) (blank-same l)
-
-pub blank-got : (l : Line) (r : Bool) → r ≡ isBlank l → r ≡ blankb l
-blank-got l r e = e ∙ blank-same l
-
-pub blank-tail : (l : Line) (i : ℕ) (r : Bool) → r ≡ isBlank (take (length l - i) (drop i l)) → r ≡ blankb (drop i l)
-blank-tail l i r e = e ∙ (ap isBlank (tail-is l i) ∙ blank-same (drop i l))
+pub blank-tail : (l : Line) (i : ℕ) (r : Bool) → r ≡ isBlank (take (length l - i) (drop i l)) → r ≡ isBlank (drop i l)
+blank-tail l i r e = e ∙ ap isBlank (tail-is l i)
 
 -- ---- one of the reserved tags at the start
 

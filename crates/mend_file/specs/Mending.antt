@@ -9,9 +9,9 @@ use lib.ListN.{length, take, drop, set, length-append}
 use lib.Seq.{sets, length-sets, length-take-le}
 use lib.ListN.{length-drop}
 use Rattle.text.specs.Text.{Bytes, Line, LF}
+use Rattle.text.specs.Find.{isBlank}
 use Rattle.text.specs.Cut.{ended, split}
 use Rattle.rules.specs.Record.{Raw, limit}
-use Rattle.judge_line.specs.Judge.{blankb}
 use Rattle.line_property.specs.Listed.{places}
 use Rattle.judge_file.specs.Place.{sdfile}
 use Rattle.judge_file.specs.Place as J
@@ -175,7 +175,7 @@ module _ (s : Bytes) (room₀ list₀ : List ℕ) (j : Judge) (m : Mender) (tail
       unfolding blankFrom allBlank
       still-tailed f =
           let w = g .tail-is f in
-          record { start = w .start; before = w .before; blanks = and-eq-true-iff (blankb l) (allBlank ls) .0 (sym blank-is ∙ w .blanks) .1 }
+          record { start = w .start; before = w .before; blanks = and-eq-true-iff (isBlank l) (allBlank ls) .0 (sym blank-is ∙ w .blanks) .1 }
 
       pub mending-dropped : (m′ : Mender) (list′ : List ℕ) → m′ ≡ droppedBy m (p .next) → list′ ≡ sets list (2 * (m .repairs)) (m .line ∷ (2 ∷ [])) →
           Mending s room₀ list₀ j m′ tail room list′ t keys
@@ -249,7 +249,7 @@ module _ (s : Bytes) (room₀ list₀ : List ℕ) (j : Judge) (m : Mender) (tail
         at-values (bonds hs c ys k bs) a = absurd (let z : _≡_ {A = ℕ} 0 1 = cc in omega arith)
         at-values (properties hs c ys bs ps) a = absurd (let z : _≡_ {A = ℕ} 0 1 = cc in omega arith)
         at-values (over mol) a = absurd (let z : _≡_ {A = ℕ} 0 1 = cc in omega arith)
-        at-values (items mol is) a = never (blankb l) lose (λ z. absurd (let z : _≡_ {A = ℕ} 0 1 = cc in omega arith)) a
+        at-values (items mol is) a = never (isBlank l) lose (λ z. absurd (let z : _≡_ {A = ℕ} 0 1 = cc in omega arith)) a
         at-values (values mol is name vs) a = (
           refl,
           λ st. record { sd = st .sd; place = refl; few-atoms = st .few-atoms; few-bonds = st .few-bonds; counted = st .counted; bonds = st .bonds },

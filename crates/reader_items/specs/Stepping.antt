@@ -8,14 +8,14 @@ use lib.Dec.{leb}
 use lib.ListN.{length, take, drop, length-take, length-drop, length-append}
 use lib.Seq.{drop-drop, take-take}
 use Rattle.text.specs.Text.{Bytes, Line, LF, Lines, bytes}
-use Rattle.text.specs.Find.{badColumn}
+use Rattle.text.specs.Find.{badColumn, isBlank}
 use Rattle.text.specs.declared.Found.{Found}
 use Rattle.text.specs.Cut.{Cut, cut, line-within}
 use Rattle.rules.specs.Forms.{DataHeader}
 use Rattle.rules.specs.Record.{Item, Raw, Items, Record, limit}
 use Rattle.judge_line.specs.Got.{Got, got, bad, then, need}
 use Rattle.judge_line.specs.Field.{noneFound, within}
-use Rattle.judge_line.specs.Judge.{HeaderRead, named, none, begins, blankb, headerOf, titleGot, isClose, close, itemOf, blank, notHeader, valueOf}
+use Rattle.judge_line.specs.Judge.{HeaderRead, named, none, begins, headerOf, titleGot, isClose, close, itemOf, blank, notHeader, valueOf}
 use Rattle.judge_refusals.specs.Tells.{tells-bad}
 use Rattle.judge_file.specs.Place.{sdfile}
 use Rattle.judge_file.specs.One.{One, oneRecord}
@@ -196,7 +196,7 @@ item-low l e c h = go (isClose l) (headerOf l) h
 
 value-low : (l : Line) (e c : ℕ) → valueOf l ≡ bad e c → 3 ≤ e
 unfolding valueOf
-value-low l e c h = go (blankb l) (begins (bytes "$$$$") l) (headerOf l) h
+value-low l e c h = go (isBlank l) (begins (bytes "$$$$") l) (headerOf l) h
   where
     go : (t u : Bool) (x : HeaderRead) → cond t (got blank) (cond u (bad 17 1) (notHeader x)) ≡ bad e c → 3 ≤ e
     go true u x h = absurd (let z : _≡_ {A = ℕ} 0 1 = cc in omega arith)

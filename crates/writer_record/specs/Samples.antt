@@ -7,7 +7,7 @@ use lib.ListN.{length, replicate}
 use lib.IntN.{pos, negsuc}
 use Rattle.text.specs.Text.{Bytes}
 use Rattle.text.specs.Columns.{columnsFor}
-use Rattle.text.specs.Find.{firstFrom, badColumn}
+use Rattle.text.specs.Find.{firstFrom, badColumn, isBlank}
 use Rattle.text.specs.Cut.{ended, split, cut}
 use Rattle.text.specs.Written.{text}
 use Rattle.field_numbers.specs.Read.{afterSpaces}
@@ -20,7 +20,7 @@ use Rattle.rules.specs.Samples.{atom, bond, drumLines}
 use Rattle.rules.specs.Record.{atomPlaces, bondPlaces}
 use Rattle.judge_line.specs.Got.{then, need}
 use Rattle.judge_line.specs.Field.{within, elemSigned}
-use Rattle.judge_line.specs.Judge.{begins, contains, firstHeaderOf, blankb, nameOn, opened, spaced, arrowed, headerOf, itemOf, valueOf}
+use Rattle.judge_line.specs.Judge.{begins, contains, firstHeaderOf, nameOn, opened, spaced, arrowed, headerOf, itemOf, valueOf}
 use Rattle.rules.specs.Rows.{rowsOf}
 use Rattle.judge_parts.specs.Part.{run, verdictFrom, headerLine, headerTurn, headersVerdict, itemTurn, itemsVerdict}
 use Rattle.judge_parts.specs.Samples.{lines}
@@ -88,7 +88,7 @@ abbrev done : Sample → Sample
 done s = record { given = s .given; room = s .room; answer = writeOf (s .given) (length (s .room)); after = roomAfter (s .given) (s .room) }
 
 pub samples-written : map done samples ≡ samples
-unfolding firstFrom badColumn ended split cut text afterSpaces headerText then need within begins contains firstHeaderOf blankb nameOn opened spaced arrowed
+unfolding firstFrom badColumn ended split cut text afterSpaces headerText then need within begins contains firstHeaderOf isBlank nameOn opened spaced arrowed
     headerOf itemOf valueOf run verdictFrom headerLine headerTurn headersVerdict itemTurn itemsVerdict joined countsText atomText bondText entryFields propertyText
     itemsLines moleculeLines recordLines textBy columnsFor pointText symbolText chargeCode atomOf bondOf entriesFrom eights propertiesOf canon rowsOf
     elemSigned inRange marks placeHolds numbersHold codesHold changesHold atomHolds kindHolds bondHolds allRows massesHold sameEnds sameAt against
