@@ -100,6 +100,7 @@ carbons counts n after = lines ("" ∷ "" ∷ "" ∷ counts ∷ (atoms n ++ afte
     atoms zero = []
     atoms (suc n) = "    0.0000    0.0000    0.0000 C   0  0  0  0  0  0  0  0  0  0  0  0" ∷ atoms n
 
+-- the drum's record, without items
 abbrev pub drumLines : List String
 drumLines =
     "AB-00417" ∷

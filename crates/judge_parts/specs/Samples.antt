@@ -13,13 +13,9 @@ use Rattle.judge_line.specs.Got.{then, need}
 use Rattle.judge_line.specs.Field.{within}
 use Rattle.judge_line.specs.Judge.{begins, contains, firstHeaderOf, nameOn, opened, spaced, arrowed, headerOf, itemOf, valueOf}
 use Rattle.judge_file.specs.Verdict.{Verdict, accepted, refused}
+use Rattle.judge_file.specs.Samples.{lines}
 use Rattle.judge_parts.specs.Part.{run, verdictFrom, headerLine, headerTurn, headersVerdict, itemTurn, itemsVerdict}
 use Rattle.judge_parts.specs.Written.{headersText, itemLines, itemsText, writtenHeaders, writtenItems}
-
--- lines, each with its LF
-abbrev pub lines : List String → Bytes
-lines [] = []
-lines (l ∷ ls) = bytes l ++ (LF ∷ lines ls)
 
 pub record Sample : Type 0 where
   pub judge : Bytes → Verdict Bytes
