@@ -3,7 +3,7 @@ use Prim.Native.Nat.{ℕ}
 use native.Mathlib.Omega.{arith}
 use mathlib.Core.Path.{_≡_, refl, sym, ap}
 use mathlib.Core.List.{[], _∷_, _++_}
-use mathlib.Core.Bool.{Bool, true, false, _||_}
+use mathlib.Core.Bool.{Bool, true, false, _||_, or-true}
 use lib.Dec.{eqb}
 use lib.ListN.{length}
 use borrow.Author.Tests.{eqb-true, eq-eqb}
@@ -11,9 +11,6 @@ use Rattle.text.specs.Text.{Bytes, Line, Each}
 use Rattle.text.specs.Columns.{Blank, spaces}
 use Rattle.text.specs.Laws.{and-true}
 use Rattle.judge_line.specs.Judge.{begins, contains}
-
-pub true-false : {X : Type 0} (t : Bool) → t ≡ true → t ≡ false → X
-true-false t p q = absurd (let z : _≡_ {A = ℕ} 0 1 = cc in omega arith)
 
 -- a test that finds what there is, and only that
 pub none-of : {X : Type 0} (t : Bool) → (t ≡ true → X) → ¬ X → t ≡ false
@@ -44,10 +41,6 @@ begins-within : (t l : Bytes) → begins t l ≡ true → contains t l ≡ true
 unfolding contains
 begins-within t [] h = h
 begins-within t (b ∷ l) h = rw h
-
-or-true : (a : Bool) → (a || true) ≡ true
-or-true true = refl
-or-true false = refl
 
 pub contains-is : (t before after : Bytes) → contains t (before ++ (t ++ after)) ≡ true
 unfolding contains

@@ -10,6 +10,7 @@ use lib.IntN.{ℤ}
 use borrow.Author.Tests.{le-leb, lt-leb, eq-eqb, ne-eqb, eqb-true, ltb-true, ltb-false}
 use Rattle.text.specs.Text.{Bytes, Line, bytes, Each}
 use Rattle.text.specs.Columns.{column, columns, columnsFor}
+use Rattle.text.specs.Laws.{false-true}
 use Rattle.field_numbers.specs.Number.{Digit, decimalAfter}
 use Rattle.field_numbers.specs.Read.{allDigits, afterSpaces, signed}
 use Rattle.field_numbers.specs.Agree.{each-digit, digit-not}
@@ -157,10 +158,7 @@ module _ (l : Line) (i a b : ℕ) (p : a ≡ column l (i + 2)) (q : b ≡ column
 pub minus-units : (l : Line) (i b : ℕ) → b ≡ column l (i + 3) → b ≡ 45 → true ≡ minusOf (column l (i + 2)) (column l (i + 3))
 minus-units l i b q e = sym (rw (eq-eqb (column l (i + 3)) 45 (sym q ∙ e)))
 
-pub no-lead : {X : Type 0} → false ≡ true → X
-no-lead h = absurd (let z : _≡_ {A = ℕ} 0 1 = cc in omega arith)
-
-pub ruleset lead-laws = (lead-sign-tens, lead-tens, lead-sign, lead-none, no-lead)
+pub ruleset lead-laws = (lead-sign-tens, lead-tens, lead-sign, lead-none, false-true)
 
 lead-most : (a b : ℕ) → Lead a b → b ≤ 57
 lead-most a b (Lead.none p q) = omega (arith, q)
@@ -191,7 +189,7 @@ between-next l low high k b h e p q j i = go (ltb j k) refl
 
 -- a byte that can be only this one
 only : (x k : ℕ) → (k ≤ x) × (x ≤ k) → x ≡ k
-only x k h = omega arith
+only x k h = omega (arith, h .0, h .1)
 
 abbrev Only : Line → ℕ → ℕ → Type 0
 Only l i k = (k ≤ column l i) × (column l i ≤ k)

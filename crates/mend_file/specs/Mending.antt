@@ -11,6 +11,7 @@ use lib.ListN.{length-drop}
 use Rattle.text.specs.Text.{Bytes, Line, LF}
 use Rattle.text.specs.Find.{isBlank}
 use Rattle.text.specs.Cut.{ended, split}
+use Rattle.text.specs.Laws.{false-true, sets-append}
 use Rattle.rules.specs.Record.{Raw, limit}
 use Rattle.line_property.specs.Listed.{places}
 use Rattle.judge_file.specs.Place.{sdfile}
@@ -37,7 +38,7 @@ use Rattle.mend_lines.specs.declared.Deed.{Deed}
 use Rattle.mend_lines.specs.declared.Deed.the-variants as D
 use Rattle.mend_lines.specs.Deeds.{PieceAt, blankFrom, deedAt, Tailed, Means, means}
 use Rattle.mend_out.specs.declared.Mender.{Mender}
-use Rattle.mend_out.specs.Out.{begun, droppedBy, putBy, keptBy, CanNote, CanPut, CanKeep, late, lineFeed, Kept, sets-append}
+use Rattle.mend_out.specs.Out.{begun, droppedBy, putBy, keptBy, CanNote, CanPut, CanKeep, late, lineFeed, Kept}
 use Rattle.mend_file.specs.declared.Mended.{Mended}
 use Rattle.mend_file.specs.Walked.{Walked, startsAt, endOf}
 
@@ -59,9 +60,6 @@ pub record Mending (s : Bytes) (room₀ list₀ : List ℕ) (j : Judge) (m : Men
   pub inside : m .at ≤ length s
   pub lines : m .line ≤ m .at + 1
   pub bytes : length s * 1 < 2 ^ 63
-
-no-tail : {X : Type 0} → false ≡ true → X
-no-tail h = absurd (let z : _≡_ {A = ℕ} 0 1 = cc in omega arith)
 
 pub mending-start : (s : Bytes) (room list t keys : List ℕ) (j : Judge) (m : Mender) → length t ≡ 3 * places → length keys ≡ limit → length s * 1 < 2 ^ 63 →
     j ≡ fresh false → m ≡ begun → Mending s room list j m false room list t keys
@@ -87,7 +85,7 @@ mending-start s room list t keys j m rt rk few e f =
       repairs-is = refl;
       room-is = refl;
       list-is = refl;
-      tail-is = λ h. no-tail h;
+      tail-is = λ h. false-true h;
       inside = omega arith;
       lines = omega arith;
       bytes = few;

@@ -1,18 +1,17 @@
 -- In a good file every line stays.
-use Prim.Native.Nat.{ℕ, zero, suc}
+use Prim.Native.Nat.{ℕ, suc}
 use mathlib.Core.Path.{_≡_, refl, sym, ap, _∙_}
 use mathlib.Core.List.{List, [], _∷_, _++_, map}
 use mathlib.Core.Bool.{Bool, true, false, cond, not, _&&_, and-eq-true-iff}
 use native.Mathlib.Omega.{arith}
-use lib.Dec.{eqb}
 use lib.ListN.{getD, drop}
-use borrow.Author.Tests.{eqb-true}
 use Rattle.text.specs.Text.{Bytes, Line, bytes}
-use Rattle.text.specs.Columns.{columnsFor, Within}
+use Rattle.text.specs.Columns.{columnsFor, Within, Space}
 use Rattle.text.specs.Find.{isBlank}
+use Rattle.text.specs.Laws.{true-false}
+use Rattle.text.specs.Agree.{each-get, blank-is}
 use Rattle.rules.specs.Forms.{Counts, CountsLine, DataHeader, RecordEnd}
 use Rattle.rules.specs.Record.{Raw, Headers, Molecule, Item}
-use Rattle.judge_pairs.specs.Agree.{true-false}
 use Rattle.judge_line.specs.Got.{Got, got, bad}
 use Rattle.judge_line.specs.GotLaws.{got-inj, bad-got, then-got, need-got, cond-by}
 use Rattle.judge_line.specs.Agree.{within-got, title-agrees, close-agrees, counts-agrees}
@@ -28,10 +27,7 @@ use Rattle.mend_rules.specs.Mend.{Action, keep, put, lose, itemLine, all
 -- ---- blank lines
 
 blank-byte : (l : Line) → isBlank l ≡ true → (i : ℕ) → getD l i 32 ≡ 32
-unfolding isBlank
-blank-byte [] h i = refl
-blank-byte (b ∷ l) h zero = eqb-true b 32 (and-eq-true-iff (eqb b 32) (isBlank l) .0 h .0)
-blank-byte (b ∷ l) h (suc i) = blank-byte l (and-eq-true-iff (eqb b 32) (isBlank l) .0 h .1) i
+blank-byte l h i = each-get Space l i 32 refl (blank-is l .0 h)
 
 blank-header : {X : Type 0} {l : Line} {name : Bytes} → DataHeader l name → isBlank l ≡ true → X
 blank-header {l = l} d h =

@@ -5,12 +5,12 @@ use mathlib.Core.Path.{_≡_, refl, sym, ap, _∙_, subst}
 use mathlib.Core.List.{List, [], _∷_}
 use mathlib.Core.Bool.{Bool, true, false, cond}
 use lib.Dec.{leb}
-use lib.ListN.{length, take, drop, length-take, length-drop, length-append}
+use lib.ListN.{length, take, drop, length-take, length-drop}
 use lib.Seq.{drop-drop, take-take}
-use Rattle.text.specs.Text.{Bytes, Line, LF, Lines, bytes}
+use Rattle.text.specs.Text.{Bytes, Line, bytes}
 use Rattle.text.specs.Find.{badColumn, isBlank}
 use Rattle.text.specs.declared.Found.{Found}
-use Rattle.text.specs.Cut.{Cut, cut, line-within}
+use Rattle.text.specs.Cut.{Cut, cut, line-within, few-lines}
 use Rattle.rules.specs.Forms.{DataHeader}
 use Rattle.rules.specs.Record.{Item, Raw, Items, Record, limit}
 use Rattle.judge_line.specs.Got.{Got, got, bad, then, need}
@@ -130,11 +130,6 @@ pub record ItemWithin (s : Bytes) (at a b n k : ℕ) : Type 0 where
   pub some : 1 ≤ k
   pub onward : at + k ≤ n
   pub inside : n ≤ length s
-
--- each line takes a byte or more
-few-lines : {text rest : Bytes} {ls : List Line} → Lines text ls rest → length ls ≤ length text
-few-lines (Lines.unfinished f) = omega arith
-few-lines (Lines.line {bs = bs} {more = more} e f h p) = omega (arith, ap length e, length-append bs (LF ∷ more), few-lines p)
 
 behind-on : {s : Bytes} {at : ℕ} {ls u : List Line} {n k : ℕ} → Behind s at ls u n k → at + k ≤ n
 behind-on {s = s} {at = at} {n = n} b = omega (arith, few-lines (b .whole), b .many, b .low, length-take (n - at) (drop at s))
