@@ -11,8 +11,10 @@ use lib.ListN.{length, drop}
 use lib.IntN.{ℤ}
 use borrow.Author.Tests.{leb-true, leb-false, le-leb, lt-leb}
 use Rattle.text.specs.Text.{Bytes}
+use Rattle.text.specs.Laws.{false-true}
 use Rattle.rules.specs.Record.{Raw, GoodSDfile, limit, atomPlaces, bondPlaces}
 use Rattle.rules.specs.Meaning.{meaning}
+use Rattle.rules.specs.Unique.{one-sdfile}
 use Rattle.judge_file.specs.Place.{sdfile}
 use Rattle.judge_file.specs.Verdict.{Verdict, accepted, refused, verdict}
 use Rattle.judge_file.specs.SameVerdict.{accepted-refused, same-accepted, same-reason}
@@ -94,11 +96,7 @@ module _ {a b : Bytes} {w₀ : Work} {l₀ : List ℤ} {r : Compared} {w : Work}
       to e =
           let d = p .done 0 .0 e in
           let same = none-same-files a b (d .0) (d .1) (d .3) (d .4) .0 (empty (filesApart (d .0) (d .1)) (d .5)) in
-          ap (map meaning) (one-file ga (d .3)) ∙ same ∙ ap (map meaning) (one-file (d .4) gb)
-        where
-          one-file : {s : Bytes} {us vs : List Raw} → GoodSDfile s us → GoodSDfile s vs → us ≡ vs
-          one-file {s} {us} {vs} g h =
-              same-accepted (sym (accepted-sd limit s us .1 g) ∙ accepted-sd limit s vs .1 h)
+          ap (map meaning) (one-sdfile a xs (d .0) ga (d .3)) ∙ same ∙ ap (map meaning) (one-sdfile b (d .1) ys (d .4) gb)
 
       back : map meaning xs ≡ map meaning ys → numbersOf r ≡ accepted 0
       back e =
@@ -155,9 +153,6 @@ roomy-false w h = go (roomy w) refl
     go : (t : Bool) → roomy w ≡ t → roomy w ≡ false
     go true e = absurd (h (roomy-agrees w .0 e))
     go false e = e
-
-false-true : {X : Type 0} → false ≡ true → X
-false-true h = absurd (let z : _≡_ {A = ℕ} 0 1 = cc in omega arith)
 
 -- ---- The definitions keep the promise
 

@@ -12,6 +12,7 @@ use borrow.Author.Tests.{ltb-true, ltb-false}
 use mir.Syntax.{w64}
 use mir.Val.{Fits}
 use Rattle.text.specs.Text.{Bytes}
+use Rattle.text.specs.Laws.{tail-is}
 use Rattle.rules.specs.Record.{Raw, limit, atomPlaces, bondPlaces}
 use Rattle.rules.specs.Meaning.{Reading, meaning}
 use Rattle.judge_file.specs.Place.{sdfile}
@@ -21,7 +22,7 @@ use Rattle.reader_walk.specs.Outcome.{whole, outcomeOf}
 use Rattle.reader_walk.specs.Walked.{Beside}
 use Rattle.reader_cursor.specs.declared.Cursor.{Cursor}
 use Rattle.reader_cursor.specs.Walk.{fresh, past, Countable, Walk, over, short, stopped, recordsOf, verdictBy, fileWalk}
-use Rattle.reader_cursor.specs.After.{After, after-start, after-good, after-next, after-fits, good-more, good-whole, tail-is, walk-after, verdict-walk}
+use Rattle.reader_cursor.specs.After.{After, after-start, after-good, after-next, after-fits, good-more, good-whole, walk-after, verdict-walk}
 use Rattle.compare_rules.specs.declared.Count.{Count}
 use Rattle.compare_rules.specs.Along.{along}
 use Rattle.compare_rules.specs.Differences.{Difference, place, leftOnly, rightOnly, recordsApart, recordwise, differencesOf}

@@ -2,18 +2,16 @@
 use Prim.Native.Nat.{ℕ}
 use mathlib.Core.Path.{_≡_, refl, ap, ap₂, _∙_}
 use mathlib.Core.List.{List, [], _∷_}
-use mathlib.Core.Bool.{Bool, true, false, cond}
+use mathlib.Core.Bool.{cond}
 use lib.ListN.{drop}
 use Rattle.text.specs.Text.{Bytes, Line, Lines}
 use Rattle.text.specs.Find.{isBlank}
-use Rattle.text.specs.Agree.{blank-is}
 use Rattle.text.specs.Cut.{cut, lines-cut}
-use Rattle.rules.specs.Forms.{ValueLine}
 use Rattle.rules.specs.Record.{Item, Values}
 use Rattle.rules.specs.Canon.{ItemPart}
 use Rattle.judge_line.specs.Got.{Got, got, bad}
 use Rattle.judge_line.specs.Judge.{itemOf, ItemOrEnd, title, close}
-use Rattle.judge_line.specs.AgreeItem.{title-is}
+use Rattle.judge_line.specs.AgreeItem.{title-is, value-told, blank-told}
 
 -- ---- The definition
 
@@ -54,17 +52,10 @@ pastAt s at = pastItem (cut (drop at s) .lines)
 
 -- ---- It says what the rules say
 
-value-not : (l : Line) → ValueLine l → isBlank l ≡ false
-value-not l h = go (isBlank l) refl
-  where
-    go : (t : Bool) → isBlank l ≡ t → t ≡ false
-    go true e = absurd (h .not-blank (blank-is l .0 e))
-    go false e = refl
-
 values-are : {t vs u : List Line} → Values t vs u → (valuesOf t ≡ vs) × (pastItem t ≡ inItems u)
 unfolding valuesOf pastItem
-values-are (Values.end {l = l} h) = (rw (blank-is l .1 (h .blank)), rw (blank-is l .1 (h .blank)))
-values-are (Values.more {l = l} h p) = let q = values-are p in (rw (value-not l h) (ap (λ (x : List Line). l ∷ x) (q .0)), rw (value-not l h) (q .1))
+values-are (Values.end {l = l} h) = (rw (blank-told l h), rw (blank-told l h))
+values-are (Values.more {l = l} h p) = let q = values-are p in (rw (value-told l h) (ap (λ (x : List Line). l ∷ x) (q .0)), rw (value-told l h) (q .1))
 
 item-of : Bytes → List Line → Item
 item-of name values = record { name = name; values = values }

@@ -5,6 +5,7 @@ use mathlib.Core.Path.{_≡_, refl, ap, ap₂}
 use mathlib.Core.Logic.{_≢_}
 use mathlib.Core.List.{List, [], _∷_, _++_, map}
 use lib.ListN.{length}
+use Rattle.rules.specs.Fields.{Every}
 use Rattle.compare_rules.specs.Along.{Compared, along}
 
 -- ---- Joined lists
@@ -36,16 +37,11 @@ along-many c l r i (x ∷ xs) [] h = absurd (l i x (both-empty (c .left i x) (al
 along-many c l r i [] (y ∷ ys) h = absurd (r i y (both-empty (c .right i y) (along c (suc i) [] ys) h .0))
 along-many c l r i (x ∷ xs) (y ∷ ys) h = ap suc (along-many c l r (suc i) xs ys (both-empty (c .both i x y) (along c (suc i) xs ys) h .1))
 
--- every element has the property
-unfoldable pub All : {A : Type 0} → (A → Type 0) → List A → Type 0
-All P [] = Unit {0}
-All P (x ∷ xs) = P x × All P xs
-
 -- as many on either side, and two at one place without a difference are the same
 pub along-same : {A B : Type 0} (c : Compared A B) (P : A → Type 0) →
     ((i : ℕ) (x y : A) → P x → P y → c .both i x y ≡ [] → x ≡ y) →
-    (i : ℕ) (xs ys : List A) → All P xs → All P ys → length xs ≡ length ys → along c i xs ys ≡ [] → xs ≡ ys
-unfolding along All
+    (i : ℕ) (xs ys : List A) → Every P xs → Every P ys → length xs ≡ length ys → along c i xs ys ≡ [] → xs ≡ ys
+unfolding along Every
 along-same c P s i [] [] p q k h = refl
 along-same c P s i (x ∷ xs) [] p q k h = absurd (omega arith)
 along-same c P s i [] (y ∷ ys) p q k h = absurd (omega arith)
@@ -53,8 +49,8 @@ along-same c P s i (x ∷ xs) (y ∷ ys) p q k h =
     let e = both-empty (c .both i x y) (along c (suc i) xs ys) h in
     ap₂ (λ v vs. v ∷ vs) (s i x y (p .0) (q .0) (e .0)) (along-same c P s (suc i) xs ys (p .1) (q .1) (omega arith) (e .1))
 
-pub all-of : {A : Type 0} (P : A → Type 0) → ((x : A) → P x) → (xs : List A) → All P xs
-unfolding All
+pub all-of : {A : Type 0} (P : A → Type 0) → ((x : A) → P x) → (xs : List A) → Every P xs
+unfolding Every
 all-of P f [] = tt
 all-of P f (x ∷ xs) = (f x, all-of P f xs)
 

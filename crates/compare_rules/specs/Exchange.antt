@@ -1,13 +1,12 @@
 -- Comparing the other way round gives the same list with sides exchanged.
 use Prim.Native.Nat.{ℕ, zero, suc}
-use mathlib.Core.Path.{_≡_, refl, sym, ap, _∙_}
+use mathlib.Core.Path.{_≡_, refl, ap}
 use mathlib.Core.List.{List, [], _∷_, map}
 use mathlib.Core.Bool.{Bool, true, false, cond}
-use lib.Dec.{eqb}
 use lib.IntN.{ℤ, pos, negsuc}
-use borrow.Author.Tests.{eqb-true, eqb-false, eq-eqb, ne-eqb}
 use Rattle.text.specs.Text.{Line, Bytes}
 use Rattle.text.specs.Find.{sameBytes}
+use Rattle.text.specs.Laws.{eqb-turn}
 use Rattle.rules.specs.Record.{Headers, Item}
 use Rattle.rules.specs.Meaning.{Reading}
 use Rattle.compare_rules.specs.declared.Place.{Place}
@@ -18,25 +17,18 @@ use Rattle.compare_rules.specs.AlongLaws.{map-joined, Turns, along-turne
 
 -- ---- Tests do not mind the order
 
-eqb-turned : (j k : ℕ) → eqb j k ≡ eqb k j
-eqb-turned j k = go (eqb j k) refl
-  where
-    go : (t : Bool) → eqb j k ≡ t → eqb j k ≡ eqb k j
-    go true e = e ∙ sym (eq-eqb k j (sym (eqb-true j k e)))
-    go false e = e ∙ sym (ne-eqb k j (λ h. eqb-false j k e (sym h)))
-
 pub figure-turned : (x y : ℤ) → sameFigure x y ≡ sameFigure y x
-figure-turned (pos j) (pos k) = eqb-turned j k
+figure-turned (pos j) (pos k) = eqb-turn j k
 figure-turned (pos j) (negsuc k) = refl
 figure-turned (negsuc j) (pos k) = refl
-figure-turned (negsuc j) (negsuc k) = eqb-turned j k
+figure-turned (negsuc j) (negsuc k) = eqb-turn j k
 
 pub bytes-turned : (a b : Bytes) → sameBytes a b ≡ sameBytes b a
 unfolding sameBytes
 bytes-turned [] [] = refl
 bytes-turned [] (y ∷ b) = refl
 bytes-turned (x ∷ a) [] = refl
-bytes-turned (x ∷ a) (y ∷ b) = rw (eqb-turned x y, bytes-turned a b)
+bytes-turned (x ∷ a) (y ∷ b) = rw (eqb-turn x y, bytes-turned a b)
 
 one-turned : (t : Bool) (d e : Difference) → e ≡ exchanged d → cond t [] (e ∷ []) ≡ map exchanged (cond t [] (d ∷ []))
 one-turned true d e h = refl

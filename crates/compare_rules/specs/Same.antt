@@ -14,11 +14,12 @@ use Rattle.text.specs.Agree.{same-bytes}
 use Rattle.rules.specs.Record.{Headers, Item}
 use Rattle.rules.specs.Meaning.{Reading}
 use Rattle.rules.specs.Canon.{Rows, Good, AllGood}
+use Rattle.rules.specs.Fields.{Every}
 use Rattle.compare_rules.specs.declared.Place.{Place}
 use Rattle.compare_rules.specs.Along.{along}
 use Rattle.compare_rules.specs.Differences.{anAtom, aBond, valueLine, itemName, Difference, place, sameFigure, figures, texts, only, fieldwise, rowwise, linewise, itemwise}
 use Rattle.compare_rules.specs.Differences.{headersApart, countsApart, recordsApart, recordwise, differencesOf}
-use Rattle.compare_rules.specs.AlongLaws.{both-empty, along-self, along-many, along-same, All, all-of}
+use Rattle.compare_rules.specs.AlongLaws.{both-empty, along-self, along-many, along-same, all-of}
 
 -- ---- Two at one place
 
@@ -64,8 +65,8 @@ number-same j k h = cc
 abbrev Wide : ℕ → List ℤ → Type 0
 Wide width t = length t ≡ width
 
-all-wide : (width : ℕ) (P : List ℤ → Type 0) (ts : List (List ℤ)) → Rows width P ts → All (Wide width) ts
-unfolding Rows All
+all-wide : (width : ℕ) (P : List ℤ → Type 0) (ts : List (List ℤ)) → Rows width P ts → Every (Wide width) ts
+unfolding Rows Every
 all-wide width P [] h = tt
 all-wide width P (t ∷ ts) h = (h .0 .0, all-wide width P ts (h .1))
 
@@ -74,7 +75,7 @@ row-same r part width i t u p q h =
     along-same (fieldwise r part i) (λ x. Unit {0}) (λ j x y a b e. figures-none (place r part i j) x y e) 1 t u
     (all-of (λ x. Unit {0}) (λ x. tt) t) (all-of (λ x. Unit {0}) (λ x. tt) u) (p ∙ sym q) h
 
-rows-same : (r : ℕ) (part : ℕ) (width : ℕ) (ts us : List (List ℤ)) → All (Wide width) ts → All (Wide width) us → length ts ≡ length us →
+rows-same : (r : ℕ) (part : ℕ) (width : ℕ) (ts us : List (List ℤ)) → Every (Wide width) ts → Every (Wide width) us → length ts ≡ length us →
     along (rowwise r part) 1 ts us ≡ [] → ts ≡ us
 rows-same r part width ts us p q k h = along-same (rowwise r part) (Wide width) (row-same r part width) 1 ts us p q k h
 
@@ -167,8 +168,8 @@ record-self r x =
 
 -- ---- Files
 
-all-good : (limit : ℕ) (xs : List Reading) → AllGood limit xs → All (Good limit) xs
-unfolding AllGood All
+all-good : (limit : ℕ) (xs : List Reading) → AllGood limit xs → Every (Good limit) xs
+unfolding AllGood Every
 all-good limit [] h = tt
 all-good limit (x ∷ xs) h = (h .0, all-good limit xs (h .1))
 

@@ -3,7 +3,7 @@ use Prim.Native.Nat.{ℕ, zero, suc, _+_, _-_, _*_, _≤_, _<_}
 use native.Mathlib.Omega.{arith}
 use mathlib.Core.Path.{_≡_, refl, sym, ap, _∙_}
 use mathlib.Core.List.{[], _∷_}
-use mathlib.Core.Bool.{Bool, true, false, cond}
+use mathlib.Core.Bool.{Bool, true, false, cond, and-false}
 use lib.Dec.{eqb}
 use lib.ListN.{length, getD, take, drop, List·getD-eq-default}
 use lib.IntN.{ℤ, pos}
@@ -13,7 +13,7 @@ use Rattle.text.specs.Columns.{column, columns, columnsFor}
 use Rattle.text.specs.Agree.{columns-length, columns-step, columns-over, columns-take, columns-drop, columns-get}
 use Rattle.field_numbers.specs.Number.{decimalAfter}
 use Rattle.field_numbers.specs.Read.{isDigit, allDigits, someDigits, afterSpaces, signed}
-use Rattle.field_numbers.specs.Agree.{some-digits, and-false}
+use Rattle.field_numbers.specs.Agree.{some-digits}
 use Rattle.field_numbers.specs.Parts.{sizeIn}
 use Rattle.field_numbers.specs.declared.Size.{Size}
 use Rattle.field_coordinates.specs.declared.CoordinateRead.{CoordinateRead}

@@ -1,13 +1,12 @@
 -- Laws on the bytes that a coordinate is written as: its parts laid one after the other, and its sign.
 use Prim.Native.Nat.{ℕ, suc, _+_, _-_, _*_, _/_, _%_, _≤_}
-use native.Mathlib.Nat.{add-zero, add-suc, suc-add}
 use native.Mathlib.Numerals.{add-one}
 use native.Mathlib.Omega.{arith}
 use mathlib.Core.Path.{_≡_, sym, ap, _∙_, subst}
-use mathlib.Core.List.{[], _∷_, _++_}
+use mathlib.Core.List.{[], _∷_}
 use mathlib.Core.Bool.{Bool, true, false}
 use lib.Dec.{ltb}
-use lib.ListN.{length, set}
+use lib.ListN.{set}
 use lib.Seq.{sets}
 use lib.IntN.{ℤ, pos, negsuc, natAbs, _-ℤ_}
 use lib.Signed.{ltZ}
@@ -16,6 +15,7 @@ use mir.Syntax.{w32}
 use mir.Val.{SFits, toZ, ofZ}
 use mir.Facts.{toZ-ofZ, toZ-pos}
 use Rattle.text.specs.Text.{Bytes}
+use Rattle.text.specs.Laws.{sets-append}
 use Rattle.field_numbers.specs.Write.{textBy, sizedText}
 use Rattle.field_numbers.specs.Written.{text-length}
 use Rattle.field_numbers.specs.Signs.{from-minus-one, less-fits, less-sign, less-cast, less-plus, same-sign, same-cast}
@@ -66,10 +66,6 @@ digit-stored l at k s minus e h =
     let r : at + 3 ≡ suc (suc (suc at)) = omega arith in
     let t : at + 4 ≡ suc (suc (suc (suc at))) = omega arith in
     rw (digit-text minus k h, e, p, q, r, t)
-
-sets-append : (xs ys l : Bytes) (i : ℕ) → sets l i (xs ++ ys) ≡ sets (sets l i xs) (i + length xs) ys
-sets-append [] ys l i = rw (add-zero i)
-sets-append (x ∷ xs) ys l i = rw (add-suc i (length xs), ← suc-add i (length xs)) (sets-append xs ys (set l i x) (suc i))
 
 -- the digits before the point, and then the rest
 pub both-laid : (l m n : Bytes) (at k : ℕ) (minus : Bool) →

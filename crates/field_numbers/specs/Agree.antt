@@ -5,7 +5,7 @@ use native.Mathlib.Omega.{arith}
 use mathlib.Core.Path.{_≡_, refl, sym, ap, _∙_, subst}
 use mathlib.Core.Logic.{_↔_}
 use mathlib.Core.List.{List, [], _∷_, _++_, append-assoc}
-use mathlib.Core.Bool.{Bool, true, false, cond, _&&_}
+use mathlib.Core.Bool.{Bool, true, false, cond, _&&_, and-false}
 use lib.Dec.{eqb, leb}
 use lib.IntN.{ℤ, pos, negsuc}
 use borrow.Author.Tests.{leb-true, le-leb, eqb-true, ne-eqb}
@@ -16,10 +16,6 @@ use Rattle.field_numbers.specs.Number.{Digit, Digits, Integer, Number, S
 use Rattle.field_numbers.specs.Read.{IntegerRead, is, malformed, isDigit, allDigits, someDigits, afterSpaces, before, beforeSpaces, signed, digitsRead, afterBlank, integerIn, ranged, numberIn, isBetween, signedRanged, signedIn}
 use Rattle.field_numbers.specs.declared.NumberRead.{NumberRead}
 use Rattle.field_numbers.specs.declared.SignedRead.{SignedRead}
-
-pub and-false : (a : Bool) → (a && false) ≡ false
-and-false true = refl
-and-false false = refl
 
 -- digits by the test and by the rule
 pub digit-is : (b : ℕ) → Digit b → isDigit b ≡ true

@@ -17,7 +17,7 @@ pub record Below (z : ℤ) : Type 0 where
   pub less : ℕ
   pub number : z ≡ negsuc less
 
-below-by : (z : ℤ) → ltZ z (pos 0) ≡ true → Below z
+pub below-by : (z : ℤ) → ltZ z (pos 0) ≡ true → Below z
 below-by (pos n) h = absurd (let e : ltb n 0 ≡ false = le-ltb n 0 (omega arith) in let z : _≡_ {A = ℕ} 0 1 = cc in omega arith)
 below-by (negsuc n) h = record { less = n; number = refl }
 
@@ -59,7 +59,7 @@ pub record Above (z : ℤ) : Type 0 where
   pub size : ℕ
   pub number : z ≡ pos size
 
-above-by : (z : ℤ) → ltZ z (pos 0) ≡ false → Above z
+pub above-by : (z : ℤ) → ltZ z (pos 0) ≡ false → Above z
 above-by (pos n) h = record { size = n; number = refl }
 above-by (negsuc n) h = absurd (let z : _≡_ {A = ℕ} 0 1 = cc in omega arith)
 

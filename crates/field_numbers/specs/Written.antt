@@ -105,16 +105,16 @@ pub record Shape (m : Bool) (cs : Bytes) (k : ℕ) : Type 0 where
   pub parts : cs ≡ spaces count ++ (sign m ++ ds)
   pub digits : Digits ds k
 
-one-digit : (m : Bool) (w k : ℕ) → k ≤ 9 → Shape m (textBy (room m w) false m (k / 10) ++ ((48 + k % 10) ∷ [])) k
-one-digit m w k h = record {
+shape-one : (m : Bool) (w k : ℕ) → k ≤ 9 → Shape m (textBy (room m w) false m (k / 10) ++ ((48 + k % 10) ∷ [])) k
+shape-one m w k h = record {
   count = w;
   ds = (48 + k % 10) ∷ [];
   parts = ap (λ (l : Bytes). l ++ ((48 + k % 10) ∷ [])) (lead m w (k / 10)) ∙ append-assoc (spaces w) (sign m) _;
   digits = digits-one k h;
 }
 
-more-digits : (m : Bool) (cs : Bytes) (k : ℕ) → Shape m cs (k / 10) → Shape m (cs ++ ((48 + k % 10) ∷ [])) k
-more-digits m cs k s = record {
+shape-more : (m : Bool) (cs : Bytes) (k : ℕ) → Shape m cs (k / 10) → Shape m (cs ++ ((48 + k % 10) ∷ [])) k
+shape-more m cs k s = record {
   count = s .count;
   ds = s .ds ++ ((48 + k % 10) ∷ []);
   parts = ap (λ (l : Bytes). l ++ ((48 + k % 10) ∷ [])) (s .parts)
@@ -124,8 +124,8 @@ more-digits m cs k s = record {
 }
 
 shape-by : (t m : Bool) (w k : ℕ) → ltb 9 k ≡ t → (9 < k → Shape m (textBy (room m w) true m (k / 10)) (k / 10)) → Shape m (textBy (room m w) t m (k / 10) ++ ((48 + k % 10) ∷ [])) k
-shape-by true m w k e more = more-digits m (textBy (room m w) true m (k / 10)) k (more (ltb-true 9 k e))
-shape-by false m w k e more = one-digit m w k (ltb-false 9 k e)
+shape-by true m w k e more = shape-more m (textBy (room m w) true m (k / 10)) k (more (ltb-true 9 k e))
+shape-by false m w k e more = shape-one m w k (ltb-false 9 k e)
 
 pub shape : (m : Bool) (w k : ℕ) → k < 10 ^ suc w → Shape m (textBy (room m (suc w)) true m k) k
 unfolding textBy

@@ -9,7 +9,7 @@ use lib.ListN.{length}
 use lib.IntN.{ℤ}
 use borrow.Author.Tests.{le-leb, leb-true}
 use Rattle.text.specs.Text.{Bytes, Line}
-use Rattle.text.specs.Laws.{and-true}
+use Rattle.text.specs.Laws.{and-true, true-false}
 use Rattle.rules.specs.Record.{Raw, limit}
 use Rattle.judge_file.specs.Place.{sdfile}
 use Rattle.judge_file.specs.Verdict.{accepted, refused, mapped}
@@ -36,9 +36,6 @@ use Rattle.formula_record.specs.Promise.{numbersOf, OnlyElements, Compar
 use Rattle.formula_record.specs.Values.{Valued, valued, value-none, value-first, only-elements, elements-only}
 use Rattle.formula_record.specs.declared.Compared.{Compared}
 
-never : {X : Type 0} {b : Bool} → b ≡ true → b ≡ false → X
-never h k = absurd (let z : true ≡ false = sym h ∙ k in let z : _≡_ {A = ℕ} 0 1 = cc in omega arith)
-
 -- ---- A good record
 
 pub good-said : (s : Bytes) (x : Raw) → Begins sdfile s x → saidOf s ≡ byValue (symbols (x .molecule .atoms)) (valueOf formulaName (x .items))
@@ -52,7 +49,7 @@ module _ (s : Bytes) where
     where
       all : (ts : Trees) (b : Bool) → onlyElements (symbols (x .molecule .atoms)) ≡ b → Judged l (counts ts) → Compares s (cond b (accepted (differences (countTrees ts) (howMany (symbols (x .molecule .atoms))))) (refused 34 0 0))
       all ts true e j = Compares.compared g f j (only-elements (symbols (x .molecule .atoms)) e)
-      all ts false e j = Compares.not-comparable g f j (λ h. never (elements-only (symbols (x .molecule .atoms)) h) e)
+      all ts false e j = Compares.not-comparable g f j (λ h. true-false (sym (elements-only (symbols (x .molecule .atoms)) h) ∙ e))
 
       go : (v : Verdict) → Judged l v → Compares s (byVerdict (symbols (x .molecule .atoms)) v)
       go (counts ts) j = all ts (onlyElements (symbols (x .molecule .atoms))) refl j

@@ -1,6 +1,5 @@
 -- The value that is looked up is the one of the rules.
 use Prim.Native.Nat.{ℕ, _≤_}
-use native.Mathlib.Omega.{arith}
 use mathlib.Core.Path.{_≡_, refl, sym, ap, _∙_, subst}
 use mathlib.Core.List.{List, [], _∷_, _++_}
 use mathlib.Core.Bool.{Bool, true, false, cond, _&&_}
@@ -9,7 +8,7 @@ use borrow.Author.Tests.{leb-true, leb-false, le-leb}
 use Rattle.text.specs.Text.{Bytes, Line, Each}
 use Rattle.text.specs.Find.{sameBytes}
 use Rattle.text.specs.Agree.{same-bytes}
-use Rattle.text.specs.Laws.{and-true}
+use Rattle.text.specs.Laws.{and-true, true-false}
 use Rattle.rules.specs.Record.{Item}
 use Rattle.reader_item.specs.Promise.{NoneNamed}
 use Rattle.reader_item.specs.Beyond.{FirstNamed}
@@ -17,9 +16,6 @@ use Rattle.formula_rules.specs.Formula.{elements}
 use Rattle.formula_drawn.specs.Drawn.{onlyElements}
 use Rattle.formula_record.specs.Said.{Value, nowhere, valueIn, valueOf}
 use Rattle.formula_record.specs.Promise.{OnlyElements}
-
-never : {X : Type 0} {b : Bool} → b ≡ true → b ≡ false → X
-never h k = absurd (let z : true ≡ false = sym h ∙ k in let z : _≡_ {A = ℕ} 0 1 = cc in omega arith)
 
 pub data Valued (name : Bytes) (is : List Item) : Value → Type 0 where
   none : NoneNamed name is → Valued name is nowhere
@@ -34,10 +30,10 @@ valued name (i ∷ is) = go (sameBytes (i .name) name) refl (valueOf name is) (v
     go true e v h =
         let n : i .name ≡ name = same-bytes (i .name) name .0 e in
         Valued.found (record { before = []; after = is; parts = ap (λ (x : Bytes). record { name = x; values = i .values } ∷ is) n; others = tt })
-    go false e v (Valued.none n) = Valued.none ((λ q. never (same-bytes (i .name) name .1 q) e), n)
+    go false e v (Valued.none n) = Valued.none ((λ q. true-false (sym (same-bytes (i .name) name .1 q) ∙ e)), n)
     go false e v (Valued.found f) =
         Valued.found
-        (record { before = i ∷ (f .before); after = f .after; parts = ap (λ (x : List Item). i ∷ x) (f .parts); others = ((λ q. never (same-bytes (i .name) name .1 q) e), f .others) })
+        (record { before = i ∷ (f .before); after = f .after; parts = ap (λ (x : List Item). i ∷ x) (f .parts); others = ((λ q. true-false (sym (same-bytes (i .name) name .1 q) ∙ e)), f .others) })
 
 pub value-none : (name : Bytes) (is : List Item) → NoneNamed name is → valueOf name is ≡ nowhere
 unfolding valueOf NoneNamed

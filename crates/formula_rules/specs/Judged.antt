@@ -8,7 +8,7 @@ use lib.Dec.{eqb, ltb}
 use lib.ListN.{length, getD, replicate}
 use borrow.Author.Tests.{eqb-true, eqb-false, ltb-true, ltb-false}
 use Rattle.text.specs.Text.{Bytes}
-use Rattle.text.specs.Laws.{or-false}
+use Rattle.text.specs.Laws.{or-false, true-false}
 use Rattle.formula_rules.specs.Formula.{Element, elements, Trees, Formula}
 use Rattle.formula_rules.specs.Depth.{TreesIn, deepest}
 use Rattle.formula_rules.specs.Total.{countTrees}
@@ -127,17 +127,14 @@ crowded-some t i (suc n) h = go (ltb most (getD t i 0)) refl (λ q. crowded-some
     go true e f q = record { k = i; low = omega arith; high = omega arith; above = ltb-true most (getD t i 0) e }
     go false e f q = let a = f q in record { k = a .k; low = omega (arith, a .low); high = omega (arith, a .high); above = a .above }
 
-never : {X : Type 0} {b : Bool} → b ≡ true → b ≡ false → X
-never h k = absurd (let z : true ≡ false = sym h ∙ k in let z : _≡_ {A = ℕ} 0 1 = cc in omega arith)
-
 pub judged : (s : Bytes) → Judged s (verdictOf s)
 unfolding verdictOf shallowOf
 judged s = go (formulaOf s (length s)) refl (formulaOf s deepest) refl (crowded (sumsOf s) 1 elements) refl
   where
     go : (p : Bool) → formulaOf s (length s) ≡ p → (q : Bool) → formulaOf s deepest ≡ q → (r : Bool) → crowded (sumsOf s) 1 elements ≡ r →
         Judged s (cond p (cond q (cond r (refused 33) (counts (treesOf s))) (refused 32)) (refused 31))
-    go false e q f r g = Judged.no-formula (λ ts h. never (formula-any s h) e)
-    go true e false f r g = let x = formula-sound s (length s) e in Judged.too-deep (x .1 .0) (λ i. never (formula-complete s (x .1 .0) deepest i) f)
+    go false e q f r g = Judged.no-formula (λ ts h. true-false (sym (formula-any s h) ∙ e))
+    go true e false f r g = let x = formula-sound s (length s) e in Judged.too-deep (x .1 .0) (λ i. true-false (sym (formula-complete s (x .1 .0) deepest i) ∙ f))
     go true e true f true g =
         let x = formula-sound s deepest f in
         let a = crowded-some (sumsOf s) 1 elements g in
@@ -153,7 +150,7 @@ unfolding countsOf
 counts-none s h = go (formulaOf s deepest) refl
   where
     go : (b : Bool) → formulaOf s deepest ≡ b → empty ≡ cond b (sumsOf s) empty
-    go true e = never (formula-any s (formula-sound s deepest e .1 .0)) h
+    go true e = true-false (sym (formula-any s (formula-sound s deepest e .1 .0)) ∙ h)
     go false e = refl
 
 -- a line has one verdict

@@ -2,13 +2,14 @@
 use Prim.Native.Nat.{ℕ, suc}
 use mathlib.Core.Path.{_≡_, refl, sym, ap, _∙_, subst}
 use mathlib.Core.List.{List, [], _∷_}
-use mathlib.Core.Bool.{Bool, true, false}
+use mathlib.Core.Bool.{Bool, false}
 use lib.ListN.{length}
+use lib.Dec.{eqb}
 use native.Mathlib.Omega.{arith}
 use Rattle.text.specs.Text.{Bytes, Line, Lines}
 use Rattle.text.specs.Cut.{cut, cut-is, lines-cut}
+use Rattle.text.specs.Laws.{true-false}
 use Rattle.rules.specs.Record.{Molecule, Raw}
-use Rattle.judge_pairs.specs.Agree.{true-false}
 use Rattle.judge_file.specs.Place.{FileKind, molfile, sdfile}
 use Rattle.judge_file.specs.Place.{Place, first, second, third, counts, atoms, bonds, properties, over, items, values}
 use Rattle.judge_file.specs.Verdict.{Run, at, stopped, run, Verdict, accepted, refused, endSDfile, endMolfile, finish, conclude, verdict}
@@ -24,30 +25,25 @@ pub data Ending : FileKind → Place → List Raw → Bytes → ℕ → Verdict 
   good-mol : {m : Molecule} {xs : List Raw} {i : ℕ} → Ending molfile (over m) xs [] i (accepted (alone m ∷ []))
   short : {kind : FileKind} {p : Place} {xs : List Raw} {rest : Bytes} {i : ℕ} → ¬ Whole kind p rest → Ending kind p xs rest i (refused 19 i 1)
 
+-- each kind of place by a number
+abbrev pub placeNumber : Place → ℕ
+placeNumber first = 0
+placeNumber (second h₁) = 1
+placeNumber (third h₁ h₂) = 2
+placeNumber (counts hs) = 3
+placeNumber (atoms hs c k xs) = 4
+placeNumber (bonds hs c xs k bs) = 5
+placeNumber (properties hs c xs bs ps) = 6
+placeNumber (over m) = 7
+placeNumber (items m is) = 8
+placeNumber (values m is name vs) = 9
+
 -- a record may begin at the place
 abbrev pub isFirst : Place → Bool
-isFirst first = true
-isFirst (second h₁) = false
-isFirst (third h₁ h₂) = false
-isFirst (counts hs) = false
-isFirst (atoms hs c k xs) = false
-isFirst (bonds hs c xs k bs) = false
-isFirst (properties hs c xs bs ps) = false
-isFirst (over m) = false
-isFirst (items m is) = false
-isFirst (values m is name vs) = false
+isFirst p = eqb (placeNumber p) 0
 
 abbrev isOver : Place → Bool
-isOver first = false
-isOver (second h₁) = false
-isOver (third h₁ h₂) = false
-isOver (counts hs) = false
-isOver (atoms hs c k xs) = false
-isOver (bonds hs c xs k bs) = false
-isOver (properties hs c xs bs ps) = false
-isOver (over m) = true
-isOver (items m is) = false
-isOver (values m is name vs) = false
+isOver p = eqb (placeNumber p) 7
 
 -- the place is another
 short-sd : {p : Place} {xs : List Raw} {i : ℕ} → isFirst p ≡ false → Ending sdfile p xs [] i (refused 19 i 1)

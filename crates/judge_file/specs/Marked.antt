@@ -9,7 +9,7 @@ use lib.Dec.{eqb, leb}
 use native.Mathlib.Omega.{arith}
 use Rattle.text.specs.Text.{Line, bytes, byte}
 use Rattle.text.specs.Columns.{column, columns}
-use Rattle.text.specs.Find.{badColumn, inkColumn}
+use Rattle.text.specs.Find.{badColumn, inkColumn, isBlank}
 use Rattle.text.specs.Agree.{bad-within, ink-within}
 use Rattle.text.specs.declared.Found.{Found}
 use Rattle.field_numbers.specs.Read.{numberIn, signedIn}
@@ -25,7 +25,7 @@ use Rattle.judge_line.specs.Got.{Got, got, bad, then, need}
 use Rattle.judge_line.specs.Field.{numberGot, numberAt, signedGot, signedAt, elem, listedAt, elemSigned, signedListedAt, coordinateGot, coordinateAt, symbolGot}
 use Rattle.judge_line.specs.Field.{symbolAt, spaceAt, noneFound, spacesFrom, has, within}
 use Rattle.judge_line.specs.Judge.{reserved, firstHeaderOf, countsOf, atomOf, bondOf, entryNumberAt, entriesOf, listOf, propertyOf, HeaderRead, named, none}
-use Rattle.judge_line.specs.Judge.{headerOf, itemOf, titleGot, isClose, valueOf, notHeader, blankb, begins}
+use Rattle.judge_line.specs.Judge.{headerOf, itemOf, titleGot, isClose, valueOf, notHeader, begins}
 use Rattle.judge_file.specs.Place.{FileKind, Place, first, second, third, counts, atoms, bonds, properties, over, items, values, seenIn, lineOf, longest}
 use Rattle.judge_file.specs.Place.{turnOf}
 
@@ -38,7 +38,7 @@ module _ {A : Type 0} where
   pub marked-bad : {e c : ℕ} → Marked {A = A} (bad e c) → ((3 ≤ e) × (e ≤ 18)) × (1 ≤ c)
   marked-bad (refusal e c r h) = (r, h)
 
-  marked-then : {B : Type 0} {x : Got A} {f : A → Got B} → Marked x → ((a : A) → Marked (f a)) → Marked (then x f)
+  pub marked-then : {B : Type 0} {x : Got A} {f : A → Got B} → Marked x → ((a : A) → Marked (f a)) → Marked (then x f)
   unfolding then
   marked-then (value {a = a}) h = h a
   marked-then (refusal e c r k) h = refusal e c r k
@@ -111,7 +111,7 @@ module _ {A : Type 0} (l : Line) {x : Got A} where
   unfolding spacesFrom
   marked-spaces i h m = marked-none 15 (inkColumn l i) (omega arith) (λ c e. omega (arith, ink-within l i c e)) m
 
-  marked-within : (k : ℕ) → Marked x → Marked (within k l x)
+  pub marked-within : (k : ℕ) → Marked x → Marked (within k l x)
   unfolding within
   marked-within k m =
       marked-need (leb (length l) k) 3 (suc k) (omega arith) (omega arith)
@@ -119,7 +119,7 @@ module _ {A : Type 0} (l : Line) {x : Got A} where
 
 -- ---- Lines
 
-marked-header : (l : Line) → Marked (firstHeaderOf l)
+pub marked-header : (l : Line) → Marked (firstHeaderOf l)
 unfolding firstHeaderOf
 marked-header l = marked-need (not (reserved l)) 5 1 (omega arith) (omega arith) value
 
@@ -198,7 +198,7 @@ marked-property n seen l =
     (marked-cond (has l 1 6 (tag ISO)) (marked-list n ISO (seen ISO) l)
     (marked-cond (has l 1 6 "M  END") (marked-spaces l 7 (omega arith) value) (refusal 13 1 (omega arith) (omega arith)))))
 
-marked-item : (l : Line) → Marked (itemOf l)
+pub marked-item : (l : Line) → Marked (itemOf l)
 unfolding itemOf
 marked-item l = marked-cond (isClose l) value (go (headerOf l))
   where
@@ -206,9 +206,9 @@ marked-item l = marked-cond (isClose l) value (go (headerOf l))
     go (named name) = value
     go none = refusal 16 1 (omega arith) (omega arith)
 
-marked-value : (l : Line) → Marked (valueOf l)
+pub marked-value : (l : Line) → Marked (valueOf l)
 unfolding valueOf
-marked-value l = marked-cond (blankb l) value (marked-cond (begins (bytes "$$$$") l) (refusal 17 1 (omega arith) (omega arith)) (go (headerOf l)))
+marked-value l = marked-cond (isBlank l) value (marked-cond (begins (bytes "$$$$") l) (refusal 17 1 (omega arith) (omega arith)) (go (headerOf l)))
   where
     go : (h : HeaderRead) → Marked (notHeader h)
     go (named name) = refusal 17 1 (omega arith) (omega arith)

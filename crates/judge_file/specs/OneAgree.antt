@@ -9,6 +9,7 @@ use native.Mathlib.Omega.{arith}
 use Rattle.text.specs.Text.{Line}
 use Rattle.rules.specs.Record.{Raw, Record, SDfile}
 use Rattle.rules.specs.Viable.{Viable, FirstDead, ARecord}
+use Rattle.rules.specs.PartLaws.{file-record}
 use Rattle.judge_file.specs.Place.{Place, first, sdfile}
 use Rattle.judge_file.specs.Verdict.{at, run}
 use Rattle.judge_file.specs.Runs.{sound-run, rewind, run-append}
@@ -21,11 +22,6 @@ use Rattle.judge_file.specs.One.{One, whole, refused, short, oneRecord}
 use Rattle.judge_file.specs.OneRun.{Same, same, grows, follow}
 
 module _ (limit : ℕ) where
-  -- ---- An SDfile of one record
-
-  one-record : {ls : List Line} {x : Raw} → SDfile limit ls (x ∷ []) → Record limit ls x []
-  one-record (SDfile.more r SDfile.none) = r
-
   record-file : {ls : List Line} {x : Raw} → Record limit ls x [] → SDfile limit ls (x ∷ [])
   record-file r = SDfile.more r SDfile.none
 
@@ -38,7 +34,7 @@ module _ (limit : ℕ) where
   found : (ls : List Line) (x : Raw) (k : ℕ) (rest : List Line) → oneRecord limit ls ≡ whole x k rest → Record limit ls x rest × (k + length rest ≡ length ls)
   found ls x k rest h =
       let s = same-one ls (whole x k rest) h in
-      let r = record-before (one-record (accepts-sd limit (s .0) (x ∷ []) .0 (s .3))) rest in
+      let r = record-before (file-record (accepts-sd limit (s .0) (x ∷ []) .0 (s .3))) rest in
       (subst (λ (t : List Line). Record limit t x rest) (sym (s .1)) r, omega (arith, s .2, ap length (s .1), length-append (s .0) rest))
 
   -- the lines after a record are those past its number of lines
@@ -76,7 +72,7 @@ module _ (limit : ℕ) where
   open-yet small ls q h =
       let a = ahead sdfile limit small q (sound-run sdfile limit first [] 1 ls q [] tt h) in
       let r = rewind sdfile limit first [] 1 ls q [] tt h (a .t) (a .x ∷ []) (a .from) in
-      (a .t, (a .x, one-record (subst (SDfile limit (ls ++ a .t)) (r .all) (r .from))))
+      (a .t, (a .x, file-record (subst (SDfile limit (ls ++ a .t)) (r .all) (r .from))))
 
   pub one-refused : limit ≤ 999 → (ls : List Line) (e k column : ℕ) → oneRecord limit ls ≡ refused e k column →
       ((3 ≤ e) × (e ≤ 18)) × (1 ≤ column) × FirstDead (ARecord limit) ls k

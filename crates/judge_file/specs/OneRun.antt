@@ -6,9 +6,9 @@ use mathlib.Core.Bool.{false}
 use lib.ListN.{length, length-append}
 use native.Mathlib.Omega.{arith}
 use Rattle.text.specs.Text.{Line}
+use Rattle.text.specs.Laws.{true-false}
 use Rattle.rules.specs.Forms.{Counts, Atom, Bond}
 use Rattle.rules.specs.Record.{Headers, Raw}
-use Rattle.judge_pairs.specs.Agree.{true-false}
 use Rattle.judge_line.specs.Got.{Got, got, bad}
 use Rattle.judge_file.specs.Place.{Place, first, sdfile, toBonds, toAtoms, Turn, next, done, turnOf}
 use Rattle.judge_file.specs.Takes.{Takes, turn-takes}
@@ -18,15 +18,15 @@ use Rattle.judge_file.specs.Runs.{at-stopped, at-place, at-records, run-
 use Rattle.judge_file.specs.One.{One, whole, refused, short, oneFrom}
 
 module _ (limit : ℕ) where
-  one-next : (p q : Place) (i : ℕ) (l : Line) (t : List Line) → turnOf sdfile limit p l ≡ got (next q) → oneFrom limit p i (l ∷ t) ≡ oneFrom limit q (suc i) t
+  pub one-next : (p q : Place) (i : ℕ) (l : Line) (t : List Line) → turnOf sdfile limit p l ≡ got (next q) → oneFrom limit p i (l ∷ t) ≡ oneFrom limit q (suc i) t
   unfolding oneFrom
   one-next p q i l t e = rw (e, oneFrom)
 
-  one-done : (p : Place) (x : Raw) (i : ℕ) (l : Line) (t : List Line) → turnOf sdfile limit p l ≡ got (done x) → oneFrom limit p i (l ∷ t) ≡ whole x i t
+  pub one-done : (p : Place) (x : Raw) (i : ℕ) (l : Line) (t : List Line) → turnOf sdfile limit p l ≡ got (done x) → oneFrom limit p i (l ∷ t) ≡ whole x i t
   unfolding oneFrom
   one-done p x i l t e = rw (e, oneFrom)
 
-  one-stop : (p : Place) (i : ℕ) (l : Line) (t : List Line) (e c : ℕ) → turnOf sdfile limit p l ≡ bad e c → oneFrom limit p i (l ∷ t) ≡ refused e i c
+  pub one-stop : (p : Place) (i : ℕ) (l : Line) (t : List Line) (e c : ℕ) → turnOf sdfile limit p l ≡ bad e c → oneFrom limit p i (l ∷ t) ≡ refused e i c
   unfolding oneFrom
   one-stop p i l t e c h = rw (h, oneFrom)
 

@@ -5,8 +5,8 @@ use mathlib.Core.List.{List, [], _∷_, _++_, append-nil}
 use lib.ListN.{length}
 use native.Mathlib.Omega.{arith}
 use Rattle.text.specs.Text.{Line}
-use Rattle.rules.specs.Forms.{Atom, Bond, Property}
-use Rattle.rules.specs.Record.{Molecule, Item, Raw, Atoms, Bonds, Properties, Values, Items, Parts1to5, Record, SDfile}
+use Rattle.rules.specs.Record.{Molecule, Raw, SDfile}
+use Rattle.rules.specs.PartLaws.{no-parts, no-atoms, no-bonds, no-properties, no-items, no-values, no-record}
 use Rattle.judge_line.specs.Got.{Got, got, bad}
 use Rattle.judge_file.specs.Place.{FileKind, molfile, sdfile, turnOf}
 use Rattle.judge_file.specs.Place.{Place, first, second, third, counts, atoms, bonds, properties, over, items, values, Turn, next, done}
@@ -25,31 +25,13 @@ abbrev pub End : FileKind → Place → List Raw → Type 0
 End molfile p rs = (m : Molecule) × (p ≡ over m) × (rs ≡ alone m ∷ [])
 End sdfile p rs = (p ≡ first) × (rs ≡ [])
 
-no-parts : {X : Type 0} {limit : ℕ} {m : Molecule} {u : List Line} → Parts1to5 limit [] m u → X
-no-parts h = elim h [ ]
-
-no-atoms : {X : Type 0} {n k : ℕ} {xs : List Atom} {u : List Line} → Atoms n (suc k) [] xs u → X
-no-atoms h = elim h [ ]
-
-no-bonds : {X : Type 0} {n k : ℕ} {bs : List Bond} {u : List Line} → Bonds n (suc k) [] bs u → X
-no-bonds h = elim h [ ]
-
-no-properties : {X : Type 0} {n : ℕ} {ps : List Property} {u : List Line} → Properties n [] ps u → X
-no-properties h = elim h [ ]
-
-no-items : {X : Type 0} {is : List Item} {u : List Line} → Items [] is u → X
-no-items h = elim h [ ]
-
-no-values : {X : Type 0} {vs : List Line} {u : List Line} → Values [] vs u → X
-no-values h = elim h [ ]
-
 end-first : (kind : FileKind) (limit : ℕ) (rs : List Raw) → FromFirst kind limit [] rs → End kind first rs
 end-first molfile limit rs f = no-parts (f .1)
 end-first sdfile limit rs f = go f
   where
     go : {rs : List Raw} → SDfile limit [] rs → (first ≡ first) × (rs ≡ [])
     go SDfile.none = (refl, refl)
-    go (SDfile.more (Record.record-of p i) f) = no-parts p
+    go (SDfile.more r f) = no-record r
 
 end-over : (kind : FileKind) (m : Molecule) (rs : List Raw) → FromOver kind m [] rs → End kind (over m) rs
 end-over molfile m rs f = (m, refl, f .1)

@@ -9,7 +9,7 @@ use lib.ListN.{length, getD, replicate}
 use lib.IntN.{ℤ, pos, negsuc}
 use Rattle.text.specs.Text.{Bytes, LF, bytes}
 use Rattle.text.specs.Columns.{columnsFor}
-use Rattle.text.specs.Find.{firstFrom, badColumn, inkColumn}
+use Rattle.text.specs.Find.{firstFrom, badColumn, inkColumn, isBlank}
 use Rattle.text.specs.Cut.{ended, split, cut}
 use Rattle.text.specs.Written.{text}
 use Rattle.field_numbers.specs.Number.{decimalAfter}
@@ -28,7 +28,7 @@ use Rattle.rules.specs.Canon.{chargeCode, entriesFrom, eights, propertiesOf, ca
 use Rattle.judge_pairs.specs.Taken.{pairTaken}
 use Rattle.judge_line.specs.Got.{then, need}
 use Rattle.judge_line.specs.Field.{numberAt, signedAt, elem, listedAt, elemSigned, signedListedAt, coordinateAt, symbolAt, spaceAt, spacesFrom, within}
-use Rattle.judge_line.specs.Judge.{begins, contains, firstHeaderOf, countsOf, atomOf, bondOf, entryNumberAt, entriesOf, listOf, propertyOf, blankb, nameOn, opened}
+use Rattle.judge_line.specs.Judge.{begins, contains, firstHeaderOf, countsOf, atomOf, bondOf, entryNumberAt, entriesOf, listOf, propertyOf, nameOn, opened}
 use Rattle.judge_line.specs.Judge.{spaced, arrowed, headerOf, itemOf, valueOf}
 use Rattle.judge_file.specs.Place.{FileKind, molfile, sdfile, toBonds, toAtoms, lineOf, turnOf}
 use Rattle.judge_file.specs.Verdict.{Verdict, accepted, refused, run, verdict}
@@ -100,6 +100,7 @@ carbons counts n after = lines ("" ∷ "" ∷ "" ∷ counts ∷ (atoms n ++ afte
     atoms zero = []
     atoms (suc n) = "    0.0000    0.0000    0.0000 C   0  0  0  0  0  0  0  0  0  0  0  0" ∷ atoms n
 
+-- the drum's record, without items
 abbrev pub drumLines : List String
 drumLines =
     "AB-00417" ∷
@@ -207,7 +208,7 @@ pub samples-judged : map (λ s. show (s .look) (verdict (s .kind) limit (s .text
 unfolding columnsFor firstFrom badColumn inkColumn ended split cut decimalAfter allDigits afterSpaces beforeSpaces digitsRead afterBlank integerIn ranged numberIn
     signedRanged signedIn pointRead beforePoint inked coordinateIn sameBytes among symbolIn listed M.among M.numberIn M.atomsFrom M.meaning pairTaken then need
     numberAt signedAt elem listedAt elemSigned signedListedAt coordinateAt symbolAt spaceAt spacesFrom within begins contains firstHeaderOf countsOf atomOf
-    bondOf entryNumberAt entriesOf listOf propertyOf blankb nameOn opened spaced arrowed headerOf itemOf valueOf toBonds toAtoms lineOf turnOf run verdict
+    bondOf entryNumberAt entriesOf listOf propertyOf isBlank nameOn opened spaced arrowed headerOf itemOf valueOf toBonds toAtoms lineOf turnOf run verdict
     fileLines recordLines moleculeLines itemsLines headerText countsText atomText bondText propertyText entryFields joined textBy pointText symbolText canon
     propertiesOf C.atomOf C.bondOf eights chargeCode entriesFrom text
 samples-judged = refl

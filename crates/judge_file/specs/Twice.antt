@@ -1,24 +1,20 @@
 -- What may not stand twice, of a list that grows by a bond or by a property line.
 use Prim.Native.Nat.{ℕ}
-use mathlib.Core.Path.{_≡_, refl, sym, ap, _∙_, subst}
+use mathlib.Core.Path.{_≡_, refl, sym, _∙_, subst}
 use mathlib.Core.Logic.{_≢_}
-use mathlib.Core.List.{List, [], _∷_, _++_, map, append-nil, append-assoc}
+use mathlib.Core.List.{List, [], _∷_, _++_, append-nil, append-assoc}
 use mathlib.Core.Bool.{Bool, true, false, cond}
 use lib.Dec.{eqb}
 use borrow.Author.Tests.{ne-eqb, eqb-false}
+use Rattle.text.specs.Laws.{true-false}
 use Rattle.rules.specs.Forms.{Bond, Kind, CHG, RAD, ISO, sameKind, Entry, Property}
 use Rattle.rules.specs.Record.{NewPair, NoPairTwice, listed, NotListed, NoAtomTwice}
-use Rattle.judge_pairs.specs.Agree.{true-false}
-use Rattle.judge_pairs.specs.Append.{new-append, pair-once, listed-append}
+use Rattle.rules.specs.Entries.{atomsOf, kinds-same, listed-append}
+use Rattle.judge_pairs.specs.Append.{pair-once, not-listed-append, pair-front}
 use Rattle.judge_line.specs.Field.{elem}
 use Rattle.judge_line.specs.Agree.{NewEntries}
 
 -- ---- Bonds
-
-pair-front : (bs cs : List Bond) → NoPairTwice (bs ++ cs) → NoPairTwice bs
-unfolding NoPairTwice
-pair-front [] cs h = tt
-pair-front (b ∷ bs) cs h = (new-append b bs cs .0 (h .0) .0, pair-front bs cs (h .1))
 
 -- a bond of a good list is new among those before it
 pub new-among : (b : Bond) (bs cs : List Bond) → NoPairTwice (bs ++ (b ∷ cs)) → NewPair b bs
@@ -29,9 +25,6 @@ pub pair-after : (b : Bond) (bs : List Bond) → NoPairTwice bs → NewPair b bs
 pair-after b bs h k = pair-once bs b .1 (h, k)
 
 -- ---- Property lines
-
-abbrev atomsOf : List Entry → List ℕ
-atomsOf es = map (λ e. e .atom) es
 
 -- none of the entries lists an atom seen
 Apart : List ℕ → List Entry → Type 0
@@ -86,38 +79,20 @@ unfolding NoAtomTwice
 once-in [] ys h k a = k
 once-in (x ∷ xs) ys h k a =
     let d = apart-less (x .atom) (atomsOf xs) ys a in
-    (listed-append (x .atom) xs ys .1 (h .0, d .0), once-in xs ys (h .1) k (d .1))
+    (not-listed-append (x .atom) xs ys .1 (h .0, d .0), once-in xs ys (h .1) k (d .1))
 
 once-out : (xs ys : List Entry) → NoAtomTwice (xs ++ ys) → NoAtomTwice xs × NoAtomTwice ys × Apart (atomsOf xs) ys
 unfolding NoAtomTwice
 once-out [] ys h = (tt, h, none-apart ys)
 once-out (x ∷ xs) ys h =
-    let d = listed-append (x .atom) xs ys .0 (h .0) in
+    let d = not-listed-append (x .atom) xs ys .0 (h .0) in
     let r = once-out xs ys (h .1) in
     ((d .0, r .0), r .1, apart-more (x .atom) (atomsOf xs) ys (d .1) (r .2))
-
-lines-append : (k : Kind) (ps qs : List Property) → listed k (ps ++ qs) ≡ listed k ps ++ listed k qs
-unfolding listed
-lines-append k [] qs = refl
-lines-append k (p ∷ ps) qs =
-    ap (λ (x : List Entry). cond (sameKind k (p .kind)) (p .entries) [] ++ x) (lines-append k ps qs)
-    ∙ sym (append-assoc (cond (sameKind k (p .kind)) (p .entries) []) (listed k ps) (listed k qs))
 
 same-kind : (k : Kind) → sameKind k k ≡ true
 same-kind CHG = refl
 same-kind RAD = refl
 same-kind ISO = refl
-
-kinds-same : (j k : Kind) → sameKind j k ≡ true → j ≡ k
-kinds-same CHG CHG h = refl
-kinds-same CHG RAD h = true-false (sym h)
-kinds-same CHG ISO h = true-false (sym h)
-kinds-same RAD CHG h = true-false (sym h)
-kinds-same RAD RAD h = refl
-kinds-same RAD ISO h = true-false (sym h)
-kinds-same ISO CHG h = true-false (sym h)
-kinds-same ISO RAD h = true-false (sym h)
-kinds-same ISO ISO h = refl
 
 apart-front : (seen : List ℕ) (xs ys : List Entry) → Apart seen (xs ++ ys) → Apart seen xs
 unfolding Apart
@@ -130,7 +105,7 @@ pub entries-among : (p : Property) (ps qs : List Property) → NoAtomTwice (list
 unfolding listed
 entries-among p ps qs h =
     let e : listed (p .kind) (ps ++ (p ∷ qs)) ≡ listed (p .kind) ps ++ (p .entries ++ listed (p .kind) qs) =
-    lines-append (p .kind) ps (p ∷ qs) ∙ rw (same-kind (p .kind))
+    listed-append (p .kind) ps (p ∷ qs) ∙ rw (same-kind (p .kind))
     in
     let a = once-out (listed (p .kind) ps) (p .entries ++ listed (p .kind) qs) (subst NoAtomTwice e h) in
     let b = once-out (p .entries) (listed (p .kind) qs) (a .1) in
@@ -140,7 +115,7 @@ entries-among p ps qs h =
 pub entries-after : (p : Property) (ps : List Property) → ((k : Kind) → NoAtomTwice (listed k ps)) → NewEntries (atomsOf (listed (p .kind) ps)) (p .entries) →
     (k : Kind) → NoAtomTwice (listed k (ps ++ (p ∷ [])))
 unfolding listed
-entries-after p ps h new k = subst NoAtomTwice (sym (lines-append k ps (p ∷ []))) (go (sameKind k (p .kind)) refl)
+entries-after p ps h new k = subst NoAtomTwice (sym (listed-append k ps (p ∷ []))) (go (sameKind k (p .kind)) refl)
   where
     go : (t : Bool) → sameKind k (p .kind) ≡ t → NoAtomTwice (listed k ps ++ (cond t (p .entries) [] ++ []))
     go true e =

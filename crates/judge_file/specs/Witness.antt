@@ -17,6 +17,7 @@ use Rattle.field_numbers.specs.Write.{numberText}
 use Rattle.field_numbers.specs.Written.{number-length, number-allowed, number-back}
 use Rattle.field_coordinates.specs.Coordinate.{Coordinate}
 use Rattle.rules.specs.Forms.{FirstHeaderLine, Counts, CountsLine, Atom, AtomLine, Bond, BondLine, EndLine, BlankLine, RecordEnd}
+use Rattle.rules.specs.SamplesHold.{coded}
 use Rattle.judge_line.specs.Got.{need}
 use Rattle.judge_line.specs.Judge.{firstHeaderOf, contains, begins}
 use Rattle.judge_line.specs.Agree.{header-agrees}
@@ -52,23 +53,7 @@ abbrev pub atomText : Line
 atomText = bytes "                               C"
 
 abbrev pub carbon : Atom
-carbon =
-    record {
-      x = pos 0;
-      y = pos 0;
-      z = pos 0;
-      symbol = 6;
-      mass-difference = pos 0;
-      charge-code = 0;
-      parity = 0;
-      hydrogen-count = 0;
-      stereo-care = 0;
-      valence = 0;
-      H0 = 0;
-      atom-map = 0;
-      inversion = 0;
-      exact-change = 0;
-    }
+carbon = coded 0 0
 
 -- three blank columns
 blank-number : (l : Line) (i j most : ℕ) → columns l i j ≡ spaces 3 → Number l i j 0 most 0

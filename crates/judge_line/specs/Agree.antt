@@ -11,8 +11,8 @@ use Rattle.rules.specs.Forms.{FirstHeaderLine, Counts, CountsLine, Atom, AtomLi
 use Rattle.judge_line.specs.Got.{got}
 use Rattle.judge_line.specs.GotLaws.{got-inj, need-got, need-is}
 use Rattle.judge_line.specs.Judge.{contains, reserved, firstHeaderOf, countsOf, atomOf, bondOf, propertyOf, property, last, itemOf, title, close, valueOf, value, blank}
-use Rattle.text.specs.Laws.{or-false}
-use Rattle.judge_line.specs.AgreeText.{true-false, none-of, contains-got, contains-is}
+use Rattle.text.specs.Laws.{or-false, never-both}
+use Rattle.judge_line.specs.AgreeText.{none-of, contains-got, contains-is}
 pub use Rattle.judge_line.specs.AgreeField.{within-got, within-is}
 use Rattle.judge_line.specs.AgreeLine.{counts-got, counts-is, atom-got, atom-is, bond-got, bond-is}
 unfoldable pub use Rattle.judge_line.specs.AgreeProperty.{NewEntries}
@@ -23,7 +23,7 @@ use Rattle.judge_line.specs.AgreeItem.{item-means, title-is, close-line-
 
 -- the test for a text finds it where it stands, and only there
 absent : (t l : Bytes) → contains t l ≡ false → ¬ ((before : Bytes) × (after : Bytes) × (l ≡ before ++ (t ++ after)))
-absent t l e c = true-false (contains t l) (rw (c .2) (contains-is t (c .0) (c .1))) e
+absent t l e c = never-both (contains t l) (rw (c .2) (contains-is t (c .0) (c .1))) e
 
 first-header-got : (l h : Line) → Within 80 l → firstHeaderOf l ≡ got h → FirstHeaderLine l × (h ≡ l)
 unfolding firstHeaderOf

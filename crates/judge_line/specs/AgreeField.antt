@@ -77,36 +77,36 @@ elem-true k (x ∷ xs) h =
     cond-by _ _ _ _ h (λ e h. subst (λ (y : ℕ). OneOf k (y ∷ xs)) (eqb-true k x e) OneOf.this) λ e h.
     OneOf.later (elem-true k xs h)
 
-or-true : (t : Bool) → cond t true true ≡ true
-or-true true = refl
-or-true false = refl
+either-true : (t : Bool) → cond t true true ≡ true
+either-true true = refl
+either-true false = refl
 
 pub elem-is : {k : ℕ} {xs : List ℕ} → OneOf k xs → elem k xs ≡ true
 unfolding elem
 elem-is {k} OneOf.this = rw (eq-eqb k k refl)
-elem-is {k} (OneOf.later {y = y} o) = rw (elem-is o) (or-true (eqb k y))
+elem-is {k} (OneOf.later {y = y} o) = rw (elem-is o) (either-true (eqb k y))
 
-same-integer : (y z : ℤ) → sameInteger y z ≡ true → y ≡ z
+pub same-integer : (y z : ℤ) → sameInteger y z ≡ true → y ≡ z
 same-integer (pos j) (pos k) h = ap pos (eqb-true j k h)
 same-integer (pos j) (negsuc k) h = absurd (let z : _≡_ {A = ℕ} 0 1 = cc in omega arith)
 same-integer (negsuc j) (pos k) h = absurd (let z : _≡_ {A = ℕ} 0 1 = cc in omega arith)
 same-integer (negsuc j) (negsuc k) h = ap negsuc (eqb-true j k h)
 
-integer-same : (z : ℤ) → sameInteger z z ≡ true
+pub integer-same : (z : ℤ) → sameInteger z z ≡ true
 integer-same (pos k) = eq-eqb k k refl
 integer-same (negsuc k) = eq-eqb k k refl
 
-elem-signed-true : (z : ℤ) (xs : List ℤ) → elemSigned z xs ≡ true → OneOf z xs
+pub elem-signed-true : (z : ℤ) (xs : List ℤ) → elemSigned z xs ≡ true → OneOf z xs
 unfolding elemSigned
 elem-signed-true z [] h = absurd (let z : _≡_ {A = ℕ} 0 1 = cc in omega arith)
 elem-signed-true z (x ∷ xs) h =
     cond-by _ _ _ _ h (λ e h. subst (λ (y : ℤ). OneOf z (y ∷ xs)) (same-integer z x e) OneOf.this) λ e h.
     OneOf.later (elem-signed-true z xs h)
 
-elem-signed-is : {z : ℤ} {xs : List ℤ} → OneOf z xs → elemSigned z xs ≡ true
+pub elem-signed-is : {z : ℤ} {xs : List ℤ} → OneOf z xs → elemSigned z xs ≡ true
 unfolding elemSigned
 elem-signed-is {z} OneOf.this = rw (integer-same z)
-elem-signed-is {z} (OneOf.later {y = y} o) = rw (elem-signed-is o) (or-true (sameInteger z y))
+elem-signed-is {z} (OneOf.later {y = y} o) = rw (elem-signed-is o) (either-true (sameInteger z y))
 
 -- a test that each of a list passes
 unfoldable pub allPass : {A : Type 0} → (A → Bool) → List A → Bool

@@ -10,13 +10,15 @@ use borrow.Author.Tests.{eqb-true, eqb-false, eq-eqb, ne-eqb, leb-true, le-leb}
 use Rattle.text.specs.Text.{Bytes, Line, bytes, Each, Without}
 use Rattle.text.specs.Columns.{columns, columnsFor, spaces, Allowed, Within, Blank}
 use Rattle.field_numbers.specs.Read.{afterSpaces}
-use Rattle.text.specs.Laws.{and-true}
+use Rattle.text.specs.Laws.{and-true, never-both}
+use Rattle.text.specs.Find.{isBlank}
+use Rattle.text.specs.Agree.{blank-is, spaces-blank}
 use Rattle.field_numbers.specs.Agree.{led, pass-spaces}
 use Rattle.rules.specs.Forms.{DataHeader, RecordEnd, ValueLine, BlankLine}
 use Rattle.judge_line.specs.Got.{got}
 use Rattle.judge_line.specs.GotLaws.{got-inj, bad-got, cond-by}
-use Rattle.judge_line.specs.Judge.{HeaderRead, named, none, begins, blankb, nameOn, opened, spaced, arrowed, headerOf, ItemOrEnd, title, close, titleGot, isClose, itemOf, ValueOrBlank, value, blank, notHeader, valueOf}
-use Rattle.judge_line.specs.AgreeText.{true-false, none-of, begins-got, begins-is, blank-got, blank-is, blank-spaces, spaces-blank}
+use Rattle.judge_line.specs.Judge.{HeaderRead, named, none, begins, nameOn, opened, spaced, arrowed, headerOf, ItemOrEnd, title, close, titleGot, isClose, itemOf, ValueOrBlank, value, blank, notHeader, valueOf}
+use Rattle.judge_line.specs.AgreeText.{none-of, begins-got, begins-is, blank-spaces}
 
 -- ---- a header's name
 
@@ -31,7 +33,7 @@ record Name (name bs r : Bytes) : Type 0 where
   no-open : Without 60 more
   no-close : Without 62 more
 
-no-name : {X : Type 0} {name : Bytes} → none ≡ named name → X
+pub no-name : {X : Type 0} {name : Bytes} → none ≡ named name → X
 no-name e = absurd (let z : _≡_ {A = ℕ} 0 1 = cc in omega arith)
 
 -- a test must hold for a name to be found
@@ -83,7 +85,7 @@ name-got name (b ∷ bs) r h =
     let u = and-true _ _ (t .0) in
     let v = and-true _ _ (u .1) in
     subst (Name name (b ∷ bs)) (named-inj (t .1))
-    (ended name bs b (eqb-true b 62 f) (leb-true 1 (length name) (u .0)) (leb-true (length name) 30 (v .0)) (blank-got bs (v .1))))
+    (ended name bs b (eqb-true b 62 f) (leb-true 1 (length name) (u .0)) (leb-true (length name) 30 (v .0)) (blank-is bs .0 (v .1))))
     λ f h.
     longer (eqb-false b 60 e) (eqb-false b 62 f) (name-got (name ++ (b ∷ [])) bs r h)
 
@@ -94,7 +96,7 @@ name-is name [] after low high no-open no-close =
     let e = append-nil name in
     let a : 1 ≤ length name = subst (λ (x : Bytes). 1 ≤ length x) e low in
     let b : length name ≤ 30 = subst (λ (x : Bytes). length x ≤ 30) e high in
-    rw (le-leb 1 (length name) a, le-leb (length name) 30 b, spaces-blank after) (ap named (sym e))
+    rw (le-leb 1 (length name) a, le-leb (length name) 30 b, blank-is (spaces after) .1 (spaces-blank after)) (ap named (sym e))
 name-is name (b ∷ more) after low high no-open no-close =
     let e = append-assoc name (b ∷ []) more in
     let lo = subst (λ (x : Bytes). 1 ≤ length x) (sym e) low in
@@ -184,10 +186,10 @@ unfolding columnsFor
 close-got l w h =
     let a = and-true _ _ h in
     let b = begins-got (bytes "$$$$") l (a .0) in
-    record { line = w; tagged = rw (b .1) refl; rest = blank-got _ (a .1) }
+    record { line = w; tagged = rw (b .1) refl; rest = blank-is (drop 4 l) .0 (a .1) }
 
 pub close-is : (l : Line) → RecordEnd l → isClose l ≡ true
-close-is l r = rw (four l (r .tagged), blank-is (drop 4 l) (r .rest))
+close-is l r = rw (four l (r .tagged), blank-is (drop 4 l) .1 (r .rest))
 
 -- what is found of a line stands for it
 abbrev MeansItem : Line → ItemOrEnd → Type 0
@@ -204,7 +206,7 @@ item-means l r w h =
     cond-by _ _ _ _ h (λ e h. subst (MeansItem l) (got-inj h) (close-got l w e)) λ e h.
     title-means l r w (headerOf l) refl h
 
-not-close : (l name : Bytes) → DataHeader l name → isClose l ≡ false
+pub not-close : (l name : Bytes) → DataHeader l name → isClose l ≡ false
 unfolding begins
 not-close l name d = rw (d .parts)
 
@@ -218,26 +220,33 @@ close-line-is l r = rw (close-is l r)
 
 -- ---- where a value line or a blank line must stand
 
+-- one look tells the two apart
+pub value-told : (l : Line) → ValueLine l → isBlank l ≡ false
+value-told l v = none-of (isBlank l) (blank-is l .0) (v .not-blank)
+
+pub blank-told : (l : Line) → BlankLine l → isBlank l ≡ true
+blank-told l b = blank-is l .1 (b .blank)
+
 abbrev MeansValue : Line → ValueOrBlank → Type 0
 MeansValue l value = ValueLine l
 MeansValue l blank = BlankLine l
 
-other-means : (l : Line) (r : ValueOrBlank) → Within 200 l → blankb l ≡ false → begins (bytes "$$$$") l ≡ false →
+other-means : (l : Line) (r : ValueOrBlank) → Within 200 l → isBlank l ≡ false → begins (bytes "$$$$") l ≡ false →
     (h : HeaderRead) → headerOf l ≡ h → notHeader h ≡ got r → MeansValue l r
 other-means l r w p q (named name) e h = bad-got h
 other-means l r w p q none e h =
     subst (MeansValue l) (got-inj h)
     (record {
       line = w;
-      not-blank = λ b. true-false (blankb l) (blank-is l b) p;
-      no-end = λ b. true-false (begins (bytes "$$$$") l) (rw (b .1) (begins-is (bytes "$$$$") (b .0))) q;
+      not-blank = λ b. never-both (isBlank l) (blank-is l .1 b) p;
+      no-end = λ b. never-both (begins (bytes "$$$$") l) (rw (b .1) (begins-is (bytes "$$$$") (b .0))) q;
       no-header = λ name d. no-name (sym e ∙ header-is l name d);
     })
 
 pub value-means : (l : Line) (r : ValueOrBlank) → Within 200 l → valueOf l ≡ got r → MeansValue l r
 unfolding valueOf
 value-means l r w h =
-    cond-by _ _ _ _ h (λ e h. subst (MeansValue l) (got-inj h) (record { line = w; blank = blank-got l e })) λ p h.
+    cond-by _ _ _ _ h (λ e h. subst (MeansValue l) (got-inj h) (record { line = w; blank = blank-is l .0 e })) λ p h.
     cond-by _ _ _ _ h (λ e h. bad-got h) λ q h.
     other-means l r w p q (headerOf l) refl h
 
@@ -248,9 +257,9 @@ no-header l allowed n none e = refl
 pub value-is : (l : Line) → ValueLine l → valueOf l ≡ got value
 unfolding valueOf
 value-is l v =
-    rw (none-of (blankb l) (blank-got l) (v .not-blank), none-of (begins (bytes "$$$$") l) (begins-got (bytes "$$$$") l) (v .no-end))
+    rw (value-told l v, none-of (begins (bytes "$$$$") l) (begins-got (bytes "$$$$") l) (v .no-end))
     (no-header l (v .line .allowed) (v .no-header) (headerOf l) refl)
 
 pub blank-line-is : (l : Line) → BlankLine l → valueOf l ≡ got blank
 unfolding valueOf
-blank-line-is l b = rw (blank-is l (b .blank))
+blank-line-is l b = rw (blank-told l b)

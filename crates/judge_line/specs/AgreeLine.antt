@@ -64,13 +64,13 @@ counts-is limit l c h =
 
 -- ---- 4. Bond lines
 
-stereos-low : (a b : Bool) → allPass (λ m. leb m 6) (cond a (0 ∷ 1 ∷ 4 ∷ 6 ∷ []) (cond b (0 ∷ 3 ∷ []) (0 ∷ []))) ≡ true
+pub stereos-low : (a b : Bool) → allPass (λ m. leb m 6) (cond a (0 ∷ 1 ∷ 4 ∷ 6 ∷ []) (cond b (0 ∷ 3 ∷ []) (0 ∷ []))) ≡ true
 unfolding allPass
 stereos-low true b = refl
 stereos-low false true = refl
 stereos-low false false = refl
 
-centres-between : allPass (isBetween 1 13) centres ≡ true
+pub centres-between : allPass (isBetween 1 13) centres ≡ true
 unfolding allPass
 centres-between = refl
 

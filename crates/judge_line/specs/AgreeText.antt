@@ -1,19 +1,16 @@
 -- Tests on the bytes of a line: what it begins with or contains, and whether it is blank.
-use Prim.Native.Nat.{ℕ, zero, suc}
+use Prim.Native.Nat.{ℕ}
 use native.Mathlib.Omega.{arith}
 use mathlib.Core.Path.{_≡_, refl, sym, ap}
 use mathlib.Core.List.{[], _∷_, _++_}
-use mathlib.Core.Bool.{Bool, true, false, _||_}
+use mathlib.Core.Bool.{Bool, true, false, _||_, or-true}
 use lib.Dec.{eqb}
 use lib.ListN.{length}
 use borrow.Author.Tests.{eqb-true, eq-eqb}
 use Rattle.text.specs.Text.{Bytes, Line, Each}
 use Rattle.text.specs.Columns.{Blank, spaces}
 use Rattle.text.specs.Laws.{and-true}
-use Rattle.judge_line.specs.Judge.{begins, contains, blankb}
-
-pub true-false : {X : Type 0} (t : Bool) → t ≡ true → t ≡ false → X
-true-false t p q = absurd (let z : _≡_ {A = ℕ} 0 1 = cc in omega arith)
+use Rattle.judge_line.specs.Judge.{begins, contains}
 
 -- a test that finds what there is, and only that
 pub none-of : {X : Type 0} (t : Bool) → (t ≡ true → X) → ¬ X → t ≡ false
@@ -45,10 +42,6 @@ unfolding contains
 begins-within t [] h = h
 begins-within t (b ∷ l) h = rw h
 
-or-true : (a : Bool) → (a || true) ≡ true
-or-true true = refl
-or-true false = refl
-
 pub contains-is : (t before after : Bytes) → contains t (before ++ (t ++ after)) ≡ true
 unfolding contains
 contains-is t [] after = begins-within t (t ++ after) (begins-is t after)
@@ -69,22 +62,7 @@ contains-got t (b ∷ l) h = contains-by t l b (begins t (b ∷ l)) refl (contai
 
 -- ---- blank lines
 
-pub blank-got : (l : Line) → blankb l ≡ true → Blank l
-unfolding blankb Each
-blank-got [] h = tt
-blank-got (b ∷ l) h = let a = and-true (eqb b 32) (blankb l) h in (eqb-true b 32 (a .0), blank-got l (a .1))
-
-pub blank-is : (l : Line) → Blank l → blankb l ≡ true
-unfolding blankb Each
-blank-is [] h = refl
-blank-is (b ∷ l) h = rw (eq-eqb b 32 (h .0)) (blank-is l (h .1))
-
 pub blank-spaces : (l : Line) → Blank l → l ≡ spaces (length l)
 unfolding Each
 blank-spaces [] h = refl
 blank-spaces (b ∷ l) h = let e = h .0 in let r = blank-spaces l (h .1) in λ i. e i ∷ r i
-
-pub spaces-blank : (k : ℕ) → blankb (spaces k) ≡ true
-unfolding blankb
-spaces-blank zero = refl
-spaces-blank (suc k) = spaces-blank k

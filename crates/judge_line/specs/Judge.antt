@@ -1,15 +1,12 @@
 -- The lines of a record, judged from left to right: what each stands for, or its first refusal. Length and bytes (3 and 4) come before, at each place.
 use Prim.Native.Nat.{ℕ, zero, suc, _+_, _*_, _-_}
-use Prim.Native.String.{String}
 use mathlib.Core.List.{List, [], _∷_, _++_, map}
 use mathlib.Core.Bool.{Bool, true, false, cond, _&&_, _||_, not}
 use lib.Dec.{eqb, leb}
-use lib.ListN.{length, take, drop}
+use lib.ListN.{length, drop}
 use lib.IntN.{ℤ, pos}
 use Rattle.text.specs.Text.{Bytes, Line, bytes, byte}
-use Rattle.text.specs.Columns.{columns}
-use Rattle.text.specs.Find.{inkColumn}
-use Rattle.text.specs.declared.Found.{Found}
+use Rattle.text.specs.Find.{isBlank}
 use Rattle.field_numbers.specs.Read.{afterSpaces}
 use Rattle.rules.specs.Forms.{Counts, Atom, Bond, stereos, centres, Kind, CHG, RAD, ISO, tag, Entry, Property}
 use Rattle.judge_line.specs.Got.{Got, got, bad, then, need}
@@ -151,17 +148,12 @@ pub data HeaderRead : Type 0 where
   named : Bytes → HeaderRead
   none : HeaderRead
 
--- whether all are spaces
-unfoldable pub blankb : Bytes → Bool
-blankb [] = true
-blankb (b ∷ bs) = eqb b (byte " ") && blankb bs
-
 -- the name's bytes so far, and what follows them
 unfoldable pub nameOn : Bytes → Bytes → HeaderRead
 nameOn name [] = none
 nameOn name (b ∷ bs) =
     cond (eqb b (byte "<")) none
-    (cond (eqb b (byte ">")) (cond (leb 1 (length name) && (leb (length name) 30 && blankb bs)) (named name) none)
+    (cond (eqb b (byte ">")) (cond (leb 1 (length name) && (leb (length name) 30 && isBlank bs)) (named name) none)
     (nameOn (name ++ (b ∷ [])) bs))
 
 -- after `>` and a space: more spaces, then `<`
@@ -191,7 +183,7 @@ titleGot none = bad 16 1
 
 -- a `$$$$` line: only spaces after it
 abbrev pub isClose : Line → Bool
-isClose l = begins (bytes "$$$$") l && blankb (drop 4 l)
+isClose l = begins (bytes "$$$$") l && isBlank (drop 4 l)
 
 -- where a data header or `$$$$` must stand
 unfoldable pub itemOf : Line → Got ItemOrEnd
@@ -207,4 +199,4 @@ notHeader none = got value
 
 -- where a value line or the blank line after the values must stand
 unfoldable pub valueOf : Line → Got ValueOrBlank
-valueOf l = cond (blankb l) (got blank) (cond (begins (bytes "$$$$") l) (bad 17 1) (notHeader (headerOf l)))
+valueOf l = cond (isBlank l) (got blank) (cond (begins (bytes "$$$$") l) (bad 17 1) (notHeader (headerOf l)))

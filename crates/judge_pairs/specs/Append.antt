@@ -4,7 +4,7 @@ use mathlib.Core.Path.{_≡_, sym, _∙_}
 use mathlib.Core.Logic.{_≢_, _↔_}
 use mathlib.Core.List.{List, [], _∷_, _++_}
 use Rattle.rules.specs.Forms.{Bond, Entry}
-use Rattle.rules.specs.Record.{SamePair, along, against, NewPair, NoPairTwice, NotListed, NoAtomTwice}
+use Rattle.rules.specs.Record.{SamePair, along, against, NewPair, NoPairTwice, NotListed}
 
 -- ---- Bonds
 
@@ -32,6 +32,12 @@ new-append b (c ∷ bs) cs =
     let r = new-append b bs cs in
     ((λ h. ((h .0, r .0 (h .1) .0), r .0 (h .1) .1)), (λ h. (h .0 .0, r .1 (h .0 .1, h .1))))
 
+-- the first bonds of a list without repeats are without repeats
+pub pair-front : (bs cs : List Bond) → NoPairTwice (bs ++ cs) → NoPairTwice bs
+unfolding NoPairTwice
+pair-front [] cs h = tt
+pair-front (b ∷ bs) cs h = (new-append b bs cs .0 (h .0) .0, pair-front bs cs (h .1))
+
 -- none of the bonds joins the pair of b: the same, asked from the other side
 unfoldable pub NoneJoins : List Bond → Bond → Type 0
 NoneJoins [] b = Unit {0}
@@ -57,44 +63,9 @@ pair-once (c ∷ bs) b =
 
 -- ---- Entries
 
-pub listed-append : (a : ℕ) (es fs : List Entry) → NotListed a (es ++ fs) ↔ NotListed a es × NotListed a fs
+pub not-listed-append : (a : ℕ) (es fs : List Entry) → NotListed a (es ++ fs) ↔ NotListed a es × NotListed a fs
 unfolding NotListed
-listed-append a [] fs = ((λ h. (tt, h)), (λ h. h .1))
-listed-append a (e ∷ es) fs =
-    let r = listed-append a es fs in
+not-listed-append a [] fs = ((λ h. (tt, h)), (λ h. h .1))
+not-listed-append a (e ∷ es) fs =
+    let r = not-listed-append a es fs in
     ((λ h. ((h .0, r .0 (h .1) .0), r .0 (h .1) .1)), (λ h. (h .0 .0, r .1 (h .0 .1, h .1))))
-
--- the atoms of these entries are none of those listed
-unfoldable pub NewAtoms : List Entry → List Entry → Type 0
-NewAtoms [] es = Unit {0}
-NewAtoms (f ∷ fs) es = NotListed (f .atom) es × NewAtoms fs es
-
-new-atoms-nil : (fs : List Entry) → NewAtoms fs []
-unfolding NewAtoms NotListed
-new-atoms-nil [] = tt
-new-atoms-nil (f ∷ fs) = (tt, new-atoms-nil fs)
-
-new-atoms-cons : (e : Entry) (es fs : List Entry) → NewAtoms fs (e ∷ es) ↔ NotListed (e .atom) fs × NewAtoms fs es
-unfolding NewAtoms NotListed
-new-atoms-cons e es [] = ((λ h. (tt, tt)), (λ h. tt))
-new-atoms-cons e es (f ∷ fs) =
-    let r = new-atoms-cons e es fs in (
-      (λ h. (((λ p. h .0 .0 (sym p)), r .0 (h .1) .0), (h .0 .1, r .0 (h .1) .1))),
-      (λ h. (((λ p. h .0 .0 (sym p)), h .1 .0), r .1 (h .0 .1, h .1 .1))),
-    )
-
--- more entries
-pub atoms-once : (es fs : List Entry) → NoAtomTwice (es ++ fs) ↔ NoAtomTwice es × (NewAtoms fs es × NoAtomTwice fs)
-unfolding NoAtomTwice
-atoms-once [] fs = ((λ h. (tt, (new-atoms-nil fs, h))), (λ h. h .1 .1))
-atoms-once (e ∷ es) fs =
-    let r = atoms-once es fs in
-    let l = listed-append (e .atom) es fs in
-    let n = new-atoms-cons e es fs in (
-      (λ h.
-          let t = r .0 (h .1) in
-          ((l .0 (h .0) .0, t .0), (n .1 (l .0 (h .0) .1, t .1 .0), t .1 .1))),
-      (λ h.
-          let t = n .0 (h .1 .0) in
-          (l .1 (h .0 .0, t .0), r .1 (h .0 .1, (t .1, h .1 .1)))),
-    )

@@ -9,8 +9,8 @@ use Rattle.text.specs.Text.{Line}
 use Rattle.rules.specs.Forms.{Bond, BondLine}
 use Rattle.rules.specs.Record.{SamePair, NewPair, NoPairTwice}
 use Rattle.judge_pairs.specs.Taken.{samePair, pairTaken}
-use Rattle.judge_pairs.specs.Agree.{true-false, same-sound, same-complete, taken-no}
-use Rattle.judge_pairs.specs.Append.{new-append, pair-once}
+use Rattle.judge_pairs.specs.Agree.{same-sound, same-complete, taken-no}
+use Rattle.judge_pairs.specs.Append.{pair-once, pair-front}
 
 -- ---- The definition
 
@@ -86,11 +86,6 @@ unfolding triangle
 triangle-twice zero = refl
 triangle-twice (suc k) = let e : suc k - 1 ≡ k = omega arith in rw e (triangle-next k)
 
-once-front : (bs cs : List Bond) → NoPairTwice (bs ++ cs) → NoPairTwice bs
-unfolding NoPairTwice
-once-front [] cs h = tt
-once-front (b ∷ bs) cs h = (new-append b bs cs .0 (h .0) .0, once-front bs cs (h .1))
-
 -- bonds without a repeat, and whatever comes after them
 apart-then : (before bs cs : List Bond) → NoPairTwice (before ++ bs) →
     comparedIn before (bs ++ cs) + triangle (length before) ≡ triangle (length before + length bs) + comparedIn (before ++ bs) cs
@@ -101,7 +96,7 @@ apart-then before [] cs h =
 apart-then before (b ∷ bs) cs h =
     let one : (before ++ (b ∷ [])) ++ bs ≡ before ++ (b ∷ bs) = append-assoc before (b ∷ []) bs in
     let h′ = subst NoPairTwice (sym one) h in
-    let new = pair-once before b .0 (once-front (before ++ (b ∷ [])) bs h′) .1 in
+    let new = pair-once before b .0 (pair-front (before ++ (b ∷ [])) bs h′) .1 in
     let free = taken-no b before .1 new in
     let held = held-new b before new in
     let r = apart-then (before ++ (b ∷ [])) bs cs h′ in

@@ -7,10 +7,11 @@ use mathlib.Core.List.{List, [], _∷_, _++_}
 use mathlib.Core.Bool.{Bool, true, false}
 use lib.IntN.{ℤ, pos}
 use lib.ListN.{length, length-append}
+use Rattle.text.specs.Laws.{true-false}
 use Rattle.rules.specs.Forms.{Bond}
 use Rattle.rules.specs.Record.{SamePair, along, against, NewPair, NoPairTwice}
 use Rattle.judge_pairs.specs.Taken.{samePair}
-use Rattle.judge_pairs.specs.Agree.{true-false, same-sound, same-complete}
+use Rattle.judge_pairs.specs.Agree.{same-sound, same-complete}
 use Rattle.judge_pairs.specs.Append.{same-back, new-like, new-append, NoneJoins, new-either, pair-once}
 
 -- the ends are atoms of a record of n, and differ

@@ -1,9 +1,8 @@
--- Whether a pair of atoms is bonded already, and whether an atom is listed already: computed.
-use Prim.Native.Nat.{ℕ}
+-- Whether a pair of atoms is bonded already: computed.
 use mathlib.Core.List.{List, [], _∷_}
 use mathlib.Core.Bool.{Bool, true, false, cond, _&&_, _||_}
 use lib.Dec.{eqb}
-use Rattle.rules.specs.Forms.{Bond, Entry}
+use Rattle.rules.specs.Forms.{Bond}
 
 -- two bonds join the same pair of atoms, in either direction
 abbrev pub samePair : Bond → Bond → Bool
@@ -14,8 +13,3 @@ samePair b c =
 unfoldable pub pairTaken : Bond → List Bond → Bool
 pairTaken b [] = false
 pairTaken b (c ∷ cs) = cond (samePair b c) true (pairTaken b cs)
-
--- the atom is one of those listed
-unfoldable pub atomTaken : ℕ → List Entry → Bool
-atomTaken a [] = false
-atomTaken a (e ∷ es) = cond (eqb a (e .atom)) true (atomTaken a es)

@@ -1,29 +1,25 @@
 -- What may follow each place of the two parts by the rules, and that the judge's turns fit it.
-use Prim.Native.Nat.{ℕ, suc}
+use Prim.Native.Nat.{ℕ}
 use native.Mathlib.Omega.{arith}
 use mathlib.Core.Path.{_≡_, refl, sym, ap, _∙_, subst}
-use mathlib.Core.Bool.{Bool, true, false, cond, not}
-use mathlib.Core.List.{List, [], _∷_, _++_, append-assoc, append-nil}
-use lib.Dec.{leb}
+use mathlib.Core.List.{List, [], _∷_, _++_, append-nil}
 use lib.ListN.{length}
-use Rattle.text.specs.Text.{Bytes, Line, bytes}
+use Rattle.text.specs.Text.{Bytes, Line}
 use Rattle.text.specs.Columns.{Within}
-use Rattle.text.specs.Find.{badColumn}
-use Rattle.text.specs.Agree.{bad-within}
-use Rattle.text.specs.declared.Found.{Found}
 use Rattle.rules.specs.Forms.{FirstHeaderLine, HeaderLine, DataHeader, BlankLine, ValueLine}
 use Rattle.rules.specs.Record.{Headers, Item, Values}
 use Rattle.rules.specs.Canon.{HeaderPart, ItemPart}
-use Rattle.judge_line.specs.Got.{Got, got, bad, then, need}
+use Rattle.rules.specs.PartLaws.{no-values}
+use Rattle.judge_line.specs.Got.{got}
 use Rattle.judge_line.specs.GotLaws.{got-inj, bad-got, then-got, then-is}
-use Rattle.judge_line.specs.Field.{noneFound, within}
-use Rattle.judge_line.specs.Judge.{begins, reserved, firstHeaderOf, HeaderRead, named, none, headerOf, blankb, isClose, titleGot, itemOf, ItemOrEnd, title, close}
-use Rattle.judge_line.specs.Judge.{notHeader, valueOf, ValueOrBlank, value, blank}
+use Rattle.judge_line.specs.Judge.{firstHeaderOf, itemOf, ItemOrEnd, title, close}
+use Rattle.judge_line.specs.Judge.{valueOf, ValueOrBlank, value, blank}
 use Rattle.judge_line.specs.Agree.{within-got, within-is, header-agrees, title-agrees, value-agrees, blank-agrees}
-use Rattle.judge_file.specs.Marked.{Marked}
+use Rattle.judge_file.specs.Marked.{Marked, marked-then, marked-within, marked-header, marked-item, marked-value}
 use Rattle.judge_file.specs.Witness.{empty-header, blank-line}
 use Rattle.judge_file.specs.Verdict.{accepted}
 use Rattle.judge_file.specs.SameVerdict.{accepted-refused, same-accepted}
+use Rattle.judge_file.specs.Owed.{snoc}
 use Rattle.judge_parts.specs.Part.{HeaderPlace, first, second, third, full, headerLine, headerTurn, headersEnd}
 use Rattle.judge_parts.specs.Part.{ItemPlace, items, values, afterItem, afterValue, itemTurn, itemsEnd}
 use Rattle.judge_parts.specs.AnyPart.{Ends, Fitting}
@@ -130,56 +126,12 @@ headers-ahead (full hs) = ([], hs, (refl, refl))
 
 -- ---- A refusal carries a number from 3 to 18 and a column from 1 on
 
-marked-then : {A B : Type 0} {x : Got A} {f : A → Got B} → Marked x → ((a : A) → Marked (f a)) → Marked (then x f)
-unfolding then
-marked-then (Marked.value {a = a}) h = h a
-marked-then (Marked.refusal e c r k) h = Marked.refusal e c r k
-
-marked-within : {A : Type 0} (k : ℕ) (l : Line) {x : Got A} → Marked x → Marked (within k l x)
-unfolding within need
-marked-within k l {x = x} m = long (leb (length l) k)
-  where
-    clean : (f : Found) → badColumn l ≡ f → Marked (noneFound 4 f x)
-    clean (Found.At c) e = Marked.refusal 4 c (omega arith) (bad-within l c e .0)
-    clean Found.Nothing e = m
-
-    long : (t : Bool) → Marked (need t 3 (suc k) (noneFound 4 (badColumn l) x))
-    long true = clean (badColumn l) refl
-    long false = Marked.refusal 3 (suc k) (omega arith) (omega arith)
-
-marked-first : (l : Line) → Marked (firstHeaderOf l)
-unfolding firstHeaderOf need
-marked-first l = go (not (reserved l))
-  where
-    go : (t : Bool) → Marked (need t 5 1 (got l))
-    go true = Marked.value
-    go false = Marked.refusal 5 1 (omega arith) (omega arith)
-
-marked-item : (l : Line) → Marked (itemOf l)
-unfolding itemOf
-marked-item l = go (isClose l) (headerOf l)
-  where
-    go : (t : Bool) (h : HeaderRead) → Marked (cond t (got close) (titleGot h))
-    go true h = Marked.value
-    go false (named name) = Marked.value
-    go false none = Marked.refusal 16 1 (omega arith) (omega arith)
-
-marked-value : (l : Line) → Marked (valueOf l)
-unfolding valueOf
-marked-value l = go (blankb l) (begins (bytes "$$$$") l) (headerOf l)
-  where
-    go : (t u : Bool) (h : HeaderRead) → Marked (cond t (got blank) (cond u (bad 17 1) (notHeader h)))
-    go true u h = Marked.value
-    go false true h = Marked.refusal 17 1 (omega arith) (omega arith)
-    go false false (named name) = Marked.refusal 17 1 (omega arith) (omega arith)
-    go false false none = Marked.value
-
 headers-marked : (p : HeaderPlace) (l : Line) → Marked (headerTurn p l)
 unfolding headerTurn headerLine
-headers-marked first l = marked-within 80 l (marked-then (marked-first l) λ h. Marked.value)
-headers-marked (second h₁) l = marked-within 80 l Marked.value
-headers-marked (third h₁ h₂) l = marked-within 80 l Marked.value
-headers-marked (full hs) l = marked-within 80 l (Marked.refusal 18 1 (omega arith) (omega arith))
+headers-marked first l = marked-within l 80 (marked-then (marked-header l) λ h. Marked.value)
+headers-marked (second h₁) l = marked-within l 80 Marked.value
+headers-marked (third h₁ h₂) l = marked-within l 80 Marked.value
+headers-marked (full hs) l = marked-within l 80 (Marked.refusal 18 1 (omega arith) (omega arith))
 
 pub fitting-headers : Fitting headerTurn headersEnd FromHeaders
 unfolding Onward
@@ -215,10 +167,6 @@ FromItemPlace (values is name vs) t js = FromValues is name vs t js
 
 OnwardItem : ItemPlace → Line → List Line → List Item → Type 0
 OnwardItem p l t js = (q : ItemPlace) × (itemTurn p l ≡ got q) × FromItemPlace q t js
-
--- one item more
-snoc : {A : Type 0} (xs : List A) (x : A) (ys : List A) → xs ++ (x ∷ ys) ≡ (xs ++ (x ∷ [])) ++ ys
-snoc xs x ys = sym (append-assoc xs (x ∷ []) ys)
 
 title-turn : (is : List Item) (l : Line) (name : Bytes) → DataHeader l name → itemTurn (items is) l ≡ got (values is name [])
 unfolding itemTurn
@@ -291,9 +239,6 @@ backward-items (values is name vs) l q e t js f =
           all = rw (append-nil vs) (g .all ∙ sym (snoc is i (g .ks)));
         }
 
-no-values : {X : Type 0} {vs u : List Line} → Values [] vs u → X
-no-values f = elim f [ ]
-
 items-at-end : (p : ItemPlace) (js : List Item) → FromItemPlace p [] js → (i : ℕ) → itemsEnd p i ≡ accepted js
 items-at-end (items is) js f i = go (f .part) (f .all)
   where
@@ -320,12 +265,12 @@ items-ahead (values is name vs) = (
 
 items-marked : (p : ItemPlace) (l : Line) → Marked (itemTurn p l)
 unfolding itemTurn
-items-marked (items is) l = marked-within 80 l (marked-then (marked-item l) go)
+items-marked (items is) l = marked-within l 80 (marked-then (marked-item l) go)
   where
     go : (i : ItemOrEnd) → Marked (afterItem is i)
     go (title name) = Marked.value
     go close = Marked.refusal 16 1 (omega arith) (omega arith)
-items-marked (values is name vs) l = marked-within 200 l (marked-then (marked-value l) λ v. Marked.value)
+items-marked (values is name vs) l = marked-within l 200 (marked-then (marked-value l) λ v. Marked.value)
 
 pub fitting-items : Fitting itemTurn itemsEnd FromItemPlace
 unfolding OnwardItem

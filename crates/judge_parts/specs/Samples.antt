@@ -4,22 +4,18 @@ use mathlib.Core.Path.{_≡_, refl}
 use mathlib.Core.List.{List, [], _∷_, _++_, map}
 use lib.ListN.{replicate}
 use Rattle.text.specs.Text.{Bytes, LF, CR, bytes}
-use Rattle.text.specs.Find.{firstFrom, badColumn}
+use Rattle.text.specs.Find.{firstFrom, badColumn, isBlank}
 use Rattle.text.specs.Cut.{ended, split, cut}
 use Rattle.text.specs.Written.{text}
 use Rattle.field_numbers.specs.Read.{afterSpaces}
 use Rattle.rules.specs.Write.{headerText}
 use Rattle.judge_line.specs.Got.{then, need}
 use Rattle.judge_line.specs.Field.{within}
-use Rattle.judge_line.specs.Judge.{begins, contains, firstHeaderOf, blankb, nameOn, opened, spaced, arrowed, headerOf, itemOf, valueOf}
+use Rattle.judge_line.specs.Judge.{begins, contains, firstHeaderOf, nameOn, opened, spaced, arrowed, headerOf, itemOf, valueOf}
 use Rattle.judge_file.specs.Verdict.{Verdict, accepted, refused}
+use Rattle.judge_file.specs.Samples.{lines}
 use Rattle.judge_parts.specs.Part.{run, verdictFrom, headerLine, headerTurn, headersVerdict, itemTurn, itemsVerdict}
 use Rattle.judge_parts.specs.Written.{headersText, itemLines, itemsText, writtenHeaders, writtenItems}
-
--- lines, each with its LF
-abbrev pub lines : List String → Bytes
-lines [] = []
-lines (l ∷ ls) = bytes l ++ (LF ∷ lines ls)
 
 pub record Sample : Type 0 where
   pub judge : Bytes → Verdict Bytes
@@ -63,6 +59,6 @@ samples =
     []
 
 pub samples-written : map (λ s. s .judge (s .part)) samples ≡ map (λ s. s .is) samples
-unfolding firstFrom badColumn ended split cut text afterSpaces headerText then need within begins contains firstHeaderOf blankb nameOn opened spaced arrowed
+unfolding firstFrom badColumn ended split cut text afterSpaces headerText then need within begins contains firstHeaderOf isBlank nameOn opened spaced arrowed
     headerOf itemOf valueOf run verdictFrom headerLine headerTurn headersVerdict itemTurn itemsVerdict headersText itemLines itemsText writtenHeaders writtenItems
 samples-written = refl

@@ -13,7 +13,7 @@ use Rattle.judge_file.specs.Takes.{Takes, takes-turn, turn-takes}
 use Rattle.judge_file.specs.Verdict.{at, stopped, run}
 use Rattle.judge_file.specs.Runs.{Stop, stop, run-append, at-stopped, at-place, at-records, run-next, run-done, run-stop}
 use Rattle.judge_file.specs.One.{One, oneFrom, oneRecord}
-use Rattle.judge_file.specs.OneRun.{Same, same, grows}
+use Rattle.judge_file.specs.OneRun.{Same, same, grows, one-stop}
 use Rattle.judge_refusals.specs.Demand.{Refused}
 use Rattle.judge_refusals.specs.Demands.{demands}
 use Rattle.judge_refusals.specs.Places.{refused-because}
@@ -116,10 +116,6 @@ module _ (limit : ℕ) where
   one-on i {q = r} {xs = xs} {ys = ys} (Leads.over {x = x} {ls = ls} k h) few t =
       absurd (omega (arith, grows limit first (xs ++ (x ∷ [])) i ls r ys (leads-run sdfile limit i h), length-append xs (x ∷ [])))
 
-  one-stop : (p : Place) (i : ℕ) (l : Line) (t : List Line) (e c : ℕ) → turnOf sdfile limit p l ≡ bad e c → oneFrom limit p i (l ∷ t) ≡ One.refused e i c
-  unfolding oneFrom
-  one-stop p i l t e c h = rw (h, oneFrom)
-
   pub one-because : (ls : List Line) (e i c : ℕ) → (oneRecord limit ls ≡ One.refused e i c) ↔ BecauseFirst limit ls e i c
   unfolding oneRecord
   one-because ls e i c = (to, back)
@@ -148,5 +144,5 @@ module _ (limit : ℕ) where
           let n : 1 + length (w .before) ≡ i = omega (arith, w .line) in
           ap (oneFrom limit first 1) (w .whole)
           ∙ one-on 1 (w .stands) (omega (arith, ap length (b .within-first))) (w .l ∷ w .after)
-          ∙ one-stop (w .place) (1 + length (w .before)) (w .l) (w .after) e c (refused-because sdfile limit (w .place) (w .l) e c .1 (w .refused))
+          ∙ one-stop limit (w .place) (1 + length (w .before)) (w .l) (w .after) e c (refused-because sdfile limit (w .place) (w .l) e c .1 (w .refused))
           ∙ ap (λ (j : ℕ). One.refused e j c) n

@@ -17,6 +17,7 @@ use Rattle.text.specs.Columns.{column, columns, Space, Has, Allowed, Within}
 use Rattle.text.specs.Find.{firstFrom, isBad, isInk, badColumn, inkColumn}
 use Rattle.text.specs.Agree.{bad-none, good-byte, byte-good, no-ink, space-no-ink}
 use Rattle.text.specs.declared.Found.{Found}
+use Rattle.text.specs.Laws.{never-both}
 use Rattle.field_numbers.specs.Number.{Integer, Number, Signed, Listed, SignedListed}
 use Rattle.field_numbers.specs.Read.{IntegerRead, is, malformed, integerIn, ranged, numberIn, isBetween, signedRanged, signedIn}
 use Rattle.field_numbers.specs.Agree.{integer-read, read-integer}
@@ -33,7 +34,6 @@ use Rattle.judge_line.specs.GotLaws.{bad-got}
 use Rattle.judge_line.specs.Field.{numberGot, numberAt, signedGot, signedAt, elem, listedAt, elemSigned, signedListedAt, coordinateGot, coordinateAt, symbolGot, symbolAt, spaceAt, noneFound, has, within}
 use Rattle.judge_line.specs.Field as F
 use Rattle.judge_line.specs.AgreeField.{allPass, number-got, number-is, signed-got, signed-is, listed-got, listed-is, signed-listed-got, signed-listed-is, coordinate-got, coordinate-is, symbol-got, symbol-is, has-got, has-is}
-use Rattle.judge_line.specs.AgreeText.{true-false}
 use Rattle.judge_refusals.specs.Demand.{Demand, _else_at-column_, _and-then_, All, Some}
 use Rattle.judge_refusals.specs.Refusals.{eachFor, each, fitting, number, signed, signedListed, coordinate, symbol, space, spaces-from}
 use Rattle.judge_refusals.specs.Tells.{Tells, value, refusal, past, need-tells, no-more}
@@ -186,7 +186,7 @@ module _ {A : Type 0} {ds : List Demand} {x : Got A} where
   space-tells l i t = need-tells (eqb (column l i) (byte " ")) (eqb-true (column l i) (byte " ")) (eqb-false (column l i) (byte " ")) (λ h. t)
 
   pub has-tells : (l : Line) (i j : ℕ) (text : String) {e c : ℕ} → Tells ds x → Tells (Has l i j text else e at-column c ∷ ds) (need (has l i j text) e c x)
-  has-tells l i j text t = need-tells (has l i j text) (has-got l i j text) (λ f h. true-false (has l i j text) (has-is l i j text h) f) (λ h. t)
+  has-tells l i j text t = need-tells (has l i j text) (has-got l i j text) (λ f h. never-both (has l i j text) (has-is l i j text h) f) (λ h. t)
 
 -- ---- every column from i on
 
@@ -200,7 +200,7 @@ module _ (p : ℕ → Bool) (P : ℕ → Type 0) (good : (b : ℕ) → p b ≡ f
   -- the first byte
   one-tells : {A : Type 0} {es : List Demand} (x : Got A) (b i : ℕ) (u : Bool) (f : Found) → p b ≡ u → column l i ≡ b →
       (u ≡ false → Tells es (noneFound e f x)) → Tells (P (column l i) else e at-column i ∷ es) (noneFound e (cond u (Found.At i) f) x)
-  one-tells x b i true f h here t = refusal (inl ((λ q. true-false (p b) h (ill b (subst P here q))), refl, refl))
+  one-tells x b i true f h here t = refusal (inl ((λ q. never-both (p b) h (ill b (subst P here q))), refl, refl))
   one-tells x b i false f h here t = past (P (column l i) else e at-column i ∷ []) (subst P (sym here) (good b h), tt) (t refl)
 
   first-tells : {A : Type 0} {ds : List Demand} {x : Got A} (xs : Bytes) (i w : ℕ) → length xs ≤ w → ((k : ℕ) → column l (i + k) ≡ getD xs k (byte " ")) →

@@ -3,22 +3,21 @@ use Prim.Native.Nat.{ℕ, _*_, _-_}
 use native.Mathlib.Omega.{arith}
 use mathlib.Core.Path.{_≡_, refl, _∙_, subst}
 use mathlib.Core.Logic.{_≢_}
-use mathlib.Core.List.{[], _∷_}
-use mathlib.Core.Bool.{Bool, true, false, cond, not}
+use mathlib.Core.Bool.{true, false, not}
 use lib.Dec.{eqb, leb}
 use borrow.Author.Tests.{eqb-true, eqb-false, leb-true, leb-false, not-true, not-false}
 use Rattle.text.specs.Text.{Line}
 use Rattle.text.specs.Columns.{Within}
+use Rattle.text.specs.Laws.{never-both}
 use Rattle.field_numbers.specs.Number.{Number, Listed}
 use Rattle.field_numbers.specs.Agree.{one-number}
-use Rattle.field_numbers.specs.Read.{isBetween}
 use Rattle.rules.specs.Forms.{stereos, centres}
 use Rattle.judge_line.specs.Got.{got}
 use Rattle.judge_line.specs.Judge.{reserved, firstHeaderOf, countsOf, atomOf, bondOf}
-use Rattle.judge_line.specs.AgreeField.{allPass, number-got}
-use Rattle.judge_line.specs.AgreeText.{true-false}
+use Rattle.judge_line.specs.AgreeField.{number-got}
 use Rattle.judge_line.specs.Agree.{header-agrees}
 use Rattle.judge_line.specs.GotLaws.{need-got, need-is}
+use Rattle.judge_line.specs.AgreeLine.{stereos-low, centres-between}
 use Rattle.field_coordinates.specs.Agree.{ten-columns}
 use Rattle.judge_refusals.specs.Demand.{Some}
 use Rattle.judge_refusals.specs.Refusals.{Unreserved, noReservedTag, countsDemands, atomDemands, bondDemands}
@@ -38,7 +37,7 @@ module _ (l : Line) (w : Within 80 l) where
   unfolding firstHeaderOf
   not-free t f =
       let e = header-agrees l l w .1 (record { line = w; no-end = f .0; no-molfile = f .1; no-rxnfile = f .2; no-rdfile = f .3 }, refl) in
-      true-false (not (reserved l)) (need-got (not (reserved l)) 5 1 (got l) l e .0) t
+      never-both (not (reserved l)) (need-got (not (reserved l)) 5 1 (got l) l e .0) t
 
   pub header-tells : Tells (noReservedTag l) (firstHeaderOf l)
   unfolding firstHeaderOf
@@ -87,16 +86,6 @@ atom-tells n l w =
     spaces-last l _ 70 (omega arith) (w .short))
 
 -- ---- 4. Bond lines
-
-stereos-low : (a b : Bool) → allPass (λ m. leb m 6) (cond a (0 ∷ 1 ∷ 4 ∷ 6 ∷ []) (cond b (0 ∷ 3 ∷ []) (0 ∷ []))) ≡ true
-unfolding allPass
-stereos-low true b = refl
-stereos-low false true = refl
-stereos-low false false = refl
-
-centres-between : allPass (isBetween 1 13) centres ≡ true
-unfolding allPass
-centres-between = refl
 
 module _ (n : ℕ) (l : Line) where
   abbrev Stereo : Type 0

@@ -10,17 +10,21 @@ use lib.ListN.{length}
 use borrow.Author.Tests.{eqb-true, eqb-false, ne-eqb, not-true, not-false}
 use Rattle.text.specs.Text.{Bytes, Line, bytes, Each}
 use Rattle.text.specs.Columns.{Has, Allowed, Within, Blank}
+use Rattle.text.specs.Find.{isBlank}
+use Rattle.text.specs.Agree.{blank-is}
+use Rattle.text.specs.Laws.{never-both}
 use Rattle.field_numbers.specs.Number.{Number, OneOf}
 use Rattle.field_numbers.specs.Agree.{one-number}
 use Rattle.rules.specs.Forms.{Begins, Kind, CHG, RAD, ISO, tag, Entry, Property, DataHeader, RecordEnd}
 use Rattle.rules.specs.Record.{listed, NotListed}
+use Rattle.rules.specs.OneForm.{one-kind, no-end}
 use Rattle.judge_line.specs.Got.{got}
 use Rattle.judge_line.specs.Field.{elem, has, spacesFrom}
 use Rattle.judge_line.specs.Judge.{last, entryNumberAt, entriesOf, listOf, propertyOf}
-use Rattle.judge_line.specs.Judge.{HeaderRead, named, none, begins, blankb, headerOf, titleGot, isClose, itemOf, value, notHeader, valueOf}
+use Rattle.judge_line.specs.Judge.{HeaderRead, named, none, begins, headerOf, titleGot, isClose, itemOf, value, notHeader, valueOf}
 use Rattle.judge_line.specs.AgreeField.{number-got, has-got, has-is}
-use Rattle.judge_line.specs.AgreeText.{true-false, begins-got, begins-is, blank-got}
-use Rattle.judge_line.specs.AgreeItem.{header-got, header-is, close-got, close-is}
+use Rattle.judge_line.specs.AgreeText.{begins-got, begins-is}
+use Rattle.judge_line.specs.AgreeItem.{header-got, header-is, close-got, close-is, no-name}
 use Rattle.judge_refusals.specs.Demand.{Demand, _else_at-column_, _and-then_, Some, given, whichever}
 use Rattle.judge_refusals.specs.Refusals.{spaces-from, entryNumber, entries, listing, propertyDemands, headerOrEnd, valueOrBlank, oneOfFour}
 use Rattle.judge_refusals.specs.Tells as T
@@ -60,7 +64,7 @@ module _ (n : ℕ) (l : Line) where
       (then-tells (number-tells l (i + 1) (i + 3) 1 n) λ atom e.
       let atom-is = number-got l (i + 1) (i + 3) 1 n atom e in
       need-tells (not (elem atom seen)) (λ t. (atom, (atom-is, h atom .0 (not-true (elem atom seen) t))))
-      (λ t d. true-false (elem atom seen) (not-false (elem atom seen) t) (h atom .1 (subst New (one-number (d .1 .0) atom-is) (d .1 .1)))) λ t.
+      (λ t d. never-both (elem atom seen) (not-false (elem atom seen) t) (h atom .1 (subst New (one-number (d .1 .0) atom-is) (d .1 .1)))) λ t.
       space-tells l (i + 4)
       (then-tells (entry-tells l (i + 5) (i + 7) kind) λ number e.
       then-last _ (entries-tells kind (i + 8) k (atom ∷ seen) _ (one-more i atom atom-is seen New h))))
@@ -91,23 +95,6 @@ module _ (n : ℕ) (l : Line) where
       let k-is = number-got l 7 9 1 8 k e in
       whichever-tells (Number l 7 9 1 8) (λ m. entries n kind l New 10 m and-then spaces-from l (10 + 8 * m)) k k-is (only-count k k-is) _ (counted k (k-is .low) (k-is .high))
       (then-tells (entries-tells kind 10 k seen New h) λ es e. spaces-last l _ (10 + 8 * k) (omega arith) short)
-
--- a line has one tag
-same-tag : (l : Line) (j k : Kind) → Has l 1 6 (tag j) → Has l 1 6 (tag k) → j ≡ k
-same-tag l CHG CHG h g = refl
-same-tag l CHG RAD h g = absurd (let z : _≡_ {A = ℕ} 67 82 = cc in omega arith)
-same-tag l CHG ISO h g = absurd (let z : _≡_ {A = ℕ} 67 73 = cc in omega arith)
-same-tag l RAD CHG h g = absurd (let z : _≡_ {A = ℕ} 82 67 = cc in omega arith)
-same-tag l RAD RAD h g = refl
-same-tag l RAD ISO h g = absurd (let z : _≡_ {A = ℕ} 82 73 = cc in omega arith)
-same-tag l ISO CHG h g = absurd (let z : _≡_ {A = ℕ} 73 67 = cc in omega arith)
-same-tag l ISO RAD h g = absurd (let z : _≡_ {A = ℕ} 73 82 = cc in omega arith)
-same-tag l ISO ISO h g = refl
-
-end-tag : (l : Line) (k : Kind) → Has l 1 6 (tag k) → ¬ Has l 1 6 "M  END"
-end-tag l CHG h g = let z : _≡_ {A = ℕ} 67 69 = cc in omega arith
-end-tag l RAD h g = let z : _≡_ {A = ℕ} 82 69 = cc in omega arith
-end-tag l ISO h g = let z : _≡_ {A = ℕ} 73 69 = cc in omega arith
 
 one-of-three : (k : Kind) → OneOf k (CHG ∷ RAD ∷ ISO ∷ [])
 one-of-three CHG = OneOf.this
@@ -146,26 +133,26 @@ module _ (n : ℕ) (ps : List Property) (l : Line) (w : Within 80 l) where
       (until atEnd
       (whichever-tells Tagged (λ k. listing n k (New k) l) kind h (only h) (CHG ∷ RAD ∷ ISO ∷ []) (one-of-three kind)
       (list-tells n l kind _ (New kind) (seen-agrees (listed kind ps)) (w .short)))
-      (λ a. all-given (spaces-from l 7) (λ g. absurd (end-tag l kind h g))))
+      (λ a. all-given (spaces-from l 7) (no-end l kind h)))
     where
       only : Tagged kind → (k : Kind) → (k ≡ kind) ⊎ (¬ Tagged k)
       only h k = go (has l 1 6 (tag k)) refl
         where
           go : (u : Bool) → has l 1 6 (tag k) ≡ u → (k ≡ kind) ⊎ (¬ Tagged k)
-          go true e = inl (same-tag l k kind (has-got l 1 6 (tag k) e) h)
-          go false e = inr (λ g. true-false (has l 1 6 (tag k)) (has-is l 1 6 (tag k) g) e)
+          go true e = inl (one-kind l k kind (has-got l 1 6 (tag k) e) h)
+          go false e = inr (λ g. never-both (has l 1 6 (tag k)) (has-is l 1 6 (tag k) g) e)
 
   end-tells : has l 1 6 "M  END" ≡ true → Tells (propertyDemands n ps l) (spacesFrom l 7 (got last))
   end-tells t =
       let h = has-got l 1 6 "M  END" t in
       past (oneOfFour l) (inr h, tt)
-      (past byKind (whichever-all Tagged (λ k. listing n k (New k) l) (CHG ∷ RAD ∷ ISO ∷ []) (λ k g. absurd (end-tag l k g h)))
+      (past byKind (whichever-all Tagged (λ k. listing n k (New k) l) (CHG ∷ RAD ∷ ISO ∷ []) (λ k g. no-end l k g h))
       (given-tells h (spaces-last l last 7 (omega arith) (w .short))))
 
   not-tagged : (kind : Kind) → has l 1 6 (tag CHG) ≡ false → has l 1 6 (tag RAD) ≡ false → has l 1 6 (tag ISO) ≡ false → ¬ Tagged kind
-  not-tagged CHG a b c h = true-false (has l 1 6 (tag CHG)) (has-is l 1 6 (tag CHG) h) a
-  not-tagged RAD a b c h = true-false (has l 1 6 (tag RAD)) (has-is l 1 6 (tag RAD) h) b
-  not-tagged ISO a b c h = true-false (has l 1 6 (tag ISO)) (has-is l 1 6 (tag ISO) h) c
+  not-tagged CHG a b c h = never-both (has l 1 6 (tag CHG)) (has-is l 1 6 (tag CHG) h) a
+  not-tagged RAD a b c h = never-both (has l 1 6 (tag RAD)) (has-is l 1 6 (tag RAD) h) b
+  not-tagged ISO a b c h = never-both (has l 1 6 (tag ISO)) (has-is l 1 6 (tag ISO) h) c
 
   pub property-tells : Tells (propertyDemands n ps l) (propertyOf n (λ kind. map (λ e. e .atom) (listed kind ps)) l)
   unfolding propertyOf
@@ -179,12 +166,9 @@ module _ (n : ℕ) (ps : List Property) (l : Line) (w : Within 80 l) where
       none-of-four : has l 1 6 (tag CHG) ≡ false → has l 1 6 (tag RAD) ≡ false → has l 1 6 (tag ISO) ≡ false → has l 1 6 "M  END" ≡ false →
           (Some λ kind. Has l 1 6 (tag kind)) ⊎ Has l 1 6 "M  END" → ⊥
       none-of-four a b c d (inl h) = not-tagged (h .0) a b c (h .1)
-      none-of-four a b c d (inr h) = true-false (has l 1 6 "M  END") (has-is l 1 6 "M  END" h) d
+      none-of-four a b c d (inr h) = never-both (has l 1 6 "M  END") (has-is l 1 6 "M  END" h) d
 
 -- ---- 6. Data items
-
-no-name : {X : Type 0} {name : Bytes} → none ≡ named name → X
-no-name e = absurd (let z : _≡_ {A = ℕ} 0 1 = cc in omega arith)
 
 module _ (l : Line) (allowed : Each Allowed l) where
   a-header : {name : Bytes} → headerOf l ≡ named name → Some (DataHeader l)
@@ -199,7 +183,7 @@ item-tells l w = cond-tells (isClose l) (λ t. T.value (inr (close-got l w t), t
   where
     neither : isClose l ≡ false → headerOf l ≡ none → Some (DataHeader l) ⊎ RecordEnd l → ⊥
     neither t e (inl d) = no-header l (w .allowed) e d
-    neither t e (inr r) = true-false (isClose l) (close-is l r) t
+    neither t e (inr r) = never-both (isClose l) (close-is l r) t
 
     go : isClose l ≡ false → (h : HeaderRead) → headerOf l ≡ h → Tells (headerOrEnd l) (titleGot h)
     go t (named name) e = T.value (inl (a-header l (w .allowed) e), tt)
@@ -224,9 +208,9 @@ blank-header l b d =
 pub value-tells : (l : Line) → Within 200 l → Tells (valueOrBlank l) (valueOf l)
 unfolding valueOf
 value-tells l w =
-    cond-tells (blankb l) (λ t. let b = blank-got l t in T.value ((blank-begins l b, blank-header l b), tt)) λ t.
+    cond-tells (isBlank l) (λ t. let b = blank-is l .0 t in T.value ((blank-begins l b, blank-header l b), tt)) λ t.
     cond-tells (begins (bytes "$$$$") l) (λ u. T.refusal (inl ((λ h. h .0 (begins-got (bytes "$$$$") l u)), refl, refl))) λ u.
-    go (λ h. true-false (begins (bytes "$$$$") l) (rw (h .1) (begins-is (bytes "$$$$") (h .0))) u) (headerOf l) refl
+    go (λ h. never-both (begins (bytes "$$$$") l) (rw (h .1) (begins-is (bytes "$$$$") (h .0))) u) (headerOf l) refl
   where
     go : ¬ Begins l "$$$$" → (h : HeaderRead) → headerOf l ≡ h → Tells (valueOrBlank l) (notHeader h)
     go n (named name) e = T.refusal (inl ((λ h. h .1 (a-header l (w .allowed) e)), refl, refl))

@@ -7,10 +7,11 @@ use mathlib.Core.Bool.{not}
 use borrow.Author.Tests.{not-true, not-false}
 use Rattle.text.specs.Text.{Line}
 use Rattle.text.specs.Columns.{Within}
+use Rattle.text.specs.Laws.{true-false}
 use Rattle.rules.specs.Forms.{FirstHeaderLine, HeaderLine, CountsLine, AtomLine, Bond, BondLine, Entry, PropertyLine, EndLine, DataHeader, RecordEnd, ValueLine, BlankLine}
 use Rattle.rules.specs.Record.{NewPair, listed, NotListed}
 use Rattle.judge_pairs.specs.Taken.{pairTaken}
-use Rattle.judge_pairs.specs.Agree.{taken-no, true-false}
+use Rattle.judge_pairs.specs.Agree.{taken-no}
 use Rattle.judge_line.specs.Got.{got, bad, need}
 use Rattle.judge_line.specs.GotLaws.{got-inj}
 use Rattle.judge_line.specs.Judge.{bondOf}

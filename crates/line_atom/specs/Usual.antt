@@ -8,8 +8,8 @@ use Rattle.text.specs.Text.{Line, bytes}
 use Rattle.text.specs.Columns.{columnsFor}
 use Rattle.text.specs.Find.{isInk, inkColumn, hasText}
 use Rattle.text.specs.First.{first-none}
-use Rattle.text.specs.Agree.{same-bytes}
 use Rattle.text.specs.declared.Found.{Found}
+use Rattle.text.specs.Agree.{has-text-is}
 use Rattle.judge_line.specs.Got.{got, then}
 use Rattle.judge_line.specs.Field.{spacesFrom}
 use Rattle.judge_line.specs.Judge.{atomOf}
@@ -43,8 +43,7 @@ plainAtom p =
 
 module _ (l : Line) (z : AtomZeros l) where
   cols : columnsFor l 35 35 ≡ bytes " 0  0  0  0  0  0  0  0  0  0  0  0"
-  unfolding hasText
-  cols = same-bytes (columnsFor l 35 35) (bytes " 0  0  0  0  0  0  0  0  0  0  0  0") .0 (z .zeros)
+  cols = has-text-is l 35 (bytes " 0  0  0  0  0  0  0  0  0  0  0  0") .0 (z .zeros)
 
   atom-over : inkColumn l 70 ≡ Found.Nothing
   unfolding inkColumn

@@ -9,8 +9,8 @@ use Rattle.text.specs.Text.{Line, bytes}
 use Rattle.text.specs.Columns.{columnsFor}
 use Rattle.text.specs.Find.{isInk, inkColumn, hasText}
 use Rattle.text.specs.First.{first-none}
-use Rattle.text.specs.Agree.{same-bytes}
 use Rattle.text.specs.declared.Found.{Found}
+use Rattle.text.specs.Agree.{has-text-is}
 use Rattle.rules.specs.Forms as R
 use Rattle.judge_line.specs.Got.{Got, got, then, need}
 use Rattle.judge_line.specs.Field.{numberAt, listedAt, elemSigned, signedListedAt, spacesFrom}
@@ -33,8 +33,7 @@ plainBond first second type =
 
 module _ (l : Line) (z : BondZeros l) where
   tail : columnsFor l 10 12 ≡ bytes "  0  0  0  0"
-  unfolding hasText
-  tail = same-bytes (columnsFor l 10 12) (bytes "  0  0  0  0") .0 (z .zeros)
+  tail = has-text-is l 10 (bytes "  0  0  0  0") .0 (z .zeros)
 
   bond-over : inkColumn l 22 ≡ Found.Nothing
   unfolding inkColumn

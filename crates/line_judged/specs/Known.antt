@@ -10,15 +10,13 @@ use lib.Seq.{take-at}
 use borrow.Author.Tests.{eq-eqb, ne-eqb, lt-ltb, le-ltb}
 use Rattle.text.specs.Text.{Bytes, Line, Each}
 use Rattle.text.specs.Columns.{column, columns, columnsFor, spaces}
-use Rattle.text.specs.Find.{lineAt, lineTo, firstFrom, isBlank}
+use Rattle.text.specs.Find.{lineAt, lineTo, firstFrom}
 use Rattle.text.specs.First.{each-as, first-within}
-use Rattle.text.specs.Agree.{blank-is}
 use Rattle.text.specs.declared.LineAt.{LineAt}
 use Rattle.text.specs.declared.Found.{Found}
-use Rattle.rules.specs.Forms.{DataHeader, RecordEnd, ValueLine, BlankLine}
-use Rattle.judge_line.specs.Judge.{begins, isClose}
-use Rattle.judge_line.specs.AgreeItem.{close-is}
-use Rattle.judge_line.specs.AgreeText.{none-of}
+use Rattle.rules.specs.Forms.{DataHeader, RecordEnd}
+use Rattle.judge_line.specs.Judge.{isClose}
+use Rattle.judge_line.specs.AgreeItem.{close-is, not-close}
 
 -- ---- Whole lines
 
@@ -72,10 +70,6 @@ pub data HeaderOrEnd (l : Line) : Type 0 where
   header : (name : Bytes) → DataHeader l name → HeaderOrEnd l
   record-end : RecordEnd l → HeaderOrEnd l
 
-pub header-close : (l name : Bytes) → DataHeader l name → isClose l ≡ false
-unfolding begins
-header-close l name d = rw (d .parts)
-
 header-first : (l name : Bytes) → DataHeader l name → column l 1 ≡ 62
 header-first l name d = rw (d .parts)
 
@@ -88,7 +82,7 @@ end-told l b (HeaderOrEnd.header name d) e h = let z = header-first l name d in 
 end-told l b (HeaderOrEnd.record-end r) e h = sym (close-is l r)
 
 pub header-told : (l : Line) (b : ℕ) → HeaderOrEnd l → b ≡ column l 1 → (b ≡ 36 → ⊥) → false ≡ isClose l
-header-told l b (HeaderOrEnd.header name d) e h = sym (header-close l name d)
+header-told l b (HeaderOrEnd.header name d) e h = sym (not-close l name d)
 header-told l b (HeaderOrEnd.record-end r) e h = absurd (h (e ∙ end-first l r))
 
 -- ---- The name of a data header
@@ -177,11 +171,3 @@ module _ (l : Line) (g : Header l) where
           inside = omega (arith, w .0, w .1, length-drop (o + 1) l);
           is = subst (DataHeader l) (sym same) (g .is);
         }
-
--- ---- A value line or the blank line after the values
-
-pub value-told : (l : Line) → ValueLine l → isBlank l ≡ false
-value-told l v = none-of (isBlank l) (blank-is l .0) (v .not-blank)
-
-pub blank-told : (l : Line) → BlankLine l → isBlank l ≡ true
-blank-told l b = blank-is l .1 (b .blank)

@@ -31,7 +31,7 @@ use Rattle.line_fields.specs.declared.SignedField.{SignedField}
 use Rattle.line_property.specs.Listed.{places, base, slot, noted, enter, seenOf}
 use Rattle.line_property.specs.Answer.{kindIs, plainAt, notedAt, placeAt, enteredAt, enteredFrom, enteredGot, propertyRead, restRead}
 use Rattle.line_property.specs.Kept.{Kept, KeptBy}
-use Rattle.line_property.specs.Seen.{then-same, entries-same, slot-small, listed-elem, seen-set, noted-some}
+use Rattle.line_property.specs.Seen.{then-same, entries-same, slot-small, listed-elem, seen-set, entry-some}
 use Rattle.line_property.specs.declared.Kind.{Kind}
 use Rattle.line_property.specs.declared.Entered.{Entered}
 use Rattle.line_property.specs.declared.PropertyRead.{PropertyRead}
@@ -126,7 +126,7 @@ module _ (n : ℕ) (kind : R.Kind) (l : Line) (most : n ≤ limit) where
       (ap (λ (x : Got (List ℕ)). need (eqb (getD t (slot kind atom) 0) 0) 14 (i + 1) (need (eqb (column l (i + 4)) 32) 15 (i + 4) x))
       (then-same (entryNumberAt l (i + 5) (i + 7) kind) _ _ λ z f.
       rw (entries-same n kind l (i + 8) k (atom ∷ seenOf n t kind) (seenOf n (set t (slot kind atom) (noted z)) kind)
-      (seen-set n kind t atom (noted z) most size (is .high) (noted-some l (i + 5) (i + 7) kind z f)))))))
+      (seen-set n kind t atom (noted z) most size (is .high) (entry-some l (i + 5) (i + 7) kind z f)))))))
 
   module _ (t₀ : List ℕ) (count : ℕ) (t : List ℕ) (i left : ℕ) (at : Entering n kind l t₀ count t i left) where
     one : 0 < left → enteredFrom n kind l 10 count t₀ ≡ then (enteredAt n kind l i t) (λ t'. enteredFrom n kind l (i + 8) (left - 1) t')

@@ -113,15 +113,15 @@ seen-set n kind t atom v most size within some a low high = go (eqb a atom) refl
 
 -- ---- a number of an entry is kept as one that is not 0
 
-between-some : (z : ℤ) → Between 15 15 z → 1 ≤ noted z
-between-some (pos k) h = omega arith
-between-some (negsuc k) h = omega arith
+pub noted-some : (above : ℕ) (z : ℤ) → Between 15 above z → 1 ≤ noted z
+noted-some above (pos k) h = omega arith
+noted-some above (negsuc k) h = omega arith
 
 plain-some : (x : Got ℕ) (z : ℤ) → then x (λ k. got (pos k)) ≡ got z → 1 ≤ noted z
 plain-some x z h = let f = then-got x (λ (k : ℕ). got (pos k)) z h in rw (sym (got-inj (f .2))) (omega arith)
 
-pub noted-some : (l : Line) (i j : ℕ) (kind : Kind) (z : ℤ) → entryNumberAt l i j kind ≡ got z → 1 ≤ noted z
+pub entry-some : (l : Line) (i j : ℕ) (kind : Kind) (z : ℤ) → entryNumberAt l i j kind ≡ got z → 1 ≤ noted z
 unfolding entryNumberAt
-noted-some l i j CHG z h = between-some z (signed-got l i j 15 15 z h .range)
-noted-some l i j RAD z h = plain-some (numberAt l i j 0 3) z h
-noted-some l i j ISO z h = plain-some (numberAt l i j 1 999) z h
+entry-some l i j CHG z h = noted-some 15 z (signed-got l i j 15 15 z h .range)
+entry-some l i j RAD z h = plain-some (numberAt l i j 0 3) z h
+entry-some l i j ISO z h = plain-some (numberAt l i j 1 999) z h

@@ -8,14 +8,13 @@ use mathlib.Core.Bool.{Bool, true, false, cond, not}
 use lib.Dec.{eqb}
 use lib.ListN.{length, getD, set, length-set}
 use lib.Seq.{getD-set-same, getD-set-other}
-use lib.IntN.{ℤ, pos, negsuc}
 use borrow.Author.Tests.{eq-eqb, ne-eqb, eqb-true, eqb-false}
 use Rattle.text.specs.Text.{Line}
 use Rattle.text.specs.Columns.{Within}
-use Rattle.field_numbers.specs.Number.{Between}
+use Rattle.text.specs.Laws.{true-false, false-true, never-both}
 use Rattle.rules.specs.Forms.{Kind, CHG, RAD, ISO, sameKind, Entry, Property}
 use Rattle.rules.specs.Record.{listed, limit}
-use Rattle.rules.specs.Entries.{listed-append}
+use Rattle.rules.specs.Entries.{listed-append, atomsOf, kinds-same}
 use Rattle.judge_line.specs.Got.{got}
 use Rattle.judge_line.specs.Field.{elem}
 use Rattle.judge_line.specs.Judge.{propertyOf, property}
@@ -23,14 +22,7 @@ use Rattle.judge_line.specs.Agree.{NewEntries, property-agrees}
 use Rattle.line_property.specs.Listed.{places, slot, noted, enter, emptied, seenOf, notedIn, Shows}
 use Rattle.line_property.specs.Emptied.{emptied-size, emptied-at}
 use Rattle.line_property.specs.Proper.{ProperEntries, ProperLine, Proper, proper-more, listed-proper, line-proper}
-use Rattle.line_property.specs.Seen.{SameSeen, property-same, slot-small, slot-apart, listed-elem}
-
--- the atoms of these entries
-abbrev pub atomsOf : List Entry → List ℕ
-atomsOf es = map (λ e. e .atom) es
-
-true-false : {X : Type 0} {b : Bool} → b ≡ true → b ≡ false → X
-true-false h k = absurd (let z : _≡_ {A = ℕ} 0 1 = cc in omega arith)
+use Rattle.line_property.specs.Seen.{SameSeen, property-same, slot-small, slot-apart, listed-elem, noted-some}
 
 -- ---- no line yet
 
@@ -39,10 +31,6 @@ unfolding notedIn listed
 shows-none n t h = record { size = emptied-size (n + 1) t ∙ h; each = λ kind atom k. emptied-at (n + 1) t kind atom (omega arith) }
 
 -- ---- what entries keep for an atom
-
-pub noted-some : (z : ℤ) → Between 15 999 z → 1 ≤ noted z
-noted-some (pos k) h = omega arith
-noted-some (negsuc k) h = omega arith
 
 -- an atom is among the entries where what they keep for it is not 0
 noted-elem : (n a : ℕ) (es : List Entry) → ProperEntries n es → elem a (atomsOf es) ≡ not (eqb (notedIn es a) 0)
@@ -53,7 +41,7 @@ noted-elem n a (e ∷ es) h = go (eqb a (e .atom)) refl (noted-elem n a es (h .1
     go : (t : Bool) → eqb a (e .atom) ≡ t → elem a (atomsOf es) ≡ not (eqb (notedIn es a) 0) →
         cond t true (elem a (atomsOf es)) ≡ not (eqb (cond (eqb (e .atom) a) (noted (e .number)) (notedIn es a)) 0)
     go true q r =
-        rw (eq-eqb (e .atom) a (sym (eqb-true a (e .atom) q)), ne-eqb (noted (e .number)) 0 (λ (z : noted (e .number) ≡ 0). omega (arith, noted-some (e .number) (h .0 .range))))
+        rw (eq-eqb (e .atom) a (sym (eqb-true a (e .atom) q)), ne-eqb (noted (e .number)) 0 (λ (z : noted (e .number) ≡ 0). omega (arith, noted-some 999 (e .number) (h .0 .range))))
     go false q r = rw (ne-eqb (e .atom) a (λ z. eqb-false a (e .atom) q (sym z))) r
 
 noted-none : (a : ℕ) (es : List Entry) → elem a (atomsOf es) ≡ false → notedIn es a ≡ 0
@@ -63,7 +51,7 @@ noted-none a (e ∷ es) h = go (eqb a (e .atom)) refl h (noted-none a es)
   where
     go : (t : Bool) → eqb a (e .atom) ≡ t → cond t true (elem a (atomsOf es)) ≡ false → (elem a (atomsOf es) ≡ false → notedIn es a ≡ 0) →
         cond (eqb (e .atom) a) (noted (e .number)) (notedIn es a) ≡ 0
-    go true q k r = true-false refl k
+    go true q k r = true-false k
     go false q k r = rw (ne-eqb (e .atom) a (λ z. eqb-false a (e .atom) q (sym z))) (r k)
 
 noted-both : (a : ℕ) (xs es : List Entry) → notedIn (xs ++ es) a ≡ cond (elem a (atomsOf xs)) (notedIn xs a) (notedIn es a)
@@ -84,12 +72,12 @@ new-apart a seen [] h s = refl
 new-apart a seen (e ∷ es) h s = go (eqb a (e .atom)) refl (new-apart a (e .atom ∷ seen) es (h .1))
   where
     go : (t : Bool) → eqb a (e .atom) ≡ t → (cond (eqb a (e .atom)) true (elem a seen) ≡ true → elem a (atomsOf es) ≡ false) → cond t true (elem a (atomsOf es)) ≡ false
-    go true q r = true-false s (rw (eqb-true a (e .atom) q) (h .0))
+    go true q r = never-both (elem a seen) s (rw (eqb-true a (e .atom) q) (h .0))
     go false q r = r (rw q s)
 
 proper-low : (n a : ℕ) (es : List Entry) → ProperEntries n es → elem a (atomsOf es) ≡ true → 1 ≤ a
 unfolding ProperEntries elem
-proper-low n a [] h s = true-false s refl
+proper-low n a [] h s = false-true s
 proper-low n a (e ∷ es) h s = go (eqb a (e .atom)) refl s (proper-low n a es (h .1))
   where
     go : (t : Bool) → eqb a (e .atom) ≡ t → cond t true (elem a (atomsOf es)) ≡ true → (elem a (atomsOf es) ≡ true → 1 ≤ a) → 1 ≤ a
@@ -116,28 +104,17 @@ unfolding enter
 enter-length kind t [] = refl
 enter-length kind t (e ∷ es) = enter-length kind (set t (slot kind (e .atom)) (noted (e .number))) es ∙ length-set t (slot kind (e .atom)) (noted (e .number))
 
-kinds-same : (j k : Kind) → sameKind j k ≡ true → j ≡ k
-kinds-same CHG CHG h = refl
-kinds-same CHG RAD h = true-false h refl
-kinds-same CHG ISO h = true-false h refl
-kinds-same RAD CHG h = true-false h refl
-kinds-same RAD RAD h = refl
-kinds-same RAD ISO h = true-false h refl
-kinds-same ISO CHG h = true-false h refl
-kinds-same ISO RAD h = true-false h refl
-kinds-same ISO ISO h = refl
-
 -- places of two kinds
 kinds-apart : (j k : Kind) (a b : ℕ) → sameKind j k ≡ false → a ≤ limit → b ≤ limit → slot j a ≢ slot k b
-kinds-apart CHG CHG a b h p q e = true-false refl h
+kinds-apart CHG CHG a b h p q e = true-false h
 kinds-apart CHG RAD a b h p q e = omega arith
 kinds-apart CHG ISO a b h p q e = omega arith
 kinds-apart RAD CHG a b h p q e = omega arith
-kinds-apart RAD RAD a b h p q e = true-false refl h
+kinds-apart RAD RAD a b h p q e = true-false h
 kinds-apart RAD ISO a b h p q e = omega arith
 kinds-apart ISO CHG a b h p q e = omega arith
 kinds-apart ISO RAD a b h p q e = omega arith
-kinds-apart ISO ISO a b h p q e = true-false refl h
+kinds-apart ISO ISO a b h p q e = true-false h
 
 module _ (n a : ℕ) (most : n ≤ limit) (high : a ≤ n) where
   enter-other : (j k : Kind) → sameKind j k ≡ false → (t : List ℕ) (es : List Entry) → ProperEntries n es → getD (enter k t es) (slot j a) 0 ≡ getD t (slot j a) 0
@@ -178,7 +155,7 @@ module _ (n a : ℕ) (most : n ≤ limit) (high : a ≤ n) where
       enter-at kind (seenOf n t kind) t es size h new ∙ rw shown (go (elem a (atomsOf es)) refl (elem a (atomsOf xs)) refl) ∙ sym (noted-both a xs es)
     where
       go : (b : Bool) → elem a (atomsOf es) ≡ b → (d : Bool) → elem a (atomsOf xs) ≡ d → cond b (notedIn es a) (notedIn xs a) ≡ cond d (notedIn xs a) (notedIn es a)
-      go true q true r = true-false q (new-apart a (seenOf n t kind) es new (seen (proper-low n a es h q) ∙ r))
+      go true q true r = never-both (elem a (atomsOf es)) q (new-apart a (seenOf n t kind) es new (seen (proper-low n a es h q) ∙ r))
       go true q false r = refl
       go false q true r = refl
       go false q false r = noted-none a xs r ∙ sym (noted-none a es q)

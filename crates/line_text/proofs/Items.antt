@@ -8,7 +8,7 @@ use mathlib.Core.Bool.{Bool, true, false, cond}
 use lib.Dec.{eqb, leb}
 use lib.ListN.{length, take, drop, length-drop}
 use borrow.Author.Tests.{eq-eqb, ne-eqb, le-leb, lt-leb}
-use Rattle.text.specs.Text.{Bytes, Line, bytes, byte}
+use Rattle.text.specs.Text.{Bytes, Line, bytes}
 use Rattle.text.specs.Columns.{column}
 use Rattle.text.specs.Find.{firstFrom, isInk, inkColumn, isBlank}
 use Rattle.text.specs.First.{first-within}
@@ -16,13 +16,12 @@ use Rattle.text.specs.declared.Found.{Found}
 use Rattle.text.specs.declared.Found.the-variants.{At, Nothing}
 use Rattle.field_numbers.specs.Read.{afterSpaces}
 use Rattle.judge_line.specs.Got.{Got, got, bad}
-use Rattle.judge_line.specs.Judge.{HeaderRead, none, begins, blankb, opened, spaced, arrowed, headerOf, ItemOrEnd, title, close, titleGot, isClose, itemOf, ValueOrBlank, value, blank, notHeader, valueOf}
+use Rattle.judge_line.specs.Judge.{HeaderRead, none, begins, opened, spaced, arrowed, headerOf, ItemOrEnd, title, close, titleGot, isClose, itemOf, ValueOrBlank, value, blank, notHeader, valueOf}
 use Rattle.judge_line.specs.AgreeText.{begins-got}
 use Rattle.line_text.specs.Answer.{nameGot, nameIn, itemIn}
 use Rattle.line_text.specs.declared.NameRead.{NameRead}
 use Rattle.line_text.specs.declared.ItemRead.{ItemRead}
 use Rattle.line_text.proofs.Names.{unnamed-in}
-use Rattle.line_text.proofs.Tags.{blank-got}
 
 -- ---- spaces before `<`
 
@@ -133,7 +132,7 @@ module _ (l : Line) (r : Bool) (e : r ≡ begins (bytes "$$$$") l) where
   pub close-within : r ≡ true → 4 ≤ length l
   close-within t = begins-short l (sym e ∙ t)
 
-  pub close-rest : (s : Bool) → r ≡ true → s ≡ blankb (drop 4 l) → s ≡ isClose l
+  pub close-rest : (s : Bool) → r ≡ true → s ≡ isBlank (drop 4 l) → s ≡ isClose l
   close-rest s t f = f ∙ sym (rw (sym e ∙ t))
 
   pub close-other : r ≡ false → false ≡ isClose l
@@ -183,8 +182,8 @@ pub ruleset item-laws = (item-close, item-other, close-in)
 -- ---- a value line, or a blank line
 
 -- by the first byte
-not-blank : (l : Line) → (column l 1 ≡ 32 → ⊥) → blankb l ≡ false
-unfolding blankb
+not-blank : (l : Line) → (column l 1 ≡ 32 → ⊥) → isBlank l ≡ false
+unfolding isBlank
 not-blank [] n = absurd (n refl)
 not-blank (b ∷ l) n = rw (ne-eqb b 32 n)
 
@@ -212,12 +211,12 @@ module _ (l : Line) (b : ℕ) (e : b ≡ column l 1) where
 
   pub value-blank : (r : Bool) → r ≡ isBlank l → r ≡ true → got blank ≡ valueOf l
   unfolding valueOf
-  value-blank r f t = sym (rw (sym (blank-got l r f) ∙ t))
+  value-blank r f t = sym (rw (sym f ∙ t))
 
   pub value-space : (r : Bool) → b ≡ 32 → r ≡ isBlank l → r ≡ false → got value ≡ valueOf l
   unfolding valueOf
   value-space r p f t =
-      sym (rw (sym (blank-got l r f) ∙ t, not-dollar l (differs 32 36 p (λ q. omega arith)), no-arrow l (differs 32 62 p (λ q. omega arith))))
+      sym (rw (sym f ∙ t, not-dollar l (differs 32 36 p (λ q. omega arith)), no-arrow l (differs 32 62 p (λ q. omega arith))))
 
   pub value-plain : (b ≡ 62 → ⊥) → (b ≡ 36 → ⊥) → (b ≡ 32 → ⊥) → got value ≡ valueOf l
   unfolding valueOf

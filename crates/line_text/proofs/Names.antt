@@ -9,7 +9,8 @@ use lib.ListN.{length, getD, take, drop, length-drop, drop-of-length-le}
 use lib.Seq.{drop-cons, take-suc, getD-drop, length-take-le}
 use borrow.Author.Tests.{eq-eqb, ne-eqb, le-leb, lt-leb}
 use Rattle.text.specs.Text.{Line}
-use Rattle.judge_line.specs.Judge.{HeaderRead, named, none, blankb, nameOn, opened}
+use Rattle.text.specs.Find.{isBlank}
+use Rattle.judge_line.specs.Judge.{HeaderRead, named, none, nameOn, opened}
 use Rattle.line_text.specs.Parts.{nameEnds}
 use Rattle.line_text.specs.Answer.{nameIn}
 use Rattle.line_text.specs.declared.NameRead.{NameRead}
@@ -29,12 +30,12 @@ module _ (l : Line) (from to : ℕ) where
     unfolding nameEnds
     name-long j k = sym (rw (name-length h g, le-leb 1 (to - from) j, lt-leb (to - from) 30 k))
 
-    pub name-good : (r : Bool) → 1 ≤ to - from → to - from ≤ 30 → r ≡ blankb (drop (to + 1) l) → r ≡ true →
+    pub name-good : (r : Bool) → 1 ≤ to - from → to - from ≤ 30 → r ≡ isBlank (drop (to + 1) l) → r ≡ true →
         named (take (to - from) (drop from l)) ≡ nameEnds (take (to - from) (drop from l)) (drop (to + 1) l)
     unfolding nameEnds
     name-good r j k e t = sym (rw (name-length h g, le-leb 1 (to - from) j, le-leb (to - from) 30 k, sym e ∙ t))
 
-    pub name-followed : (r : Bool) → 1 ≤ to - from → to - from ≤ 30 → r ≡ blankb (drop (to + 1) l) → r ≡ false →
+    pub name-followed : (r : Bool) → 1 ≤ to - from → to - from ≤ 30 → r ≡ isBlank (drop (to + 1) l) → r ≡ false →
         none ≡ nameEnds (take (to - from) (drop from l)) (drop (to + 1) l)
     unfolding nameEnds
     name-followed r j k e t = sym (rw (name-length h g, le-leb 1 (to - from) j, le-leb (to - from) 30 k, sym e ∙ t))

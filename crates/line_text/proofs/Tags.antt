@@ -1,32 +1,23 @@
 -- Laws on tags: a line that begins with one, and a line that contains one.
 use Prim.Native.Nat.{ℕ, suc, _+_, _-_, _≤_, _<_}
 use native.Mathlib.Numerals.{add-one}
-use native.Mathlib.Omega.{arith}
 use mathlib.Core.Path.{_≡_, refl, sym, ap, _∙_}
 use mathlib.Core.List.{[], _∷_}
-use mathlib.Core.Bool.{Bool, true, false, _&&_, _||_, not}
+use mathlib.Core.Bool.{Bool, true, false, _&&_, _||_, not, or-true}
 use lib.Dec.{eqb}
-use lib.ListN.{length, getD, take, drop, length-drop, drop-of-length-le}
-use lib.Seq.{drop-cons, take-all}
-use borrow.Author.Tests.{eqb-true, eqb-false, eq-eqb, ne-eqb, not-true}
+use lib.ListN.{length, getD, take, drop, drop-of-length-le}
+use lib.Seq.{drop-cons}
+use borrow.Author.Tests.{ne-eqb, not-true}
 use Rattle.text.specs.Text.{Bytes, Line, bytes}
 use Rattle.text.specs.Columns.{columnsFor}
 use Rattle.text.specs.Find.{sameBytes, hasText, isBlank}
 use Rattle.text.specs.Agree.{columns-after}
-use Rattle.text.specs.Laws.{and-true}
+use Rattle.text.specs.Laws.{and-true, eqb-turn, tail-is, true-false, false-true}
 use Rattle.judge_line.specs.Got.{got, bad, need}
-use Rattle.judge_line.specs.Judge.{begins, contains, reserved, firstHeaderOf, blankb}
-use Rattle.judge_line.specs.AgreeText.{true-false}
+use Rattle.judge_line.specs.Judge.{begins, contains, reserved, firstHeaderOf}
 use Rattle.line_text.specs.Parts.{spaceless, tagged}
 
 -- ---- the text at the start of a line
-
-eqb-turn : (a b : ℕ) → eqb a b ≡ eqb b a
-eqb-turn a b = go (eqb a b) refl
-  where
-    go : (t : Bool) → eqb a b ≡ t → t ≡ eqb b a
-    go true e = sym (eq-eqb b a (sym (eqb-true a b e)))
-    go false e = sym (ne-eqb b a (λ q. eqb-false a b e (sym q)))
 
 -- a text without spaces: columns past the end, which read as spaces, are none of it
 pub has-begins : (t l : Bytes) → spaceless t ≡ true → hasText l 1 t ≡ begins t l
@@ -44,25 +35,10 @@ begins-got t l r s e = e ∙ has-begins t l s
 
 -- ---- the rest of a line, from a position on
 
-pub tail-is : (l : Line) (i : ℕ) → take (length l - i) (drop i l) ≡ drop i l
-tail-is l i = take-all (length l - i) (drop i l) (omega (arith, length-drop i l))
-
-blank-same : (l : Line) → isBlank l ≡ blankb l
-unfolding isBlank blankb
-blank-same [] = refl
-blank-same (b ∷ l) = ap (λ (x : Bool). eqb b 32 && x) (blank-same l)
-
-pub blank-got : (l : Line) (r : Bool) → r ≡ isBlank l → r ≡ blankb l
-blank-got l r e = e ∙ blank-same l
-
-pub blank-tail : (l : Line) (i : ℕ) (r : Bool) → r ≡ isBlank (take (length l - i) (drop i l)) → r ≡ blankb (drop i l)
-blank-tail l i r e = e ∙ (ap isBlank (tail-is l i) ∙ blank-same (drop i l))
+pub blank-tail : (l : Line) (i : ℕ) (r : Bool) → r ≡ isBlank (take (length l - i) (drop i l)) → r ≡ isBlank (drop i l)
+blank-tail l i r e = e ∙ ap isBlank (tail-is l i)
 
 -- ---- one of the reserved tags at the start
-
-or-true : (a : Bool) → (a || true) ≡ true
-or-true true = refl
-or-true false = refl
 
 module _ (l : Line) where
   pub tagged-first : (a : Bool) → a ≡ begins (bytes "$$$$") l → a ≡ true → true ≡ tagged l
@@ -96,10 +72,10 @@ pub ruleset tagged-laws = (tagged-first, tagged-second, tagged-third, tagged-las
 -- ---- a reserved tag anywhere
 
 any-pass : (a b c d w x y z : Bool) → (a || (b || (c || d))) ≡ false → ((a || w) || ((b || x) || ((c || y) || (d || z)))) ≡ (w || (x || (y || z)))
-any-pass true b c d w x y z h = true-false true refl h
-any-pass false true c d w x y z h = true-false true refl h
-any-pass false false true d w x y z h = true-false true refl h
-any-pass false false false true w x y z h = true-false true refl h
+any-pass true b c d w x y z h = true-false h
+any-pass false true c d w x y z h = true-false h
+any-pass false false true d w x y z h = true-false h
+any-pass false false false true w x y z h = true-false h
 any-pass false false false false w x y z h = refl
 
 any-hit : (a b c d w x y z : Bool) → (a || (b || (c || d))) ≡ true → ((a || w) || ((b || x) || ((c || y) || (d || z)))) ≡ true
@@ -107,7 +83,7 @@ any-hit true b c d w x y z h = refl
 any-hit false true c d w x y z h = or-true w
 any-hit false false true d w x y z h = rw (or-true x) (or-true w)
 any-hit false false false true w x y z h = rw (or-true y, or-true x) (or-true w)
-any-hit false false false false w x y z h = true-false false h refl
+any-hit false false false false w x y z h = false-true h
 
 -- none of the tags starts before position i
 unfoldable pub Untagged : Line → ℕ → Type 0

@@ -4,7 +4,8 @@ use mathlib.Core.Bool.{Bool, true, false, cond, _&&_, _||_, not}
 use lib.Dec.{eqb, leb}
 use lib.ListN.{length}
 use Rattle.text.specs.Text.{Bytes, Line, bytes, byte}
-use Rattle.judge_line.specs.Judge.{HeaderRead, named, none, begins, blankb}
+use Rattle.text.specs.Find.{isBlank}
+use Rattle.judge_line.specs.Judge.{HeaderRead, named, none, begins}
 
 -- no byte is a space
 abbrev pub spaceless : Bytes → Bool
@@ -17,4 +18,4 @@ tagged l = begins (bytes "$$$$") l || (begins (bytes "$MDL") l || (begins (bytes
 
 -- the name, where `>` follows it, and then these bytes
 unfoldable pub nameEnds : Bytes → Bytes → HeaderRead
-nameEnds name bs = cond (leb 1 (length name) && (leb (length name) 30 && blankb bs)) (named name) none
+nameEnds name bs = cond (leb 1 (length name) && (leb (length name) 30 && isBlank bs)) (named name) none

@@ -6,8 +6,9 @@ ghost use mathlib.Core.List.{[]};
 ghost use Prim.Native.Nat.{_+_, _-_, _≤_, _<_};
 ghost use lib.ListN.{length, take, drop};
 ghost use Rattle.text.specs.Text.{bytes};
+ghost use Rattle.text.specs.Find.{isBlank};
 ghost use Rattle.field_numbers.specs.Read.{afterSpaces};
-ghost use Rattle.judge_line.specs.Judge.{begins, firstHeaderOf, isClose, blankb, nameOn, opened, headerOf, titleGot, itemOf, notHeader, valueOf};
+ghost use Rattle.judge_line.specs.Judge.{begins, firstHeaderOf, isClose, nameOn, opened, headerOf, titleGot, itemOf, notHeader, valueOf};
 ghost use Rattle.line_text.specs.Answer.{headerGot, nameGot, nameIn, itemGot, itemIn, valueGot};
 ghost use Rattle.line_text.specs.Parts.{spaceless, tagged, nameEnds};
 
@@ -48,7 +49,7 @@ fn begins_with(line: &[u8], tag: &[u8]) -> bool
 // Whether there are only spaces from position `at` on.
 fn blank_from(line: &[u8], at: usize) -> bool
     requires { ⌜ at ≤ length (now line) ⌝ }
-    ensures { λ r. ⌜ r ≡ blankb (drop at (now (line .entry))) ⌝ }
+    ensures { λ r. ⌜ r ≡ isBlank (drop at (now (line .entry))) ⌝ }
 {
     text::is_blank(&line[at..])
 }

@@ -8,11 +8,12 @@ use lib.Dec.{eqb, leb, ltb}
 use lib.ListN.{length, getD}
 use lib.IntN.{ℤ}
 use borrow.Author.Tests.{le-leb, lt-leb, eq-eqb, ne-eqb, eqb-true, ltb-true, ltb-false}
-use Rattle.text.specs.Text.{Bytes, Line, bytes}
+use Rattle.text.specs.Text.{Bytes, Line, bytes, Each}
 use Rattle.text.specs.Columns.{column, columns, columnsFor}
+use Rattle.text.specs.Laws.{false-true}
 use Rattle.field_numbers.specs.Number.{Digit, decimalAfter}
 use Rattle.field_numbers.specs.Read.{allDigits, afterSpaces, signed}
-use Rattle.field_numbers.specs.Agree.{digit-not}
+use Rattle.field_numbers.specs.Agree.{each-digit, digit-not}
 use Rattle.field_coordinates.specs.declared.CoordinateRead.{CoordinateRead}
 use Rattle.field_coordinates.specs.Read.{coordinateIn, inked, beforePoint, pointRead}
 use Rattle.line_usual_position.specs.declared.Position.{Position}
@@ -68,19 +69,6 @@ Said l Usual.Other = Unit {0}
 
 -- ---- It is read so
 
-one-digit : (u : ℕ) → Digit u → allDigits (u ∷ []) ≡ true
-unfolding allDigits
-one-digit u p = rw (le-leb 48 u (p .0), le-leb u 57 (p .1))
-
-two-digits : (b u : ℕ) → Digit b → Digit u → allDigits (b ∷ u ∷ []) ≡ true
-unfolding allDigits
-two-digits b u p q = rw (le-leb 48 b (p .0), le-leb b 57 (p .1), le-leb 48 u (q .0), le-leb u 57 (q .1))
-
-four-digits : (d e f g : ℕ) → Digit d → Digit e → Digit f → Digit g → allDigits (d ∷ e ∷ f ∷ g ∷ []) ≡ true
-unfolding allDigits
-four-digits d e f g p q r s =
-    rw (le-leb 48 d (p .0), le-leb d 57 (p .1), le-leb 48 e (q .0), le-leb e 57 (q .1), le-leb 48 f (r .0), le-leb f 57 (r .1), le-leb 48 g (s .0), le-leb g 57 (s .1))
-
 module _ (u d e f g : ℕ) (pu : Digit u) (pd : Digit d) (pe : Digit e) (pf : Digit f) (pg : Digit g) where
   -- with what stands before the units
   abbrev Reads : ℕ → ℕ → Type 0
@@ -88,27 +76,37 @@ module _ (u d e f g : ℕ) (pu : Digit u) (pd : Digit d) (pe : Digit e) (pf : Di
       coordinateIn (32 ∷ 32 ∷ a ∷ b ∷ u ∷ 46 ∷ d ∷ e ∷ f ∷ g ∷ [])
       ≡ CoordinateRead.Is (signed (minusOf a b) ((tensOf b * 10 + (u - 48)) * 10000 + decimalAfter 0 (d ∷ e ∷ f ∷ g ∷ [])))
 
+  unit : allDigits (u ∷ []) ≡ true
+  unfolding Each
+  unit = each-digit (u ∷ []) (pu, tt)
+
+  decimals : allDigits (d ∷ e ∷ f ∷ g ∷ []) ≡ true
+  unfolding Each
+  decimals = each-digit (d ∷ e ∷ f ∷ g ∷ []) (pd, (pe, (pf, (pg, tt))))
+
   read-none : Reads 32 32
   unfolding coordinateIn inked beforePoint pointRead afterSpaces decimalAfter
-  read-none = rw (digit-not u 32 (omega arith) pu, digit-not u 45 (omega arith) pu, one-digit u pu, four-digits d e f g pd pe pf pg)
+  read-none = rw (digit-not u 32 (omega arith) pu, digit-not u 45 (omega arith) pu, unit, decimals)
 
   read-sign : Reads 32 45
   unfolding coordinateIn inked beforePoint pointRead afterSpaces decimalAfter
-  read-sign = rw (one-digit u pu, four-digits d e f g pd pe pf pg)
+  read-sign = rw (unit, decimals)
 
   module _ (b : ℕ) (pb : Digit b) where
+    both : allDigits (b ∷ u ∷ []) ≡ true
+    unfolding Each
+    both = each-digit (b ∷ u ∷ []) (pb, (pu, tt))
+
     two-are : (0 * 10 + (b - 48)) * 10 + (u - 48) ≡ (b - 48) * 10 + (u - 48)
     two-are = omega arith
 
     read-tens : Reads 32 b
     unfolding coordinateIn inked beforePoint pointRead afterSpaces decimalAfter
-    read-tens =
-        rw (digit-not b 32 (omega arith) pb, digit-not b 45 (omega arith) pb, two-digits b u pb pu, four-digits d e f g pd pe pf pg, le-leb 48 b (pb .0), two-are)
+    read-tens = rw (digit-not b 32 (omega arith) pb, digit-not b 45 (omega arith) pb, both, decimals, le-leb 48 b (pb .0), two-are)
 
     read-sign-tens : Reads 45 b
     unfolding coordinateIn inked beforePoint pointRead afterSpaces decimalAfter
-    read-sign-tens =
-        rw (digit-not b 45 (omega arith) pb, two-digits b u pb pu, four-digits d e f g pd pe pf pg, le-leb 48 b (pb .0), two-are)
+    read-sign-tens = rw (digit-not b 45 (omega arith) pb, both, decimals, le-leb 48 b (pb .0), two-are)
 
   read-lead : (a b : ℕ) → Lead a b → Reads a b
   read-lead a b (Lead.none p q) = rw (p, q) read-none
@@ -160,10 +158,7 @@ module _ (l : Line) (i a b : ℕ) (p : a ≡ column l (i + 2)) (q : b ≡ column
 pub minus-units : (l : Line) (i b : ℕ) → b ≡ column l (i + 3) → b ≡ 45 → true ≡ minusOf (column l (i + 2)) (column l (i + 3))
 minus-units l i b q e = sym (rw (eq-eqb (column l (i + 3)) 45 (sym q ∙ e)))
 
-pub no-lead : {X : Type 0} → false ≡ true → X
-no-lead h = absurd (let z : _≡_ {A = ℕ} 0 1 = cc in omega arith)
-
-pub ruleset lead-laws = (lead-sign-tens, lead-tens, lead-sign, lead-none, no-lead)
+pub ruleset lead-laws = (lead-sign-tens, lead-tens, lead-sign, lead-none, false-true)
 
 lead-most : (a b : ℕ) → Lead a b → b ≤ 57
 lead-most a b (Lead.none p q) = omega (arith, q)
@@ -192,52 +187,29 @@ between-next l low high k b h e p q j i = go (ltb j k) refl
     go true n = h j (ltb-true j k n)
     go false n = let o : j ≡ k = omega (arith, ltb-false j k n) in rw o (omega (arith, e), omega (arith, e))
 
+-- a byte that can be only this one
+only : (x k : ℕ) → (k ≤ x) × (x ≤ k) → x ≡ k
+only x k h = omega (arith, h .0, h .1)
+
+abbrev Only : Line → ℕ → ℕ → Type 0
+Only l i k = (k ≤ column l i) × (column l i ≤ k)
+
+-- the bounds of the ten columns from column i, and the lead
+usual-from : (l : Line) (i : ℕ) → i + 9 ≤ length l → Only l i 32 → Only l (i + 1) 32 → Lead (column l (i + 2)) (column l (i + 3)) → Digit (column l (i + 4)) →
+    Only l (i + 5) 46 → Digit (column l (i + 6)) → Digit (column l (i + 7)) → Digit (column l (i + 8)) → Digit (column l (i + 9)) → UsualAt l i
+usual-from l i n p q lead u o a b c d =
+    record { inside = n; first = only _ _ p; second = only _ _ q; lead = lead; units = u; point = only _ _ o; six = a; seven = b; eight = c; nine = d }
+
 -- the bounds of all thirty columns, and then the leads
 module _ (l : Line) (h : 30 ≤ length l) (b : Between l (bytes "    0.0000    0.0000    0.0000") (bytes "  -99.9999  -99.9999  -99.9999") 30) where
   pub lead-bound : (column l 4 ≤ 57) × (column l 14 ≤ 57) × (column l 24 ≤ 57)
   lead-bound = (b 3 (omega arith) .1, b 13 (omega arith) .1, b 23 (omega arith) .1)
 
-  same : (x k : ℕ) → k ≤ x → x ≤ k → x ≡ k
-  same x k p q = omega arith
-
   pub line-usual : Lead (column l 3) (column l 4) → Lead (column l 13) (column l 14) → Lead (column l 23) (column l 24) → UsualLine l
   line-usual p q r = (
-    record {
-      inside = omega arith;
-      first = same _ _ (b 0 (omega arith) .0) (b 0 (omega arith) .1);
-      second = same _ _ (b 1 (omega arith) .0) (b 1 (omega arith) .1);
-      lead = p;
-      units = b 4 (omega arith);
-      point = same _ _ (b 5 (omega arith) .0) (b 5 (omega arith) .1);
-      six = b 6 (omega arith);
-      seven = b 7 (omega arith);
-      eight = b 8 (omega arith);
-      nine = b 9 (omega arith);
-    },
-    record {
-      inside = omega arith;
-      first = same _ _ (b 10 (omega arith) .0) (b 10 (omega arith) .1);
-      second = same _ _ (b 11 (omega arith) .0) (b 11 (omega arith) .1);
-      lead = q;
-      units = b 14 (omega arith);
-      point = same _ _ (b 15 (omega arith) .0) (b 15 (omega arith) .1);
-      six = b 16 (omega arith);
-      seven = b 17 (omega arith);
-      eight = b 18 (omega arith);
-      nine = b 19 (omega arith);
-    },
-    record {
-      inside = omega arith;
-      first = same _ _ (b 20 (omega arith) .0) (b 20 (omega arith) .1);
-      second = same _ _ (b 21 (omega arith) .0) (b 21 (omega arith) .1);
-      lead = r;
-      units = b 24 (omega arith);
-      point = same _ _ (b 25 (omega arith) .0) (b 25 (omega arith) .1);
-      six = b 26 (omega arith);
-      seven = b 27 (omega arith);
-      eight = b 28 (omega arith);
-      nine = b 29 (omega arith);
-    },
+    usual-from l 1 (omega arith) (b 0 (omega arith)) (b 1 (omega arith)) p (b 4 (omega arith)) (b 5 (omega arith)) (b 6 (omega arith)) (b 7 (omega arith)) (b 8 (omega arith)) (b 9 (omega arith)),
+    usual-from l 11 (omega arith) (b 10 (omega arith)) (b 11 (omega arith)) q (b 14 (omega arith)) (b 15 (omega arith)) (b 16 (omega arith)) (b 17 (omega arith)) (b 18 (omega arith)) (b 19 (omega arith)),
+    usual-from l 21 (omega arith) (b 20 (omega arith)) (b 21 (omega arith)) r (b 24 (omega arith)) (b 25 (omega arith)) (b 26 (omega arith)) (b 27 (omega arith)) (b 28 (omega arith)) (b 29 (omega arith)),
   )
 
 pub line-said : (l : Line) (x y z : ℤ) → UsualLine l → x ≡ coordinateOf l 1 → y ≡ coordinateOf l 11 → z ≡ coordinateOf l 21 →

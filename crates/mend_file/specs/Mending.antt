@@ -9,9 +9,10 @@ use lib.ListN.{length, take, drop, set, length-append}
 use lib.Seq.{sets, length-sets, length-take-le}
 use lib.ListN.{length-drop}
 use Rattle.text.specs.Text.{Bytes, Line, LF}
+use Rattle.text.specs.Find.{isBlank}
 use Rattle.text.specs.Cut.{ended, split}
+use Rattle.text.specs.Laws.{false-true, sets-append}
 use Rattle.rules.specs.Record.{Raw, limit}
-use Rattle.judge_line.specs.Judge.{blankb}
 use Rattle.line_property.specs.Listed.{places}
 use Rattle.judge_file.specs.Place.{sdfile}
 use Rattle.judge_file.specs.Place as J
@@ -37,7 +38,7 @@ use Rattle.mend_lines.specs.declared.Deed.{Deed}
 use Rattle.mend_lines.specs.declared.Deed.the-variants as D
 use Rattle.mend_lines.specs.Deeds.{PieceAt, blankFrom, deedAt, Tailed, Means, means}
 use Rattle.mend_out.specs.declared.Mender.{Mender}
-use Rattle.mend_out.specs.Out.{begun, droppedBy, putBy, keptBy, CanNote, CanPut, CanKeep, late, lineFeed, Kept, sets-append}
+use Rattle.mend_out.specs.Out.{begun, droppedBy, putBy, keptBy, CanNote, CanPut, CanKeep, late, lineFeed, Kept}
 use Rattle.mend_file.specs.declared.Mended.{Mended}
 use Rattle.mend_file.specs.Walked.{Walked, startsAt, endOf}
 
@@ -59,9 +60,6 @@ pub record Mending (s : Bytes) (room₀ list₀ : List ℕ) (j : Judge) (m : Men
   pub inside : m .at ≤ length s
   pub lines : m .line ≤ m .at + 1
   pub bytes : length s * 1 < 2 ^ 63
-
-no-tail : {X : Type 0} → false ≡ true → X
-no-tail h = absurd (let z : _≡_ {A = ℕ} 0 1 = cc in omega arith)
 
 pub mending-start : (s : Bytes) (room list t keys : List ℕ) (j : Judge) (m : Mender) → length t ≡ 3 * places → length keys ≡ limit → length s * 1 < 2 ^ 63 →
     j ≡ fresh false → m ≡ begun → Mending s room list j m false room list t keys
@@ -87,7 +85,7 @@ mending-start s room list t keys j m rt rk few e f =
       repairs-is = refl;
       room-is = refl;
       list-is = refl;
-      tail-is = λ h. no-tail h;
+      tail-is = λ h. false-true h;
       inside = omega arith;
       lines = omega arith;
       bytes = few;
@@ -175,7 +173,7 @@ module _ (s : Bytes) (room₀ list₀ : List ℕ) (j : Judge) (m : Mender) (tail
       unfolding blankFrom allBlank
       still-tailed f =
           let w = g .tail-is f in
-          record { start = w .start; before = w .before; blanks = and-eq-true-iff (blankb l) (allBlank ls) .0 (sym blank-is ∙ w .blanks) .1 }
+          record { start = w .start; before = w .before; blanks = and-eq-true-iff (isBlank l) (allBlank ls) .0 (sym blank-is ∙ w .blanks) .1 }
 
       pub mending-dropped : (m′ : Mender) (list′ : List ℕ) → m′ ≡ droppedBy m (p .next) → list′ ≡ sets list (2 * (m .repairs)) (m .line ∷ (2 ∷ [])) →
           Mending s room₀ list₀ j m′ tail room list′ t keys
@@ -249,7 +247,7 @@ module _ (s : Bytes) (room₀ list₀ : List ℕ) (j : Judge) (m : Mender) (tail
         at-values (bonds hs c ys k bs) a = absurd (let z : _≡_ {A = ℕ} 0 1 = cc in omega arith)
         at-values (properties hs c ys bs ps) a = absurd (let z : _≡_ {A = ℕ} 0 1 = cc in omega arith)
         at-values (over mol) a = absurd (let z : _≡_ {A = ℕ} 0 1 = cc in omega arith)
-        at-values (items mol is) a = never (blankb l) lose (λ z. absurd (let z : _≡_ {A = ℕ} 0 1 = cc in omega arith)) a
+        at-values (items mol is) a = never (isBlank l) lose (λ z. absurd (let z : _≡_ {A = ℕ} 0 1 = cc in omega arith)) a
         at-values (values mol is name vs) a = (
           refl,
           λ st. record { sd = st .sd; place = refl; few-atoms = st .few-atoms; few-bonds = st .few-bonds; counted = st .counted; bonds = st .bonds },

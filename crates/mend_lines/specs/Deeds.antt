@@ -2,7 +2,7 @@
 use Prim.Native.Nat.{ℕ, suc, _-_, _≤_, _<_}
 use native.Mathlib.Omega.{arith}
 use mathlib.Core.Path.{_≡_, refl, sym, ap, ap₂, _∙_, subst}
-use mathlib.Core.List.{List, [], _∷_, map}
+use mathlib.Core.List.{List, _∷_, map}
 use mathlib.Core.Bool.{Bool, true, false, cond, _&&_}
 use lib.Dec.{eqb, leb}
 use lib.ListN.{length, getD, take, drop}
@@ -17,7 +17,7 @@ use Rattle.text.specs.Find.{badColumn}
 use Rattle.text.specs.declared.Found.{Found}
 use Rattle.judge_line.specs.Field.{within, noneFound}
 use Rattle.judge_line.specs.Agree.{within-got, within-is}
-use Rattle.judge_line.specs.Judge.{blankb, itemOf}
+use Rattle.judge_line.specs.Judge.{itemOf}
 use Rattle.line_text.specs.Answer.{itemGot}
 use Rattle.line_text.specs.declared.ItemRead.{ItemRead}
 use Rattle.judge_file.specs.Place as J
@@ -49,7 +49,7 @@ unfoldable pub atHeader : ℕ → Bool → Bool → Deed
 atHeader owed some blank = cond (eqb owed 3) (cond (some && blank) D.Tail D.Keep) D.Keep
 
 unfoldable pub atItems : Line → Deed
-atItems l = cond (blankb l) D.Drop D.Keep
+atItems l = cond (isBlank l) D.Drop D.Keep
 
 unfoldable pub atValues : Line → Deed
 atValues l = cond (itemLine l) D.Put D.Keep
@@ -92,11 +92,6 @@ module _ (s : Bytes) (at : ℕ) (p : Piece) (g : PieceAt s at p) where
 
 pub ruleset piece-laws = (piece-cr, piece-plain, piece-line, piece-open)
 
-blank-same : (l : Line) → isBlank l ≡ blankb l
-unfolding isBlank blankb
-blank-same [] = refl
-blank-same (b ∷ l) = ap (λ (t : Bool). eqb b 32 && t) (blank-same l)
-
 -- ---- The scan for blank lines
 
 pub record Scanning (s : Bytes) (at i : ℕ) : Type 0 where
@@ -111,8 +106,8 @@ module _ (s : Bytes) (at i : ℕ) (g : Scanning s at i) where
   scan-end h = sym (g .same ∙ rw (no-piece s i h))
 
   module _ (p : Piece) (q : PieceAt s i p) (b : Bool) (e : b ≡ isBlank (take (p .end - i) (drop i s))) where
-    line-blank : blankb (ended (q .raw)) ≡ b
-    line-blank = rw (q .line) (sym (e ∙ blank-same (take (p .end - i) (drop i s))))
+    line-blank : isBlank (ended (q .raw)) ≡ b
+    line-blank = rw (q .line) (sym e)
 
     one : blankFrom s i ≡ (b && blankFrom s (p .next))
     unfolding blankFrom allBlank
@@ -186,11 +181,11 @@ module _ (owed : ℕ) (some blank : Bool) where
 module _ (l : Line) (r : Bool) where
   pub items-blank : r ≡ isBlank l → r ≡ true → D.Drop ≡ atItems l
   unfolding atItems
-  items-blank e h = rw (sym (blank-same l) ∙ sym e ∙ h)
+  items-blank e h = rw (sym e ∙ h)
 
   pub items-inked : r ≡ isBlank l → r ≡ false → D.Keep ≡ atItems l
   unfolding atItems
-  items-inked e h = rw (sym (blank-same l) ∙ sym e ∙ h)
+  items-inked e h = rw (sym e ∙ h)
 
   pub values-item : r ≡ itemLine l → r ≡ true → D.Put ≡ atValues l
   unfolding atValues
@@ -290,9 +285,9 @@ module _ (xs : List Raw) (l : Line) (ls : List Line) where
 
   at-item : (m : Molecule) (is : List Item) → Means (items m is) xs l ls (allBlank (l ∷ ls)) (atItems l)
   unfolding atItems actionAt
-  at-item m is = go (blankb l) refl
+  at-item m is = go (isBlank l) refl
     where
-      go : (a : Bool) → blankb l ≡ a → Means (items m is) xs l ls (allBlank (l ∷ ls)) (cond a D.Drop D.Keep)
+      go : (a : Bool) → isBlank l ≡ a → Means (items m is) xs l ls (allBlank (l ∷ ls)) (cond a D.Drop D.Keep)
       go true e = rw e
       go false e = rw e
 

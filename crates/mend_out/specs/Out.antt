@@ -7,6 +7,7 @@ use mathlib.Core.Bool.{Bool, true, false, cond}
 use lib.ListN.{length, getD, take, drop, set, length-set, length-drop, drop-of-length-le}
 use lib.Seq.{sets, set-out, drop-cons, length-take-le}
 use Rattle.text.specs.Text.{Bytes, LF}
+use Rattle.text.specs.Laws.{sets-append}
 use Rattle.mend_rules.specs.Named.{lineEnd}
 use Rattle.mend_rules.specs.Listed.{numbers}
 use Rattle.mend_lines.specs.declared.Piece.{Piece}
@@ -140,10 +141,6 @@ can-end m bytes g = g .notes refl
 pub ruleset out-laws = (stored-two, noted-line, noted-dropped, noted-out, noted-out-line, noted-put, noted-ended, ended-line, can-end)
 
 -- ---- A line that is kept
-
-pub sets-append : (xs ys t : List ℕ) (i : ℕ) → sets t i (xs ++ ys) ≡ sets (sets t i xs) (i + length xs) ys
-sets-append [] ys t i = let e : i + 0 ≡ i = omega arith in rw e
-sets-append (x ∷ xs) ys t i = let e : i + suc (length xs) ≡ suc i + length xs = omega arith in sets-append xs ys (set t i x) (suc i) ∙ rw e
 
 pub keep-late : (m : Mender) (k : ℕ) (missing : Bool) → missing ≡ true → CanKeep m k (late missing) → CanKeep m k 1
 keep-late m k missing h g = subst (λ (b : Bool). CanKeep m k (late b)) h g

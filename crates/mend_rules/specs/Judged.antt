@@ -5,9 +5,9 @@ use mathlib.Core.List.{List, [], _∷_, _++_, map}
 use mathlib.Core.Bool.{Bool, true, false, cond, _&&_}
 use native.Mathlib.Omega.{arith}
 use Rattle.text.specs.Text.{Line}
+use Rattle.text.specs.Find.{isBlank}
 use Rattle.rules.specs.Record.{Raw}
 use Rattle.judge_line.specs.Got.{Got, got, bad}
-use Rattle.judge_line.specs.Judge.{blankb}
 use Rattle.judge_file.specs.Place.{sdfile, Place, first, second, third, counts, atoms, bonds, properties, over, items, values}
 use Rattle.judge_file.specs.Place.{Turn, next, done, turnOf}
 use Rattle.judge_file.specs.Verdict.{stopped, run}
@@ -64,7 +64,7 @@ module _ (limit : ℕ) where
   run-put (bonds hs c ys k bs) xs i l ls t h = absurd (let z : _≡_ {A = ℕ} 0 1 = cc in omega arith)
   run-put (properties hs c ys bs ps) xs i l ls t h = absurd (let z : _≡_ {A = ℕ} 0 1 = cc in omega arith)
   run-put (over m) xs i l ls t h = absurd (let z : _≡_ {A = ℕ} 0 1 = cc in omega arith)
-  run-put (items m is) xs i l ls t h = not-put (blankb l) lose (λ z. absurd (let z : _≡_ {A = ℕ} 0 1 = cc in omega arith)) h
+  run-put (items m is) xs i l ls t h = not-put (isBlank l) lose (λ z. absurd (let z : _≡_ {A = ℕ} 0 1 = cc in omega arith)) h
   run-put (values m is name vs) xs i l ls t h =
       run-next sdfile limit (values m is name vs) _ xs i [] t (takes-turn sdfile limit (Takes.blank-line blank-line))
 

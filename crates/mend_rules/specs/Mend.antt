@@ -3,10 +3,11 @@ use Prim.Native.Nat.{ℕ, suc}
 use mathlib.Core.List.{List, [], _∷_, _++_, map}
 use mathlib.Core.Bool.{Bool, true, false, cond, _&&_}
 use Rattle.text.specs.Text.{Line}
+use Rattle.text.specs.Find.{isBlank}
 use Rattle.rules.specs.Record.{Raw}
 use Rattle.judge_line.specs.Got.{Got, got, bad}
 use Rattle.judge_line.specs.Field.{within}
-use Rattle.judge_line.specs.Judge.{itemOf, blankb}
+use Rattle.judge_line.specs.Judge.{itemOf}
 use Rattle.judge_file.specs.Place.{sdfile, Place, first, second, third, counts, atoms, bonds, properties, over, items, values}
 use Rattle.judge_file.specs.Place.{Turn, next, done, turnOf}
 use Rattle.judge_file.specs.Verdict.{Run, at, stopped}
@@ -27,7 +28,7 @@ itemLine l = found (within 80 l (itemOf l))
 
 unfoldable pub allBlank : List Line → Bool
 allBlank [] = true
-allBlank (l ∷ ls) = blankb l && allBlank ls
+allBlank (l ∷ ls) = isBlank l && allBlank ls
 
 abbrev pub some : List Raw → Bool
 some [] = false
@@ -43,7 +44,7 @@ actionAt (atoms hs c k ys) xs l ls = keep
 actionAt (bonds hs c ys k bs) xs l ls = keep
 actionAt (properties hs c ys bs ps) xs l ls = keep
 actionAt (over m) xs l ls = keep
-actionAt (items m is) xs l ls = cond (blankb l) lose keep
+actionAt (items m is) xs l ls = cond (isBlank l) lose keep
 actionAt (values m is name vs) xs l ls = cond (itemLine l) put keep
 
 -- where an empty line leads

@@ -3,29 +3,19 @@ use Prim.Native.Nat.{ℕ, suc, _+_, _-_, _≤_, _<_}
 use native.Mathlib.Omega.{arith}
 use mathlib.Core.Path.{_≡_, refl, sym, ap, _∙_}
 use mathlib.Core.List.{List, [], _∷_, _++_, append-nil, append-assoc}
-use mathlib.Core.Bool.{Bool, true, false, cond, _&&_}
+use mathlib.Core.Bool.{Bool, true, false, cond, _&&_, and-false}
 use lib.ListN.{length, getD, take, drop, length-drop, length-append, drop-of-length-le}
 use lib.Seq.{split-at, getD-drop, drop-drop, take-at, length-take-le, take-suc, take-all, getD-at}
-use borrow.Author.Tests.{ne-eqb, eqb-true, eqb-false}
-use Rattle.text.specs.Text.{Bytes, Line, LF, CR, Each, Without, Ended}
+use borrow.Author.Tests.{eqb-true, eqb-false}
+use Rattle.text.specs.Text.{Bytes, Line, LF, CR, Without, Ended}
 use Rattle.text.specs.Find.{firstFrom, isLf, lineTo, lineAt}
-use Rattle.text.specs.First.{each-as, first-within, first-passes, first-before, first-nothing}
-use Rattle.text.specs.Cut.{Cut, ended, ended-one, split, cut, cut-line, line-cut, line-within}
+use Rattle.text.specs.First.{each-as, first-within, first-passes, first-before}
+use Rattle.text.specs.Cut.{Cut, ended, ended-one, split, cut, cut-line, line-cut, line-within, split-rest, split-line, rest-clean}
 use Rattle.text.specs.declared.Found.{Found}
 use Rattle.text.specs.declared.Found.the-variants.{At, Nothing}
 use Rattle.text.specs.declared.LineAt.{LineAt}
 use Rattle.mend_rules.specs.Named.{none}
 use Rattle.mend_rules.specs.Text.{tailOf, pieces, unfinished}
-
-split-none : (r : Bytes) → Without LF r → split r ≡ record { lines = []; rest = r }
-unfolding split Each
-split-none [] f = refl
-split-none (b ∷ r) f = rw (ne-eqb b LF (f .0), split-none r (f .1))
-
-split-first : (bs more : Bytes) → Without LF bs → split (bs ++ (LF ∷ more)) ≡ record { lines = bs ∷ (split more .lines); rest = split more .rest }
-unfolding split Each
-split-first [] more f = refl
-split-first (b ∷ bs) more f = rw (ne-eqb b LF (f .0), split-first bs more (f .1))
 
 -- the line that starts at `at` and is followed at n: its bytes up to the LF, which is the last before n
 record Found-line (s : Bytes) (at n : ℕ) : Type 0 where
@@ -78,11 +68,7 @@ pub record PieceIs (s : Bytes) (at e n : ℕ) (missing : Bool) : Type 0 where
 
 nothing-left : (s : Bytes) (t : Bool) → none (pieces s) ≡ t → (unfinished (split s .rest) && t) ≡ false
 unfolding pieces
-nothing-left s false e = go (unfinished (split s .rest))
-  where
-    go : (b : Bool) → (b && false) ≡ false
-    go true = refl
-    go false = refl
+nothing-left s false e = and-false (unfinished (split s .rest))
 nothing-left s true e = by (split s .lines) (split s .rest) e
   where
     by : (ls : List Bytes) (r : Bytes) → none (ls ++ tailOf r) ≡ true → (unfinished r && true) ≡ false
@@ -95,7 +81,7 @@ module _ (s : Bytes) (at e n : ℕ) (h : lineAt s at ≡ LineAt.Line e n) where
   f = found-line s at e n h
 
   parted : split (drop at s) ≡ record { lines = f .raw ∷ (split (drop n s) .lines); rest = split (drop n s) .rest }
-  parted = ap split (f .is) ∙ split-first (f .raw) (drop n s) (f .clean)
+  parted = ap split (f .is) ∙ split-line (f .raw) (drop n s) (f .clean)
 
   first-line : ended (f .raw) ≡ take (e - at) (drop at s)
   first-line =
@@ -130,15 +116,6 @@ module _ (s : Bytes) (at e n : ℕ) (h : lineAt s at ≡ LineAt.Line e n) where
 
 -- ---- What is unfinished
 
-last-by : (s : Bytes) (at : ℕ) (x : Found) → firstFrom isLf at (drop at s) ≡ x → lineTo s at x ≡ LineAt.Unfinished → Without LF (drop at s)
-unfolding lineTo
-last-by s at (At k) found h = absurd (let z : _≡_ {A = ℕ} 0 1 = cc in omega arith)
-last-by s at Nothing found h = each-as (drop at s) (λ b. eqb-false b LF) (first-nothing isLf at (drop at s) found)
-
-last-clean : (s : Bytes) (at : ℕ) → lineAt s at ≡ LineAt.Unfinished → Without LF (drop at s)
-unfolding lineAt
-last-clean s at h = last-by s at (firstFrom isLf at (drop at s)) refl h
-
 tail-some : (r : Bytes) → 0 < length r → (tailOf r ≡ r ∷ []) × (unfinished r ≡ true)
 tail-some [] h = absurd (omega arith)
 tail-some (b ∷ r) h = (refl, refl)
@@ -166,7 +143,7 @@ module _ (s : Bytes) (at : ℕ) (h : lineAt s at ≡ LineAt.Unfinished) (some : 
   r = drop at s
 
   alone : split (drop at s) ≡ record { lines = []; rest = drop at s }
-  alone = split-none (drop at s) (last-clean s at h)
+  alone = split-rest (drop at s) (rest-clean s at h)
 
   nothing : drop (length s) s ≡ []
   nothing = drop-of-length-le s {i = length s} (omega arith)

@@ -3,7 +3,7 @@ use mathlib.Core.Path.{_≡_, refl}
 use mathlib.Core.List.{List, [], _∷_, _++_, map}
 use Rattle.text.specs.Text.{Bytes, bytes}
 use Rattle.text.specs.Columns.{columnsFor}
-use Rattle.text.specs.Find.{firstFrom, badColumn, inkColumn}
+use Rattle.text.specs.Find.{firstFrom, badColumn, inkColumn, isBlank}
 use Rattle.text.specs.Cut.{ended, split, cut}
 use Rattle.field_numbers.specs.Number.{decimalAfter}
 use Rattle.field_numbers.specs.Read.{allDigits, afterSpaces, beforeSpaces, digitsRead, afterBlank, integerIn, ranged, numberIn, signedRanged, signedIn}
@@ -14,7 +14,7 @@ use Rattle.rules.specs.Record.{listed, limit}
 use Rattle.judge_pairs.specs.Taken.{pairTaken}
 use Rattle.judge_line.specs.Got.{then, need}
 use Rattle.judge_line.specs.Field.{numberAt, signedAt, elem, listedAt, elemSigned, signedListedAt, coordinateAt, symbolAt, spaceAt, spacesFrom, within}
-use Rattle.judge_line.specs.Judge.{begins, contains, firstHeaderOf, countsOf, atomOf, bondOf, entryNumberAt, entriesOf, listOf, propertyOf, blankb, nameOn, opened}
+use Rattle.judge_line.specs.Judge.{begins, contains, firstHeaderOf, countsOf, atomOf, bondOf, entryNumberAt, entriesOf, listOf, propertyOf, nameOn, opened}
 use Rattle.judge_line.specs.Judge.{spaced, arrowed, headerOf, itemOf, valueOf}
 use Rattle.judge_file.specs.Place.{toBonds, toAtoms, lineOf, turnOf}
 use Rattle.judge_file.specs.Samples.{lines, drumLines}
@@ -64,6 +64,6 @@ pub samples-mended : map told samples ≡ samples
 unfolding columnsFor firstFrom badColumn inkColumn ended split cut decimalAfter allDigits afterSpaces beforeSpaces digitsRead afterBlank integerIn ranged numberIn
     signedRanged signedIn pointRead beforePoint inked coordinateIn sameBytes among symbolIn listed pairTaken then need
     numberAt signedAt elem listedAt elemSigned signedListedAt coordinateAt symbolAt spaceAt spacesFrom within begins contains firstHeaderOf countsOf atomOf
-    bondOf entryNumberAt entriesOf listOf propertyOf blankb nameOn opened spaced arrowed headerOf itemOf valueOf toBonds toAtoms lineOf turnOf
+    bondOf entryNumberAt entriesOf listOf propertyOf isBlank nameOn opened spaced arrowed headerOf itemOf valueOf toBonds toAtoms lineOf turnOf
     itemLine allBlank actionAt emptied left actionsOf applied pieces joined actions mendedPieces mendedText fixesFrom fixes
 samples-mended = refl

@@ -3,7 +3,7 @@ use Prim.Native.Nat.{ℕ, suc, _+_, _*_, _≤_}
 use native.Mathlib.Omega.{arith}
 use mathlib.Core.Path.{_≡_, refl, sym, ap, _∙_}
 use mathlib.Core.List.{List, [], _∷_, _++_, append-nil, append-assoc}
-use mathlib.Core.Bool.{Bool, true, false, cond, _&&_}
+use mathlib.Core.Bool.{Bool, true, false, cond, _&&_, and-false}
 use lib.ListN.{length, length-append}
 use Rattle.text.specs.Text.{Bytes, LF}
 use Rattle.text.specs.Cut.{split}
@@ -73,16 +73,12 @@ deeds-few : (i : ℕ) (a : Action) (b : Bool) → length (deeds i a b) ≤ 2
 deeds-few i a true = deeds-size i a true
 deeds-few i a false = omega (arith, deeds-size i a false)
 
-never : (u : Bool) → (u && false) ≡ false
-never true = refl
-never false = refl
-
 fixes-size : (u : Bool) (i : ℕ) (t : List Action) → length (fixesFrom u i t) ≤ length t + 1
 unfolding fixesFrom
 fixes-size u i [] = omega arith
 fixes-size u i (a ∷ []) = omega (arith, length-append (deeds i a (u && true)) [], deeds-few i a (u && true))
 fixes-size u i (a ∷ (b ∷ t)) =
-    rw (never u) (omega (arith, deeds-size i a false, length-append (deeds i a false) (fixesFrom u (suc i) (b ∷ t)), fixes-size u (suc i) (b ∷ t)))
+    rw (and-false u) (omega (arith, deeds-size i a false, length-append (deeds i a false) (fixesFrom u (suc i) (b ∷ t)), fixes-size u (suc i) (b ∷ t)))
 
 pub list-size : (limit : ℕ) (s : Bytes) → length (fixes limit s) ≤ length s + 1
 unfolding fixes

@@ -6,9 +6,9 @@ use mathlib.Core.Bool.{Bool, true, false, cond, _&&_}
 use native.Mathlib.Omega.{arith}
 use lib.ListN.{length, length-append}
 use Rattle.text.specs.Text.{Bytes, Line}
+use Rattle.text.specs.Find.{isBlank}
 use Rattle.text.specs.Cut.{ended, split}
 use Rattle.rules.specs.Record.{Raw}
-use Rattle.judge_line.specs.Judge.{blankb}
 use Rattle.judge_file.specs.Place.{sdfile, Place, first, second, third, counts, atoms, bonds, properties, over, items, values}
 use Rattle.judge_file.specs.Verdict.{stopped, refused, endSDfile, verdict}
 use Rattle.mend_rules.specs.Mend.{Action, keep, put, lose, itemLine, allBlank, some, actionAt, emptied, Left, went, fell, left, actionsOf, applied, walkFrom}
@@ -58,14 +58,14 @@ module _ (limit : ℕ) where
   stays-then (bonds hs c ys k bs) xs l ls h = refl
   stays-then (properties hs c ys bs ps) xs l ls h = refl
   stays-then (over m) xs l ls h = refl
-  stays-then (items m is) xs l ls h = go (blankb l) h
+  stays-then (items m is) xs l ls h = go (isBlank l) h
     where
       go : (t : Bool) → cond t lose keep ≡ put → cond t lose keep ≡ keep
       go true h = absurd (let z : _≡_ {A = ℕ} 0 1 = cc in omega arith)
       go false h = refl
   stays-then (values m is name vs) xs l ls h = go (itemLine l) refl h
     where
-      go : (t : Bool) → itemLine l ≡ t → cond t put keep ≡ put → cond (blankb l) lose keep ≡ keep
+      go : (t : Bool) → itemLine l ≡ t → cond t put keep ≡ put → cond (isBlank l) lose keep ≡ keep
       go true e h = rw (item-not-blank l e)
       go false e h = absurd (let z : _≡_ {A = ℕ} 0 1 = cc in omega arith)
 

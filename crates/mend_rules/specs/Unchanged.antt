@@ -1,22 +1,22 @@
 -- In a good file every line stays.
-use Prim.Native.Nat.{ℕ, zero, suc}
+use Prim.Native.Nat.{ℕ, suc}
 use mathlib.Core.Path.{_≡_, refl, sym, ap, _∙_}
 use mathlib.Core.List.{List, [], _∷_, _++_, map}
 use mathlib.Core.Bool.{Bool, true, false, cond, not, _&&_, and-eq-true-iff}
 use native.Mathlib.Omega.{arith}
-use lib.Dec.{eqb}
 use lib.ListN.{getD, drop}
-use borrow.Author.Tests.{eqb-true}
 use Rattle.text.specs.Text.{Bytes, Line, bytes}
-use Rattle.text.specs.Columns.{columnsFor, Within}
+use Rattle.text.specs.Columns.{columnsFor, Within, Space}
+use Rattle.text.specs.Find.{isBlank}
+use Rattle.text.specs.Laws.{true-false}
+use Rattle.text.specs.Agree.{each-get, blank-is}
 use Rattle.rules.specs.Forms.{Counts, CountsLine, DataHeader, RecordEnd}
 use Rattle.rules.specs.Record.{Raw, Headers, Molecule, Item}
-use Rattle.judge_pairs.specs.Agree.{true-false}
 use Rattle.judge_line.specs.Got.{Got, got, bad}
 use Rattle.judge_line.specs.GotLaws.{got-inj, bad-got, then-got, need-got, cond-by}
 use Rattle.judge_line.specs.Agree.{within-got, title-agrees, close-agrees, counts-agrees}
 use Rattle.judge_line.specs.Field.{within}
-use Rattle.judge_line.specs.Judge.{begins, blankb, headerOf, HeaderRead, named, none, titleGot, notHeader, isClose, ItemOrEnd, title, close, itemOf, ValueOrBlank, valueOf, reserved, firstHeaderOf, countsOf}
+use Rattle.judge_line.specs.Judge.{begins, headerOf, HeaderRead, named, none, titleGot, notHeader, isClose, ItemOrEnd, title, close, itemOf, ValueOrBlank, valueOf, reserved, firstHeaderOf, countsOf}
 use Rattle.judge_file.specs.Place.{sdfile, Place, first, second, third, counts, atoms, bonds, properties, over, items, values}
 use Rattle.judge_file.specs.Place.{Turn, next, done, turnOf, lineOf}
 use Rattle.judge_file.specs.Verdict.{at, run}
@@ -26,24 +26,21 @@ use Rattle.mend_rules.specs.Mend.{Action, keep, put, lose, itemLine, all
 
 -- ---- blank lines
 
-blank-byte : (l : Line) → blankb l ≡ true → (i : ℕ) → getD l i 32 ≡ 32
-unfolding blankb
-blank-byte [] h i = refl
-blank-byte (b ∷ l) h zero = eqb-true b 32 (and-eq-true-iff (eqb b 32) (blankb l) .0 h .0)
-blank-byte (b ∷ l) h (suc i) = blank-byte l (and-eq-true-iff (eqb b 32) (blankb l) .0 h .1) i
+blank-byte : (l : Line) → isBlank l ≡ true → (i : ℕ) → getD l i 32 ≡ 32
+blank-byte l h i = each-get Space l i 32 refl (blank-is l .0 h)
 
-blank-header : {X : Type 0} {l : Line} {name : Bytes} → DataHeader l name → blankb l ≡ true → X
+blank-header : {X : Type 0} {l : Line} {name : Bytes} → DataHeader l name → isBlank l ≡ true → X
 blank-header {l = l} d h =
     let a : getD l 0 32 ≡ 62 = ap (λ (x : Bytes). getD x 0 32) (d .parts) in
     absurd (omega (arith, blank-byte l h 0))
 
-blank-end : {X : Type 0} {l : Line} → RecordEnd l → blankb l ≡ true → X
+blank-end : {X : Type 0} {l : Line} → RecordEnd l → isBlank l ≡ true → X
 unfolding columnsFor
 blank-end {l = l} d h =
     let a : getD l 0 32 ≡ 36 = ap (λ (x : Bytes). getD x 0 32) (d .tagged) in
     absurd (omega (arith, blank-byte l h 0))
 
-blank-counts : {X : Type 0} {limit : ℕ} {l : Line} {c : Counts} → CountsLine limit l c → blankb l ≡ true → X
+blank-counts : {X : Type 0} {limit : ℕ} {l : Line} {c : Counts} → CountsLine limit l c → isBlank l ≡ true → X
 unfolding columnsFor
 blank-counts {l = l} d h =
     let a : getD l 34 32 ≡ 86 = ap (λ (x : Bytes). getD x 1 32) (d .version) in
@@ -51,16 +48,16 @@ blank-counts {l = l} d h =
 
 -- ---- a value line or a blank is no data header and no `$$$$` line
 
-blank-no-item : {X : Type 0} (l : Line) (w : ItemOrEnd) → Within 80 l → blankb l ≡ true → itemOf l ≡ got w → X
+blank-no-item : {X : Type 0} (l : Line) (w : ItemOrEnd) → Within 80 l → isBlank l ≡ true → itemOf l ≡ got w → X
 blank-no-item l (title name) i h e = blank-header (title-agrees l name i .0 e) h
 blank-no-item l close i h e = blank-end (close-agrees l i .0 e) h
 
 value-no-item : {X : Type 0} (l : Line) (v : ValueOrBlank) (w : ItemOrEnd) → Within 80 l → valueOf l ≡ got v → itemOf l ≡ got w → X
 unfolding valueOf itemOf
 value-no-item l v w i e f =
-    cond-by (blankb l) _ _ (got v) e (λ t _. blank-no-item l w i t f) λ _ e.
+    cond-by (isBlank l) _ _ (got v) e (λ t _. blank-no-item l w i t f) λ _ e.
     cond-by (begins (bytes "$$$$") l) _ _ (got v) e (λ _ z. bad-got z) λ t e.
-    cond-by (isClose l) _ _ (got w) f (λ z _. true-false (sym (and-eq-true-iff (begins (bytes "$$$$") l) (blankb (drop 4 l)) .0 z .0) ∙ t)) λ _ f.
+    cond-by (isClose l) _ _ (got w) f (λ z _. true-false (sym (and-eq-true-iff (begins (bytes "$$$$") l) (isBlank (drop 4 l)) .0 z .0) ∙ t)) λ _ f.
     go (headerOf l) e f
   where
     go : {X : Type 0} (h : HeaderRead) → notHeader h ≡ got v → titleGot h ≡ got w → X
@@ -75,10 +72,10 @@ item-line l h = go (within 80 l (itemOf l)) refl h
     go (got w) e h = (w, within-got 80 l (itemOf l) w e)
     go (bad n c) e h = true-false (sym h ∙ rw e)
 
-pub item-not-blank : (l : Line) → itemLine l ≡ true → blankb l ≡ false
-item-not-blank l h = go (blankb l) refl
+pub item-not-blank : (l : Line) → itemLine l ≡ true → isBlank l ≡ false
+item-not-blank l h = go (isBlank l) refl
   where
-    go : (t : Bool) → blankb l ≡ t → t ≡ false
+    go : (t : Bool) → isBlank l ≡ t → t ≡ false
     go true e = let w = item-line l h in blank-no-item l (w .0) (w .1 .0) e (w .1 .1)
     go false e = refl
 
@@ -92,14 +89,14 @@ module _ (limit : ℕ) where
       let b = then-got (valueOf l) _ u (a .1) in
       value-no-item l (b .0) (w .0) (w .1 .0) (b .1) (w .1 .1)
 
-  item-turn : {X : Type 0} (m : Molecule) (is : List Item) (l : Line) (u : Turn) → turnOf sdfile limit (items m is) l ≡ got u → blankb l ≡ true → X
+  item-turn : {X : Type 0} (m : Molecule) (is : List Item) (l : Line) (u : Turn) → turnOf sdfile limit (items m is) l ≡ got u → isBlank l ≡ true → X
   unfolding turnOf lineOf
   item-turn m is l u e h =
       let a = within-got 80 l (lineOf sdfile limit (items m is) l) u e in
       let b = then-got (itemOf l) _ u (a .1) in
       blank-no-item l (b .0) (a .0) h (b .1)
 
-  counts-turn : {X : Type 0} (hs : Headers) (l : Line) (u : Turn) → turnOf sdfile limit (counts hs) l ≡ got u → blankb l ≡ true → X
+  counts-turn : {X : Type 0} (hs : Headers) (l : Line) (u : Turn) → turnOf sdfile limit (counts hs) l ≡ got u → isBlank l ≡ true → X
   unfolding turnOf lineOf
   counts-turn hs l u e h =
       let a = within-got 80 l (lineOf sdfile limit (counts hs) l) u e in
@@ -117,7 +114,7 @@ module _ (limit : ℕ) where
   blanks-counts hs xs i (l ∷ ls) ys b h = go (turnOf sdfile limit (counts hs) l) refl
     where
       go : {X : Type 0} (g : Got Turn) → turnOf sdfile limit (counts hs) l ≡ g → X
-      go (got u) e = counts-turn hs l u e (and-eq-true-iff (blankb l) (allBlank ls) .0 b .0)
+      go (got u) e = counts-turn hs l u e (and-eq-true-iff (isBlank l) (allBlank ls) .0 b .0)
       go (bad n c) e = at-stopped (sym h ∙ run-stop sdfile limit (counts hs) xs i l ls n c e)
 
   -- the lines before the counts line: a blank may stand for each
@@ -148,16 +145,16 @@ module _ (limit : ℕ) where
   blanks-third : {X : Type 0} (h₁ h₂ : Line) (xs : List Raw) (i : ℕ) (ls : List Line) (ys : List Raw) → allBlank ls ≡ true → run sdfile limit (third h₁ h₂) xs i ls ≡ at first ys → X
   unfolding run allBlank
   blanks-third h₁ h₂ xs i [] ys b h = never-first refl h
-  blanks-third h₁ h₂ xs i (l ∷ ls) ys b h = before (third h₁ h₂) l _ (third-turn h₁ h₂ l) xs i ls ys (blanks-counts _ xs (suc i) ls ys (and-eq-true-iff (blankb l) (allBlank ls) .0 b .1)) h
+  blanks-third h₁ h₂ xs i (l ∷ ls) ys b h = before (third h₁ h₂) l _ (third-turn h₁ h₂ l) xs i ls ys (blanks-counts _ xs (suc i) ls ys (and-eq-true-iff (isBlank l) (allBlank ls) .0 b .1)) h
 
   blanks-second : {X : Type 0} (h₁ : Line) (xs : List Raw) (i : ℕ) (ls : List Line) (ys : List Raw) → allBlank ls ≡ true → run sdfile limit (second h₁) xs i ls ≡ at first ys → X
   unfolding run allBlank
   blanks-second h₁ xs i [] ys b h = never-first refl h
-  blanks-second h₁ xs i (l ∷ ls) ys b h = before (second h₁) l _ (second-turn h₁ l) xs i ls ys (blanks-third _ _ xs (suc i) ls ys (and-eq-true-iff (blankb l) (allBlank ls) .0 b .1)) h
+  blanks-second h₁ xs i (l ∷ ls) ys b h = before (second h₁) l _ (second-turn h₁ l) xs i ls ys (blanks-third _ _ xs (suc i) ls ys (and-eq-true-iff (isBlank l) (allBlank ls) .0 b .1)) h
 
   blanks-first : {X : Type 0} (xs : List Raw) (i : ℕ) (l : Line) (ls : List Line) (ys : List Raw) → allBlank (l ∷ ls) ≡ true → run sdfile limit first xs i (l ∷ ls) ≡ at first ys → X
   unfolding allBlank
-  blanks-first xs i l ls ys b h = before first l _ (first-turn l) xs i ls ys (blanks-second _ xs (suc i) ls ys (and-eq-true-iff (blankb l) (allBlank ls) .0 b .1)) h
+  blanks-first xs i l ls ys b h = before first l _ (first-turn l) xs i ls ys (blanks-second _ xs (suc i) ls ys (and-eq-true-iff (isBlank l) (allBlank ls) .0 b .1)) h
 
   -- ---- every line stays
 
@@ -176,9 +173,9 @@ module _ (limit : ℕ) where
   stays (bonds hs c zs k bs) xs i l ls ys u e h = refl
   stays (properties hs c zs bs ps) xs i l ls ys u e h = refl
   stays (over m) xs i l ls ys u e h = refl
-  stays (items m is) xs i l ls ys u e h = go (blankb l) refl
+  stays (items m is) xs i l ls ys u e h = go (isBlank l) refl
     where
-      go : (t : Bool) → blankb l ≡ t → cond t lose keep ≡ keep
+      go : (t : Bool) → isBlank l ≡ t → cond t lose keep ≡ keep
       go true q = item-turn m is l u e q
       go false q = refl
   stays (values m is name vs) xs i l ls ys u e h = go (itemLine l) refl

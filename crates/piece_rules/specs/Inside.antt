@@ -1,21 +1,18 @@
 -- The bonds of a good record join its own atoms.
-use Prim.Native.Nat.{ℕ, suc, _≤_}
-use mathlib.Core.Path.{_≡_, refl, ap}
+use Prim.Native.Nat.{ℕ, _≤_}
+use mathlib.Core.Path.{_≡_}
 use mathlib.Core.List.{List}
 use lib.ListN.{length}
 use Rattle.text.specs.Text.{Line}
 use Rattle.rules.specs.Forms.{Bond}
 use Rattle.rules.specs.Record.{Molecule, Bonds, Parts1to5, limit}
+use Rattle.rules.specs.PartLaws.{many-bonds}
 use Rattle.piece_rules.specs.Pieces.{Inside}
 
 inside-of : {n k : ℕ} {t r : List Line} {bs : List Bond} → Bonds n k t bs r → Inside n bs
 unfolding Inside
 inside-of Bonds.none = tt
 inside-of (Bonds.more l h) = ((l .first .low, l .first .high, l .second .low, l .second .high), inside-of h)
-
-many : {n k : ℕ} {t r : List Line} {bs : List Bond} → Bonds n k t bs r → length bs ≡ k
-many Bonds.none = refl
-many (Bonds.more l h) = ap suc (many h)
 
 -- what splitting asks of a molecule
 pub record Joined (m : Molecule) : Type 0 where
@@ -24,4 +21,4 @@ pub record Joined (m : Molecule) : Type 0 where
   pub bonds : length (m .bonds) ≡ m .counts .bonds
 
 pub joined : {t r : List Line} {m : Molecule} → Parts1to5 limit t m r → Joined m
-joined (Parts1to5.parts h₁ h₂ h₃ c a b p q o) = record { few = c .atoms .high; inside = inside-of b; bonds = many b }
+joined (Parts1to5.parts h₁ h₂ h₃ c a b p q o) = record { few = c .atoms .high; inside = inside-of b; bonds = many-bonds b }

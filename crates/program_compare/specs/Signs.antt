@@ -1,24 +1,15 @@
 -- A signed number of 64 bits: what a test against zero says, and its size without its sign.
-use Prim.Native.Nat.{ℕ, _+_, _<_, _^_}
+use Prim.Native.Nat.{_+_, _<_, _^_}
 use native.Mathlib.Omega.{arith}
-use mathlib.Core.Path.{_≡_, refl, ap, _∙_, subst}
+use mathlib.Core.Path.{_≡_, ap, _∙_, subst}
 use mathlib.Core.Bool.{true, false}
-use lib.Dec.{T, ltb}
+use lib.Dec.{T}
 use lib.IntN.{ℤ, pos, negsuc, natAbs, _-ℤ_}
 use lib.Signed.{mag, nonNeg, ltZ}
-use borrow.Author.Tests.{le-ltb}
 use mir.Syntax.{w64}
 use mir.Val.{Fits, SFits, toZ, ofZ}
 use mir.Facts.{toZ-ofZ}
-use Rattle.field_numbers.specs.Signs.{Below, Above, from-minus-one}
-
-below-by : (z : ℤ) → ltZ z (pos 0) ≡ true → Below z
-below-by (pos n) h = absurd (let e : ltb n 0 ≡ false = le-ltb n 0 (omega arith) in let z : _≡_ {A = ℕ} 0 1 = cc in omega arith)
-below-by (negsuc n) h = record { less = n; number = refl }
-
-above-by : (z : ℤ) → ltZ z (pos 0) ≡ false → Above z
-above-by (pos n) h = record { size = n; number = refl }
-above-by (negsuc n) h = absurd (let z : _≡_ {A = ℕ} 0 1 = cc in omega arith)
+use Rattle.field_numbers.specs.Signs.{Below, Above, from-minus-one, below-by, above-by}
 
 module _ (z : ℤ) (f : SFits w64 z) (t : ltZ (toZ w64 (ofZ w64 z)) (pos 0) ≡ true) where
   below : Below z

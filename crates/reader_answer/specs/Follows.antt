@@ -12,7 +12,8 @@ use Rattle.judge_line.specs.Got.{Got, got, bad}
 use Rattle.judge_file.specs.Place.{sdfile, Place, first, Turn, next, done, turnOf}
 use Rattle.judge_file.specs.Verdict.{accepted}
 use Rattle.judge_file.specs.One.{One, oneFrom, oneRecord}
-use Rattle.reader_walk.specs.Outcome.{Outcome, refused, ofOne, outcomeOf, one-next, one-done, one-bad}
+use Rattle.judge_file.specs.OneRun.{one-next, one-done, one-stop}
+use Rattle.reader_walk.specs.Outcome.{Outcome, refused, ofOne, outcomeOf}
 use Rattle.reader_walk.specs.Walked.{walkedBy, walkOf}
 use Rattle.reader_answer.specs.declared.RecordRead.{RecordRead}
 use Rattle.reader_answer.specs.Read.{answered, readAs, atomsAs, bondsAs, readOf, atomsAfter, bondsAfter}
@@ -97,10 +98,10 @@ refused-later p j [] e i c h = absurd (let z : _≡_ {A = ℕ} 0 1 = cc in omega
 refused-later p j (l ∷ ls) e i c h = go (λ q g. refused-later q (suc j) ls e i c g) (turnOf sdfile limit p l) refl
   where
     go : ((q : Place) → oneFrom limit q (suc j) ls ≡ One.refused e i c → suc j ≤ i) → (r : Got Turn) → turnOf sdfile limit p l ≡ r → j ≤ i
-    go r (got (next q)) k = omega (arith, r q (sym (one-next p q j l ls k) ∙ h))
-    go r (got (done y)) k = apart (sym (one-done p y j l ls k) ∙ h)
+    go r (got (next q)) k = omega (arith, r q (sym (one-next limit p q j l ls k) ∙ h))
+    go r (got (done y)) k = apart (sym (one-done limit p y j l ls k) ∙ h)
     go r (bad n d) k =
-        let w : One.refused n j d ≡ One.refused e i c = sym (one-bad p j l ls n d k) ∙ h in
+        let w : One.refused n j d ≡ One.refused e i c = sym (one-stop limit p j l ls n d k) ∙ h in
         let same : j ≡ i = cc in
         omega arith
 
@@ -114,9 +115,9 @@ refused-still p j (l ∷ front) more other e i c h few =
   where
     go : ((q : Place) → oneFrom limit q (suc j) (front ++ more) ≡ One.refused e i c → oneFrom limit q (suc j) (front ++ other) ≡ One.refused e i c) →
         (r : Got Turn) → turnOf sdfile limit p l ≡ r → oneFrom limit p j (l ∷ (front ++ other)) ≡ One.refused e i c
-    go r (got (next q)) k = one-next p q j l (front ++ other) k ∙ r q (sym (one-next p q j l (front ++ more) k) ∙ h)
-    go r (got (done y)) k = apart (sym (one-done p y j l (front ++ more) k) ∙ h)
-    go r (bad n d) k = one-bad p j l (front ++ other) n d k ∙ sym (one-bad p j l (front ++ more) n d k) ∙ h
+    go r (got (next q)) k = one-next limit p q j l (front ++ other) k ∙ r q (sym (one-next limit p q j l (front ++ more) k) ∙ h)
+    go r (got (done y)) k = apart (sym (one-done limit p y j l (front ++ more) k) ∙ h)
+    go r (bad n d) k = one-stop limit p j l (front ++ other) n d k ∙ sym (one-stop limit p j l (front ++ more) n d k) ∙ h
 
 -- lines up to the refused one, and then anything
 pub after-refused : (s : Bytes) (n : ℕ) (front : List Line) (e column : ℕ) → Stretch s 0 n front → oneRecord limit (cut s .lines) ≡ One.refused e (length front) column →

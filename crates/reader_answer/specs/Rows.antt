@@ -1,5 +1,5 @@
 -- A record walked, and its rows given their meaning: the tables begin with the rows of its reading. Once the rest is cleared, they are as they are promised.
-use Prim.Native.Nat.{ℕ, suc, _-_, _*_, _≤_, _<_}
+use Prim.Native.Nat.{ℕ, _-_, _*_, _≤_, _<_}
 use native.Mathlib.Omega.{arith}
 use mathlib.Core.Path.{_≡_, refl, sym, ap, _∙_, subst}
 use mathlib.Core.List.{List, [], _++_}
@@ -8,9 +8,9 @@ use lib.ListN.{length, drop, replicate}
 use lib.Seq.{take-at}
 use lib.IntN.{ℤ, pos}
 use Rattle.text.specs.Text.{Bytes, Line}
-use Rattle.rules.specs.Forms.{Atom, Bond}
-use Rattle.rules.specs.Record.{Molecule, Raw, limit, Atoms, Bonds, Parts1to5, Molfile, Record, atomPlaces, bondPlaces}
+use Rattle.rules.specs.Record.{Molecule, Raw, limit, Parts1to5, Molfile, Record, atomPlaces, bondPlaces}
 use Rattle.rules.specs.Meaning.{meaning}
+use Rattle.rules.specs.PartLaws.{many-atoms, many-bonds}
 use Rattle.line_counts_bonds.specs.declared.Counts.{Counts}
 use Rattle.reader_tables.specs.Row.{flat, Holds}
 use Rattle.reader_tables.specs.Held.{bond-rows-flat, length-bond-rows}
@@ -37,14 +37,6 @@ pub record Sized (m : Molecule) : Type 0 where
   pub few-bonds : m .counts .bonds ≤ limit
   pub atoms : length (m .atoms) ≡ m .counts .atoms
   pub bonds : length (m .bonds) ≡ m .counts .bonds
-
-many-atoms : {n k : ℕ} {t r : List Line} {xs : List Atom} → Atoms n k t xs r → length xs ≡ k
-many-atoms Atoms.none = refl
-many-atoms (Atoms.more h a) = ap suc (many-atoms a)
-
-many-bonds : {n k : ℕ} {t r : List Line} {bs : List Bond} → Bonds n k t bs r → length bs ≡ k
-many-bonds Bonds.none = refl
-many-bonds (Bonds.more h b) = ap suc (many-bonds b)
 
 sized : {t r : List Line} {m : Molecule} → Parts1to5 limit t m r → Sized m
 sized (Parts1to5.parts h₁ h₂ h₃ c a b p q o) = record { few-atoms = c .atoms .high; few-bonds = c .bonds .high; atoms = many-atoms a; bonds = many-bonds b }

@@ -6,7 +6,7 @@ use lib.ListN.{length, replicate}
 use lib.IntN.{ℤ, pos, negsuc}
 use Rattle.text.specs.Text.{Bytes, bytes}
 use Rattle.text.specs.Columns.{columnsFor}
-use Rattle.text.specs.Find.{firstFrom, badColumn, inkColumn, sameBytes, lineTo, lineAt}
+use Rattle.text.specs.Find.{firstFrom, badColumn, inkColumn, sameBytes, lineTo, lineAt, isBlank}
 use Rattle.text.specs.Cut.{ended, split, cut}
 use Rattle.field_numbers.specs.Number.{decimalAfter}
 use Rattle.field_numbers.specs.Read.{allDigits, afterSpaces, beforeSpaces, digitsRead, afterBlank, integerIn, ranged, numberIn, signedRanged, signedIn}
@@ -18,7 +18,7 @@ use Rattle.rules.specs.Samples.{atom, bond}
 use Rattle.judge_pairs.specs.Taken.{pairTaken}
 use Rattle.judge_line.specs.Got.{then, need}
 use Rattle.judge_line.specs.Field.{numberAt, signedAt, elem, listedAt, elemSigned, signedListedAt, coordinateAt, symbolAt, spaceAt, spacesFrom, within}
-use Rattle.judge_line.specs.Judge.{begins, contains, firstHeaderOf, countsOf, atomOf, bondOf, entryNumberAt, entriesOf, listOf, propertyOf, blankb, nameOn, opened}
+use Rattle.judge_line.specs.Judge.{begins, contains, firstHeaderOf, countsOf, atomOf, bondOf, entryNumberAt, entriesOf, listOf, propertyOf, nameOn, opened}
 use Rattle.judge_line.specs.Judge.{spaced, arrowed, headerOf, itemOf, valueOf}
 use Rattle.reader_tables.specs.Row.{flat}
 use Rattle.judge_file.specs.Place.{toBonds, toAtoms, lineOf, turnOf}
@@ -119,6 +119,6 @@ pub samples-read : map done samples ≡ samples
 unfolding columnsFor firstFrom badColumn inkColumn sameBytes lineTo lineAt ended split cut decimalAfter allDigits afterSpaces beforeSpaces digitsRead afterBlank integerIn
     ranged numberIn signedRanged signedIn pointRead beforePoint inked coordinateIn among symbolIn listed M.among M.numberIn M.atomsFrom M.meaning pairTaken then
     need numberAt signedAt elem listedAt elemSigned signedListedAt coordinateAt symbolAt spaceAt spacesFrom within begins contains firstHeaderOf countsOf atomOf
-    bondOf entryNumberAt entriesOf listOf propertyOf blankb nameOn opened spaced arrowed headerOf itemOf valueOf flat toBonds toAtoms lineOf turnOf run verdict
+    bondOf entryNumberAt entriesOf listOf propertyOf isBlank nameOn opened spaced arrowed headerOf itemOf valueOf flat toBonds toAtoms lineOf turnOf run verdict
     oneFrom oneRecord afterLines outcomeOf walkOf rowsIn answered atomsBy bondsBy readAs atomsAs bondsAs readOf atomsAfter bondsAfter
 samples-read = refl

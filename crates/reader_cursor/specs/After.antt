@@ -5,27 +5,23 @@ use mathlib.Core.Path.{_≡_, refl, sym, ap, ap₂, _∙_, subst}
 use mathlib.Core.List.{List, [], _∷_, _++_, append-nil, append-assoc}
 use mathlib.Core.Bool.{Bool, true, false}
 use lib.Dec.{ltb}
-use lib.ListN.{length, take, drop, length-drop, length-append, drop-of-length-le}
-use lib.Seq.{drop-drop, take-all}
+use lib.ListN.{length, drop, length-drop, length-append, drop-of-length-le}
+use lib.Seq.{drop-drop}
 use borrow.Author.Tests.{ne-eqb, ltb-true, ltb-false}
 use Rattle.text.specs.Text.{Bytes, Line}
-use Rattle.text.specs.Cut.{cut}
+use Rattle.text.specs.Cut.{cut, cut-is, few-lines}
 use Rattle.rules.specs.Record.{Raw, Parts1to5, Record, limit}
 use Rattle.judge_file.specs.Place.{sdfile}
 use Rattle.judge_file.specs.Verdict.{Verdict, verdict}
 use Rattle.judge_file.specs.One.{One, oneRecord}
 use Rattle.judge_file.specs.OneAgree.{one-whole, one-refused, one-short}
 use Rattle.judge_file.specs.Front.{record-front}
-use Rattle.judge_file.specs.WalkText.{afterLines, after-within, fileText, verdict-text, text-room, text-end, text-whole, text-refused, text-short}
+use Rattle.judge_file.specs.WalkText.{afterLines, fileText, verdict-text, text-room, text-end, text-whole, text-refused, text-short}
 use Rattle.reader_walk.specs.Outcome.{Outcome, whole, refused, ofOne, outcomeOf}
 use Rattle.reader_cursor.specs.declared.Cursor.{Cursor}
 use Rattle.reader_cursor.specs.Walk.{fresh, past, Countable, Walk, over, short, stopped, walkFrom, fileWalk, recordsOf, cursorOf, endedBy, verdictBy, stopAt}
 
 -- ---- The record at the front of a text
-
--- what is lent from place i on
-pub tail-is : (s : Bytes) (i : ℕ) → take (length s - i) (drop i s) ≡ drop i s
-tail-is s i = take-all (length s - i) (drop i s) (omega (arith, length-drop i s))
 
 some-line : {ls rest : List Line} {x : Raw} → Record limit ls x rest → 0 < length ls
 some-line (Record.record-of (Parts1to5.parts f g h l a b w q o) i) = omega arith
@@ -34,10 +30,6 @@ record-shorter : {ls rest : List Line} {x : Raw} → Record limit ls x rest → 
 record-shorter {rest = rest} r =
     let f = record-front r in
     omega (arith, ap length (f .parts), length-append (f .before) rest, some-line (f .any []), length-append (f .before) [])
-
--- a text has no more lines than bytes
-few-lines : (t : Bytes) → length (cut t .lines) ≤ length t
-few-lines t = let w = after-within t 0 (length (cut t .lines)) (omega arith) (omega arith) in omega (arith, w .0, w .1)
 
 module _ (t : Bytes) where
   -- a whole record has a line or more, no more lines than bytes, and lies within the text
@@ -52,12 +44,12 @@ module _ (t : Bytes) where
   refused-size e k column h =
       let f = one-refused limit (omega arith) (cut t .lines) e k column h .2 in
       let many : length (cut t .lines) ≡ length (f .before) + suc (length (f .after)) = ap length (f .whole) ∙ length-append (f .before) (f .l ∷ (f .after)) in
-      (omega (arith, f .line), omega (arith, f .line, few-lines t))
+      (omega (arith, f .line), omega (arith, f .line, few-lines (cut-is t)))
 
   pub short-size : (k : ℕ) → oneRecord limit (cut t .lines) ≡ One.short k → (1 ≤ k) × (k ≤ length t + 1)
   short-size k h =
       let f = one-short limit (omega arith) (cut t .lines) k h .0 in
-      (omega arith, omega (arith, few-lines t))
+      (omega arith, omega (arith, few-lines (cut-is t)))
 
 -- the record at the front, as its outcome tells of it
 abbrev pub Whole : Bytes → Raw → ℕ → Type 0

@@ -9,6 +9,7 @@ use borrow.Author.Tests.{eq-eqb, ne-eqb}
 use mir.Syntax.{w64}
 use mir.Val.{Fits}
 use Rattle.text.specs.Text.{Bytes}
+use Rattle.text.specs.Laws.{tail-is}
 use Rattle.rules.specs.Record.{Raw, limit, atomPlaces, bondPlaces}
 use Rattle.line_property.specs.Listed.{places}
 use Rattle.line_counts_bonds.specs.declared.Counts.{Counts}
@@ -20,7 +21,7 @@ use Rattle.reader_walk.specs.Walked.{walkedBy, walkOf, Left}
 use Rattle.reader_cursor.specs.declared.Cursor.{Cursor}
 use Rattle.reader_cursor.specs.declared.Ended.{Ended}
 use Rattle.reader_cursor.specs.Walk.{fresh, past, Countable, endedBy, fileWalk, stopAt}
-use Rattle.reader_cursor.specs.After.{After, after-start, after-over, after-next, after-less, after-fits, after-line, after-ended, tail-is}
+use Rattle.reader_cursor.specs.After.{After, after-start, after-over, after-next, after-less, after-fits, after-line, after-ended}
 
 -- ---- A step
 

@@ -5,7 +5,7 @@ use mathlib.Core.List.{List, [], _∷_, _++_, map}
 use lib.ListN.{take}
 use Rattle.text.specs.Text.{Bytes}
 use Rattle.text.specs.Columns.{columnsFor}
-use Rattle.text.specs.Find.{firstFrom, badColumn, inkColumn, sameBytes, lineTo, lineAt}
+use Rattle.text.specs.Find.{firstFrom, badColumn, inkColumn, sameBytes, lineTo, lineAt, isBlank}
 use Rattle.text.specs.Cut.{ended, split, cut}
 use Rattle.field_numbers.specs.Number.{decimalAfter}
 use Rattle.field_numbers.specs.Read.{allDigits, afterSpaces, beforeSpaces, digitsRead, afterBlank, integerIn, ranged, numberIn, signedRanged, signedIn}
@@ -15,7 +15,7 @@ use Rattle.rules.specs.Record.{listed}
 use Rattle.judge_pairs.specs.Taken.{pairTaken}
 use Rattle.judge_line.specs.Got.{then, need}
 use Rattle.judge_line.specs.Field.{numberAt, signedAt, elem, listedAt, elemSigned, signedListedAt, coordinateAt, symbolAt, spaceAt, spacesFrom, within}
-use Rattle.judge_line.specs.Judge.{begins, contains, firstHeaderOf, countsOf, atomOf, bondOf, entryNumberAt, entriesOf, listOf, propertyOf, blankb, nameOn, opened}
+use Rattle.judge_line.specs.Judge.{begins, contains, firstHeaderOf, countsOf, atomOf, bondOf, entryNumberAt, entriesOf, listOf, propertyOf, nameOn, opened}
 use Rattle.judge_line.specs.Judge.{spaced, arrowed, headerOf, itemOf, valueOf}
 use Rattle.judge_file.specs.Place.{toBonds, toAtoms, lineOf, turnOf}
 use Rattle.judge_file.specs.One.{oneFrom, oneRecord}
@@ -59,6 +59,6 @@ pub samples-said : map (λ s. counterSays (s .room) (s .text)) samples ≡ map (
 unfolding columnsFor firstFrom badColumn inkColumn lineTo lineAt ended split cut decimalAfter allDigits afterSpaces beforeSpaces digitsRead afterBlank integerIn ranged numberIn
     signedRanged signedIn pointRead beforePoint inked coordinateIn sameBytes among symbolIn listed pairTaken then need
     numberAt signedAt elem listedAt elemSigned signedListedAt coordinateAt symbolAt spaceAt spacesFrom within begins contains firstHeaderOf countsOf atomOf
-    bondOf entryNumberAt entriesOf listOf propertyOf blankb nameOn opened spaced arrowed headerOf itemOf valueOf toBonds toAtoms lineOf turnOf oneFrom oneRecord afterLines
+    bondOf entryNumberAt entriesOf listOf propertyOf isBlank nameOn opened spaced arrowed headerOf itemOf valueOf toBonds toAtoms lineOf turnOf oneFrom oneRecord afterLines
     pieceOf saysFrom counterSays
 samples-said = refl

@@ -18,7 +18,7 @@ use Rattle.judge_file.specs.Place.{sdfile, Place, first, Turn, next, done, turn
 use Rattle.judge_file.specs.One.{One, oneFrom, oneRecord}
 use Rattle.judge_file.specs.OneAgree.{one-whole}
 use Rattle.judge_file.specs.WalkText.{afterLines, after-none, after-next}
-use Rattle.reader_walk.specs.Outcome.{one-next, one-done, one-bad}
+use Rattle.judge_file.specs.OneRun.{one-next, one-done, one-stop}
 use Rattle.reader_feed.specs.Fed.{Piece, pieceBy, pieceOf}
 
 -- ---- The lines of a longer text begin with those of the shorter one
@@ -93,9 +93,9 @@ one-keeps p i (l ∷ ls) ms = go (λ q. one-keeps q (suc i) ls ms) (turnOf sdfil
   where
     go : ((q : Place) → Keeps (oneFrom limit q (suc i) ls) ms (oneFrom limit q (suc i) (ls ++ ms))) → (g : Got Turn) → turnOf sdfile limit p l ≡ g →
         Keeps (oneFrom limit p i (l ∷ ls)) ms (oneFrom limit p i (l ∷ (ls ++ ms)))
-    go r (got (next q)) e = rw (one-next p q i l ls e, one-next p q i l (ls ++ ms) e) (r q)
-    go r (got (done x)) e = rw (one-done p x i l ls e) (one-done p x i l (ls ++ ms) e)
-    go r (bad n c) e = rw (one-bad p i l ls n c e) (one-bad p i l (ls ++ ms) n c e)
+    go r (got (next q)) e = rw (one-next limit p q i l ls e, one-next limit p q i l (ls ++ ms) e) (r q)
+    go r (got (done x)) e = rw (one-done limit p x i l ls e) (one-done limit p x i l (ls ++ ms) e)
+    go r (bad n c) e = rw (one-stop limit p i l ls n c e) (one-stop limit p i l (ls ++ ms) n c e)
 
 -- ---- What the record at the front says of the lines
 

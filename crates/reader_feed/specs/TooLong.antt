@@ -13,6 +13,7 @@ use Rattle.text.specs.Text.{Bytes, Line, LF, Each, Ended, Lines}
 use Rattle.text.specs.Cut.{Cut, cut, cut-is, lines-cut, lines-same}
 use Rattle.rules.specs.Record.{Raw, Record, SDfile, GoodSDfile, limit}
 use Rattle.rules.specs.Viable.{Viable, ARecord, first-dead}
+use Rattle.rules.specs.PartLaws.{file-record}
 use Rattle.judge_file.specs.One.{One, oneRecord}
 use Rattle.judge_file.specs.OneAgree.{one-whole, one-refused, one-short}
 use Rattle.judge_file.specs.Front.{record-front}
@@ -72,9 +73,6 @@ record-piece {s = s} {ls = ls} {x = x} p r =
     let is : cut s .lines ≡ ls = ap (λ (c : Cut). c .lines) (lines-cut p) in
     let one : oneRecord limit (cut s .lines) ≡ One.whole x (length ls) [] = ap (oneRecord limit) is ∙ one-whole limit ls x (length ls) [] .1 (r, omega arith) in
     one-piece s (One.whole x (length ls) []) one ∙ ap (λ (n : ℕ). Piece.Whole n (length ls)) (lines-all p)
-
-file-record : {ls : List Line} {x : Raw} → SDfile limit ls (x ∷ []) → Record limit ls x []
-file-record (SDfile.more r SDfile.none) = r
 
 good-piece : (s : Bytes) (x : Raw) → GoodSDfile s (x ∷ []) → (k : ℕ) × (pieceOf s ≡ Piece.Whole (length s) k)
 good-piece s x g = (length (g .0), record-piece (g .1) (file-record (g .2)))

@@ -9,6 +9,7 @@ use lib.ListN.{length, take, drop, length-drop}
 use lib.IntN.{ℤ}
 use borrow.Author.Tests.{lt-ltb, le-ltb, le-leb, lt-leb, ltb-true, ltb-false, leb-true, leb-false}
 use Rattle.text.specs.Text.{Bytes}
+use Rattle.text.specs.Laws.{tail-is}
 use Rattle.rules.specs.Record.{atomPlaces, bondPlaces}
 use Rattle.judge_file.specs.Place.{sdfile}
 use Rattle.judge_file.specs.WalkText.{afterLines}
@@ -16,7 +17,7 @@ use Rattle.reader_walk.specs.Outcome.{Outcome, whole, refused, outcomeOf}
 use Rattle.reader_walk.specs.Walked.{walkedBy, walkOf}
 use Rattle.reader_cursor.specs.declared.Cursor.{Cursor}
 use Rattle.reader_cursor.specs.Walk.{past, Countable}
-use Rattle.reader_cursor.specs.After.{tail-is, outcome-size, outcome-line}
+use Rattle.reader_cursor.specs.After.{outcome-size, outcome-line}
 use Rattle.reader_answer.specs.declared.RecordRead.{RecordRead}
 use Rattle.reader_answer.specs.Read.{answered, readAs, readOf, atomsAfter, bondsAfter}
 use Rattle.reader_file.specs.declared.Next.{Next}

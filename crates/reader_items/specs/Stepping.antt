@@ -5,17 +5,17 @@ use mathlib.Core.Path.{_≡_, refl, sym, ap, _∙_, subst}
 use mathlib.Core.List.{List, [], _∷_}
 use mathlib.Core.Bool.{Bool, true, false, cond}
 use lib.Dec.{leb}
-use lib.ListN.{length, take, drop, length-take, length-drop, length-append}
+use lib.ListN.{length, take, drop, length-take, length-drop}
 use lib.Seq.{drop-drop, take-take}
-use Rattle.text.specs.Text.{Bytes, Line, LF, Lines, bytes}
-use Rattle.text.specs.Find.{badColumn}
+use Rattle.text.specs.Text.{Bytes, Line, bytes}
+use Rattle.text.specs.Find.{badColumn, isBlank}
 use Rattle.text.specs.declared.Found.{Found}
-use Rattle.text.specs.Cut.{Cut, cut, line-within}
+use Rattle.text.specs.Cut.{Cut, cut, line-within, few-lines}
 use Rattle.rules.specs.Forms.{DataHeader}
 use Rattle.rules.specs.Record.{Item, Raw, Items, Record, limit}
 use Rattle.judge_line.specs.Got.{Got, got, bad, then, need}
 use Rattle.judge_line.specs.Field.{noneFound, within}
-use Rattle.judge_line.specs.Judge.{HeaderRead, named, none, begins, blankb, headerOf, titleGot, isClose, close, itemOf, blank, notHeader, valueOf}
+use Rattle.judge_line.specs.Judge.{HeaderRead, named, none, begins, headerOf, titleGot, isClose, close, itemOf, blank, notHeader, valueOf}
 use Rattle.judge_refusals.specs.Tells.{tells-bad}
 use Rattle.judge_file.specs.Place.{sdfile}
 use Rattle.judge_file.specs.One.{One, oneRecord}
@@ -131,11 +131,6 @@ pub record ItemWithin (s : Bytes) (at a b n k : ℕ) : Type 0 where
   pub onward : at + k ≤ n
   pub inside : n ≤ length s
 
--- each line takes a byte or more
-few-lines : {text rest : Bytes} {ls : List Line} → Lines text ls rest → length ls ≤ length text
-few-lines (Lines.unfinished f) = omega arith
-few-lines (Lines.line {bs = bs} {more = more} e f h p) = omega (arith, ap length e, length-append bs (LF ∷ more), few-lines p)
-
 behind-on : {s : Bytes} {at : ℕ} {ls u : List Line} {n k : ℕ} → Behind s at ls u n k → at + k ≤ n
 behind-on {s = s} {at = at} {n = n} b = omega (arith, few-lines (b .whole), b .many, b .low, length-take (n - at) (drop at s))
 
@@ -196,7 +191,7 @@ item-low l e c h = go (isClose l) (headerOf l) h
 
 value-low : (l : Line) (e c : ℕ) → valueOf l ≡ bad e c → 3 ≤ e
 unfolding valueOf
-value-low l e c h = go (blankb l) (begins (bytes "$$$$") l) (headerOf l) h
+value-low l e c h = go (isBlank l) (begins (bytes "$$$$") l) (headerOf l) h
   where
     go : (t u : Bool) (x : HeaderRead) → cond t (got blank) (cond u (bad 17 1) (notHeader x)) ≡ bad e c → 3 ≤ e
     go true u x h = absurd (let z : _≡_ {A = ℕ} 0 1 = cc in omega arith)

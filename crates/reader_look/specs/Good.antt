@@ -13,6 +13,7 @@ use Rattle.text.specs.Text.{Bytes, Line, bytes, Each}
 use Rattle.text.specs.Columns.{column, columns, columnsFor, spaces}
 use Rattle.text.specs.Find.{sameBytes}
 use Rattle.text.specs.Cut.{cut}
+use Rattle.text.specs.Laws.{false-true}
 use Rattle.field_numbers.specs.Number.{Digit, Digits, Integer}
 use Rattle.field_coordinates.specs.Coordinate.{Coordinate}
 use Rattle.rules.specs.Forms.{Atom, Bond, Kind, CHG, RAD, ISO, tag, Property, PropertyLine, DataHeader, RecordEnd}
@@ -60,9 +61,6 @@ spaced-digits i c cs ds rest k d h = go (led i c cs (ds ++ rest) h)
     go : (c ≡ 32) ⊎ (c ∷ cs ≡ ds ++ rest) → Dull c
     go (inl e) = dull-space c e
     go (inr e) = digits-first ds rest cs c k d e
-
-false-true : {X : Type 0} → false ≡ true → X
-false-true h = absurd (let z : _≡_ {A = ℕ} 0 1 = cc in omega arith)
 
 all-spaces : (i c : ℕ) (cs : Bytes) → c ∷ cs ≡ spaces i → Dull c
 all-spaces zero c cs h = absurd (omega (arith, ap length h))

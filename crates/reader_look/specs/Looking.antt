@@ -13,6 +13,7 @@ use Rattle.text.specs.Columns.{column}
 use Rattle.text.specs.Find.{lineAt, sameBytes}
 use Rattle.text.specs.Cut.{line-within}
 use Rattle.text.specs.declared.LineAt.{LineAt}
+use Rattle.text.specs.Laws.{true-false}
 use Rattle.reader_items.specs.Promise.{Stepped}
 use Rattle.reader_items.specs.Stepping.{ItemWithin, item-within, end-within}
 use Rattle.reader_items.specs.declared.ItemAt.{ItemAt}
@@ -193,9 +194,6 @@ module _ (s : Bytes) (x : Reached) (p : Reaches s 0 0 x) (a k : ℕ) (q : x ≡ 
 
 -- ---- One answer
 
-apart : {X : Type 0} → true ≡ false → X
-apart h = absurd (let z : _≡_ {A = ℕ} 0 1 = cc in omega arith)
-
 ends-apart : {X : Type 0} {e n : ℕ} → LineAt.Line e n ≡ LineAt.Unfinished → X
 ends-apart h = absurd (let z : _≡_ {A = ℕ} 0 1 = cc in omega arith)
 
@@ -209,9 +207,9 @@ module _ (s : Bytes) where
 
   pub reaches-one : {at lines : ℕ} {r q : Reached} → Reaches s at lines r → Reaches s at lines q → r ≡ q
   reaches-one (Reaches.here l t) (Reaches.here k u) = refl
-  reaches-one {at = at} {lines = lines} (Reaches.here {e = e} {n = n} l t) (Reaches.on {e = e′} {n = n′} k u p) = apart (sym t ∙ begins-as at lines e n e′ n′ l k ∙ u)
+  reaches-one {at = at} {lines = lines} (Reaches.here {e = e} {n = n} l t) (Reaches.on {e = e′} {n = n′} k u p) = true-false (sym t ∙ begins-as at lines e n e′ n′ l k ∙ u)
   reaches-one (Reaches.here l t) (Reaches.beyond k) = ends-apart (sym l ∙ k)
-  reaches-one {at = at} {lines = lines} (Reaches.on {e = e} {n = n} l t p) (Reaches.here {e = e′} {n = n′} k u) = apart (sym u ∙ begins-as at lines e′ n′ e n k l ∙ t)
+  reaches-one {at = at} {lines = lines} (Reaches.on {e = e} {n = n} l t p) (Reaches.here {e = e′} {n = n′} k u) = true-false (sym u ∙ begins-as at lines e′ n′ e n k l ∙ t)
   reaches-one {at = at} {lines = lines} {q = r} (Reaches.on l t p) (Reaches.on k u q) = reaches-one p (subst (λ (i : ℕ). Reaches s i (lines + 1) r) (next-as at k l) q)
   reaches-one (Reaches.on l t p) (Reaches.beyond k) = ends-apart (sym l ∙ k)
   reaches-one (Reaches.beyond l) (Reaches.here k u) = ends-apart (sym k ∙ l)

@@ -9,10 +9,11 @@ use lib.Dec.{eqb, ltb}
 use lib.ListN.{length, getD, take, drop, drop-of-length-le}
 use lib.Seq.{drop-cons, getD-take, length-take-le}
 use borrow.Author.Tests.{eq-eqb, ne-eqb, eqb-true, eqb-false, ltb-true, ltb-false}
+use Rattle.text.specs.Laws.{true-false}
 use Rattle.rules.specs.Forms.{Bond}
 use Rattle.rules.specs.Record.{SamePair, along, against}
 use Rattle.judge_pairs.specs.Taken.{samePair, pairTaken}
-use Rattle.judge_pairs.specs.Agree.{true-false, same-sound, same-complete}
+use Rattle.judge_pairs.specs.Agree.{same-sound, same-complete}
 use Rattle.judge_pairs.specs.Compared.{FirstSame}
 use Rattle.judge_line.specs.Field.{elem}
 

@@ -9,6 +9,7 @@ use lib.Dec.{eqb}
 use lib.ListN.{length, getD, take, drop, set, drop-of-length-le}
 use lib.Seq.{take-suc-set, getD-take, length-take-le}
 use borrow.Author.Tests.{eq-eqb}
+use Rattle.text.specs.Laws.{true-false}
 use Rattle.rules.specs.Forms.{Bond}
 use Rattle.rules.specs.Record.{limit}
 use Rattle.sets_words.specs.Bits.{hasBit, inRow}
@@ -107,9 +108,6 @@ elem-at key (x ∷ xs) (suc k) h e = go (eqb key x) (elem-at key xs k (omega ari
     go true r = refl
     go false r = r
 
-apart : {A : Type 0} → true ≡ false → A
-apart e = absurd (let z : _≡_ {A = ℕ} 0 1 = cc in omega arith)
-
 new-missed : (ws keys : List ℕ) (count key : ℕ) → elem key (take count keys) ≡ false → count ≤ length keys → Searching keys key count count
 unfolding elem
 new-missed ws keys count key e room =
@@ -117,7 +115,7 @@ new-missed ws keys count key e room =
       within = omega arith;
       room = room;
       same = e ∙ sym (ap (elem key) (drop-of-length-le (take count keys) {i = count} (omega (arith, length-take-le count keys room))));
-      missed = record { none = λ k low high q. apart (sym (elem-at key (take count keys) k (omega (arith, length-take-le count keys room)) (getD-take count keys k 0 high ∙ q)) ∙ e) };
+      missed = record { none = λ k low high q. true-false (sym (elem-at key (take count keys) k (omega (arith, length-take-le count keys room)) (getD-take count keys k 0 high ∙ q)) ∙ e) };
     }
 
 pub new-none : (ws keys : List ℕ) (count key : ℕ) (t : Bool) → Asking ws keys count key → t ≡ newIn ws key → t ≡ true → Searching keys key count count
@@ -125,11 +123,11 @@ unfolding newIn
 new-none ws keys count key t g e h = go (eqb (length ws) 0) refl (hasBit ws (inRow (key / 1024) (key % 1024))) refl (sym h ∙ e)
   where
     nonzero : eqb (length ws) 0 ≡ false → length ws ≡ 0 → ⊥
-    nonzero q z = apart (sym (eq-eqb (length ws) 0 z) ∙ q)
+    nonzero q z = true-false (sym (eq-eqb (length ws) 0 z) ∙ q)
 
     go : (s : Bool) → eqb (length ws) 0 ≡ s → (u : Bool) → hasBit ws (inRow (key / 1024) (key % 1024)) ≡ u → true ≡ cond s false (not u) → Searching keys key count count
-    go true es u eu q = apart q
-    go false es true eu q = apart q
+    go true es u eu q = true-false q
+    go false es true eu q = true-false q
     go false es false eu q = new-missed ws keys count key (sym (g .tells (nonzero es)) ∙ eu) (omega (arith, g .few, g .key-room))
 
 -- ---- Rows and list say the same pairs

@@ -9,12 +9,12 @@ use lib.IntN.{ℤ, pos}
 use mir.Val.{SFits, toZ, ofZ}
 use mir.Syntax.{w32}
 use mir.Facts.{toZ-pos}
+use Rattle.text.specs.Laws.{sets-append}
 use Rattle.line_fields.specs.Steps.{hop}
 use Rattle.line_atom.specs.Answer.{atomIs}
 use Rattle.line_atom.specs.declared.Atom.{Atom}
 use Rattle.reader_tables.specs.Row.{rawRow}
 use Rattle.reader_tables.specs.Parts.{placeRow, codesRow, restRow}
-use Rattle.reader_tables.specs.Held.{sets-append}
 
 -- a signed number as a local holds it
 abbrev pub held : ℤ → ℤ

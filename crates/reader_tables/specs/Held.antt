@@ -17,11 +17,6 @@ pub drop-sets : (vs t : List ℤ) (i k : ℕ) → i + length vs ≤ k → drop k
 drop-sets [] t i k h = refl
 drop-sets (v ∷ vs) t i k h = drop-sets vs (set t i v) (suc i) k (omega arith) ∙ drop-set-lt k t i v (omega arith)
 
--- stores that follow each other
-pub sets-append : (xs ys t : List ℤ) (i : ℕ) → sets t i (xs ++ ys) ≡ sets (sets t i xs) (i + length xs) ys
-sets-append [] ys t i = let e : i + 0 ≡ i = omega arith in rw e
-sets-append (x ∷ xs) ys t i = let e : i + suc (length xs) ≡ suc i + length xs = omega arith in sets-append xs ys (set t i x) (suc i) ∙ rw e
-
 -- what the table begins with, and so many numbers more
 pub holds-more : (t vs ws : List ℤ) → Holds t vs → length vs + length ws ≤ length t → Holds (sets t (length vs) ws) (vs ++ ws)
 holds-more t vs ws e h =

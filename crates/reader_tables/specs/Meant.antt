@@ -16,12 +16,12 @@ use Rattle.rules.specs.Record.{Molecule, listed}
 use Rattle.rules.specs.Meaning.{among, numberIn, massDifferenceOf, chargeOf, radicalOf, isotopeOf, atomNumbers, atomsFrom}
 use Rattle.rules.specs.Entries.{not-among}
 use Rattle.line_property.specs.Listed.{base, noted, notedIn, Shows}
-use Rattle.line_property.specs.Shown.{noted-some}
 use Rattle.reader_tables.specs.Row.{rawRow, rawRows, flat, Holds}
 use Rattle.reader_tables.specs.Held.{drop-sets}
 use Rattle.reader_tables.specs.Mean.{anyAfter, anyListed, supersededIn, numberKept, listedNumber, Kept, fourOf, meantRow, meantFrom, meant}
 use Rattle.reader_tables.specs.declared.Superseded.{Superseded}
 use Rattle.line_property.specs.Proper.{ProperEntries, Proper, listed-proper, some-listed}
+use Rattle.line_property.specs.Seen.{noted-some}
 
 -- ---- numbers kept
 
@@ -87,7 +87,7 @@ module _ (n : ℕ) (t : List ℕ) (ps : List Property) (shows : Shows n t ps) (p
   first-listed kind [] q h s = absurd (omega arith)
   first-listed kind (e ∷ es) q h s =
       any-some (base kind) t n (e .atom) (h .0 .low) (h .0 .high)
-      (rw (shows .each kind (e .atom) (h .0 .high), q, eq-eqb (e .atom) (e .atom) refl) (noted-some (e .number) (h .0 .range)))
+      (rw (shows .each kind (e .atom) (h .0 .high), q, eq-eqb (e .atom) (e .atom) refl) (noted-some 999 (e .number) (h .0 .range)))
 
   pub shows-any : (kind : Kind) → anyListed kind t n ≡ among kind ps
   unfolding notedIn

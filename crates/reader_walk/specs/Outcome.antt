@@ -16,6 +16,7 @@ use Rattle.judge_file.specs.From.{alone}
 use Rattle.judge_file.specs.Runs.{run-next, run-stop}
 use Rattle.judge_file.specs.Takes.{Takes, turn-takes}
 use Rattle.judge_file.specs.Sound.{Sound, sound-takes}
+use Rattle.judge_file.specs.OneRun.{one-next, one-done, one-stop}
 
 pub data Outcome : Type 0 where
   whole : Raw → ℕ → Outcome  -- the record, and how many lines it takes
@@ -80,18 +81,6 @@ module _ (kind : FileKind) where
 
 -- ---- It is the same
 
-pub one-next : (p q : Place) (i : ℕ) (l : Line) (t : List Line) → turnOf sdfile limit p l ≡ got (next q) → oneFrom limit p i (l ∷ t) ≡ oneFrom limit q (suc i) t
-unfolding oneFrom
-one-next p q i l t e = rw (e, oneFrom)
-
-pub one-done : (p : Place) (x : Raw) (i : ℕ) (l : Line) (t : List Line) → turnOf sdfile limit p l ≡ got (done x) → oneFrom limit p i (l ∷ t) ≡ One.whole x i t
-unfolding oneFrom
-one-done p x i l t e = rw (e, oneFrom)
-
-pub one-bad : (p : Place) (i : ℕ) (l : Line) (t : List Line) (e c : ℕ) → turnOf sdfile limit p l ≡ bad e c → oneFrom limit p i (l ∷ t) ≡ One.refused e i c
-unfolding oneFrom
-one-bad p i l t e c h = rw (h, oneFrom)
-
 sd-from : (p : Place) (i : ℕ) (ls : List Line) (rest : Bytes) → ofOne (oneFrom limit p i ls) ≡ recordFrom sdfile p i ls rest
 unfolding oneFrom recordFrom
 sd-from p i [] rest = refl
@@ -99,9 +88,9 @@ sd-from p i (l ∷ ls) rest = go (λ q. sd-from q (suc i) ls rest) (turnOf sdfil
   where
     go : ((q : Place) → ofOne (oneFrom limit q (suc i) ls) ≡ recordFrom sdfile q (suc i) ls rest) → (g : Got Turn) → turnOf sdfile limit p l ≡ g →
         ofOne (oneFrom limit p i (l ∷ ls)) ≡ recordFrom sdfile p i (l ∷ ls) rest
-    go r (got (next q)) e = ap ofOne (one-next p q i l ls e) ∙ r q ∙ sym (from-next sdfile p q i l ls rest e)
-    go r (got (done x)) e = ap ofOne (one-done p x i l ls e) ∙ sym (from-done sdfile p x i l ls rest e)
-    go r (bad n c) e = ap ofOne (one-bad p i l ls n c e) ∙ sym (from-bad sdfile p i l ls rest n c e)
+    go r (got (next q)) e = ap ofOne (one-next limit p q i l ls e) ∙ r q ∙ sym (from-next sdfile p q i l ls rest e)
+    go r (got (done x)) e = ap ofOne (one-done limit p x i l ls e) ∙ sym (from-done sdfile p x i l ls rest e)
+    go r (bad n c) e = ap ofOne (one-stop limit p i l ls n c e) ∙ sym (from-bad sdfile p i l ls rest n c e)
 
 mol-end : (p : Place) (rest : Bytes) (k i : ℕ) → suc k ≡ i → ofVerdict k (finish molfile p [] rest i) ≡ endAt molfile p rest i
 mol-end p (b ∷ rest) k i e = refl

@@ -22,7 +22,7 @@ use Rattle.rules.specs.CanonBack.{canon-back}
 use Rattle.rules.specs.Texts.{sdfile-text}
 use Rattle.rules.specs.Unique.{one-sdfile}
 
-sized : (least most : ℕ) (z : ℤ) → FromTo least most z → (least ≤ natAbs z) × (natAbs z ≤ most)
+pub sized : (least most : ℕ) (z : ℤ) → FromTo least most z → (least ≤ natAbs z) × (natAbs z ≤ most)
 sized least most (pos k) h = h
 sized least most (negsuc k) h = absurd h
 

@@ -7,10 +7,26 @@ use mathlib.Core.Bool.{Bool, true, false, cond, _||_}
 use lib.ListN.{length, take, drop, take-append-drop, length-drop}
 use lib.IntN.{ℤ, pos, negsuc}
 use borrow.Author.Tests.{eqb-true, eq-eqb, ne-eqb}
+use Rattle.text.specs.Laws.{false-true}
 use Rattle.rules.specs.Forms.{Kind, CHG, RAD, ISO, sameKind, Entry, Property}
 use Rattle.rules.specs.Record.{listed, NotListed, NoAtomTwice}
 use Rattle.rules.specs.Meaning.{among, numberIn}
 use Rattle.rules.specs.Canon.{atomRow, isZero, numberOf, entriesFrom, eights, linesOf, propertiesOf}
+
+-- the atoms of these entries
+abbrev pub atomsOf : List Entry → List ℕ
+atomsOf es = map (λ e. e .atom) es
+
+pub kinds-same : (j k : Kind) → sameKind j k ≡ true → j ≡ k
+kinds-same CHG CHG h = refl
+kinds-same CHG RAD h = false-true h
+kinds-same CHG ISO h = false-true h
+kinds-same RAD CHG h = false-true h
+kinds-same RAD RAD h = refl
+kinds-same RAD ISO h = false-true h
+kinds-same ISO CHG h = false-true h
+kinds-same ISO RAD h = false-true h
+kinds-same ISO ISO h = refl
 
 -- ---- What lines list
 
@@ -124,7 +140,7 @@ unfolding NotListed numberIn
 not-listed j [] h = refl
 not-listed j (e ∷ es) h = rw (ne-eqb (e .atom) j (λ p. h .0 (sym p))) (not-listed j es (h .1))
 
-is-zero : (z : ℤ) → isZero z ≡ true → z ≡ pos 0
+pub is-zero : (z : ℤ) → isZero z ≡ true → z ≡ pos 0
 is-zero (pos k) h = ap pos (eqb-true k 0 h)
 is-zero (negsuc k) h = absurd (let z : _≡_ {A = ℕ} 0 1 = cc in omega arith)
 

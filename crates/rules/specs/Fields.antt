@@ -65,9 +65,9 @@ field-after a (f ∷ fs) (w ∷ ws) (suc k) i j h l p q =
     (field-after (a ++ f) fs ws k i j (h .1) (omega arith) (omega arith) (omega arith))
 
 -- the columns of field k
-pub field-at : (fs : List Bytes) (ws : List ℕ) (k : ℕ) → Fields fs ws → k < length fs →
+pub field-at : (fs : List Bytes) (ws : List ℕ) → Fields fs ws → (k : ℕ) → k < length fs →
     columns (joined fs) (suc (upto k ws)) (upto (suc k) ws) ≡ getD fs k []
-field-at fs ws k h l = field-after [] fs ws k (suc (upto k ws)) (upto (suc k) ws) h l (omega arith) (omega arith)
+field-at fs ws h k l = field-after [] fs ws k (suc (upto k ws)) (upto (suc k) ws) h l (omega arith) (omega arith)
 
 -- ---- Columns that hold a written number
 

@@ -8,6 +8,7 @@ pub mod Canon
 pub mod Samples
 -- What follows from it: a text has one reading
 pub mod OneForm
+pub mod PartLaws
 pub mod Unique
 -- canonical lines stand for the reading they are written for
 pub mod After

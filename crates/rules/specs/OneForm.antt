@@ -45,7 +45,7 @@ one-bond p q = λ i. record {
 }
 
 -- ---- property lines
-one-kind : (l : Line) (j k : Kind) → Has l 1 6 (tag j) → Has l 1 6 (tag k) → j ≡ k
+pub one-kind : (l : Line) (j k : Kind) → Has l 1 6 (tag j) → Has l 1 6 (tag k) → j ≡ k
 one-kind l CHG CHG p q = refl
 one-kind l RAD RAD p q = refl
 one-kind l ISO ISO p q = refl
@@ -56,7 +56,7 @@ one-kind l RAD ISO p q = let e : bytes "M  RAD" ≡ bytes "M  ISO" = sym p ∙ q
 one-kind l ISO CHG p q = let e : bytes "M  ISO" ≡ bytes "M  CHG" = sym p ∙ q in absurd (let z : _≡_ {A = ℕ} 73 67 = cc in omega arith)
 one-kind l ISO RAD p q = let e : bytes "M  ISO" ≡ bytes "M  RAD" = sym p ∙ q in absurd (let z : _≡_ {A = ℕ} 73 82 = cc in omega arith)
 
-no-end : {X : Type 0} (l : Line) (k : Kind) → Has l 1 6 (tag k) → Has l 1 6 "M  END" → X
+pub no-end : {X : Type 0} (l : Line) (k : Kind) → Has l 1 6 (tag k) → Has l 1 6 "M  END" → X
 no-end l CHG p q = let e : bytes "M  CHG" ≡ bytes "M  END" = sym p ∙ q in absurd (let z : _≡_ {A = ℕ} 67 69 = cc in omega arith)
 no-end l RAD p q = let e : bytes "M  RAD" ≡ bytes "M  END" = sym p ∙ q in absurd (let z : _≡_ {A = ℕ} 82 69 = cc in omega arith)
 no-end l ISO p q = let e : bytes "M  ISO" ≡ bytes "M  END" = sym p ∙ q in absurd (let z : _≡_ {A = ℕ} 73 69 = cc in omega arith)

@@ -3,7 +3,7 @@
 use Prim.Native.Nat.{ℕ}
 use Prim.Native.String.{String}
 use mathlib.Core.Path.{_≡_}
-use mathlib.Core.List.{List, [], _∷_, map}
+use mathlib.Core.List.{List, [], _∷_, _++_, map}
 use lib.ListN.{length}
 use lib.IntN.{ℤ, pos, negsuc}
 use Rattle.text.specs.Text.{bytes}
@@ -39,6 +39,10 @@ atom x y symbol charge = atomWith x y symbol (pos 0) charge 0 0
 abbrev pub carbon : ℤ → ℤ → ℕ → ℕ → List ℤ
 carbon mass charge radical isotope = atomWith (pos 0) (pos 0) 6 mass charge radical isotope
 
+-- with a charge alone
+abbrev pub charged : ℤ → List ℤ
+charged charge = carbon (pos 0) charge 0 0
+
 abbrev pub bond : ℕ → ℕ → List ℤ
 bond a b = pos a ∷ pos b ∷ pos 1 ∷ pos 0 ∷ pos 0 ∷ pos 0 ∷ []
 
@@ -54,68 +58,48 @@ reading first third atoms bonds items =
       items = items;
     }
 
+-- atoms alone
+abbrev pub atomsOnly : String → List (List ℤ) → Reading
+atomsOnly first atoms = reading first "" atoms [] []
+
+-- charges of +3 to +1 and of -1 to -3
+abbrev pub plusCharges : List (List ℤ)
+plusCharges = charged (pos 3) ∷ charged (pos 2) ∷ charged (pos 1) ∷ []
+
+abbrev pub minusCharges : List (List ℤ)
+minusCharges = charged (negsuc 0) ∷ charged (negsuc 1) ∷ charged (negsuc 2) ∷ []
+
 -- the codes from 0 to 7
 abbrev pub codes : Reading
-codes =
-    reading "codes" "" (
-    carbon (pos 1) (pos 0) 0 0 ∷
-    carbon (pos 0) (pos 3) 0 0 ∷
-    carbon (pos 0) (pos 2) 0 0 ∷
-    carbon (pos 0) (pos 1) 0 0 ∷
-    carbon (pos 0) (pos 0) 2 0 ∷
-    carbon (pos 0) (negsuc 0) 0 0 ∷
-    carbon (pos 0) (negsuc 1) 0 0 ∷
-    carbon (pos 0) (negsuc 2) 0 0 ∷ []
-    ) [] []
+codes = atomsOnly "codes" (carbon (pos 1) (pos 0) 0 0 ∷ (plusCharges ++ (carbon (pos 0) (pos 0) 2 0 ∷ minusCharges)))
 
 -- the first atom is listed; the second loses its charge, the third its radical
 abbrev pub unlisted : Reading
-unlisted = reading "unlisted" "" (carbon (pos 0) (pos 1) 0 0 ∷ carbon (pos 0) (pos 0) 0 0 ∷ carbon (pos 0) (pos 0) 0 0 ∷ []) [] []
+unlisted = atomsOnly "unlisted" (charged (pos 1) ∷ charged (pos 0) ∷ charged (pos 0) ∷ [])
 
 -- the first atom loses the charge of its code and its mass difference; the second loses its radical
 abbrev pub superseded : Reading
-superseded = reading "superseded" "" (carbon (pos 0) (pos 0) 3 13 ∷ carbon (pos 0) (pos 0) 0 0 ∷ []) [] []
+superseded = atomsOnly "superseded" (carbon (pos 0) (pos 0) 3 13 ∷ charged (pos 0) ∷ [])
 
 -- one radical is listed: the first atom loses the charge of its code, the second the radical
 abbrev pub uncharged : Reading
-uncharged = reading "uncharged" "" (carbon (pos 0) (pos 0) 1 0 ∷ carbon (pos 0) (pos 0) 0 0 ∷ []) [] []
+uncharged = atomsOnly "uncharged" (carbon (pos 0) (pos 0) 1 0 ∷ charged (pos 0) ∷ [])
 
 -- charges that codes have and one that they do not have, a radical alone, a radical beside a charge, a radical that codes do not have, an isotope
 abbrev pub mixed : Reading
 mixed =
-    reading "mixed" "" (
-    carbon (pos 0) (pos 3) 0 0 ∷
-    carbon (pos 0) (pos 2) 0 0 ∷
-    carbon (pos 0) (pos 1) 0 0 ∷
-    carbon (pos 0) (negsuc 0) 0 0 ∷
-    carbon (pos 0) (negsuc 1) 0 0 ∷
-    carbon (pos 0) (negsuc 2) 0 0 ∷
-    carbon (pos 0) (pos 4) 0 0 ∷
+    atomsOnly "mixed" (
+    plusCharges ++ (
+    minusCharges ++ (
+    charged (pos 4) ∷
     carbon (pos 0) (pos 0) 2 0 ∷
     carbon (pos 0) (pos 1) 2 0 ∷
     carbon (pos 0) (pos 0) 3 0 ∷
     carbon (pos 0) (pos 0) 0 13 ∷
-    carbon (pos 0) (negsuc 14) 0 0 ∷ []
-    ) [] []
+    charged (negsuc 14) ∷ []))
+    )
 
 -- ---- The samples
-
--- the record of thirteen lines, for tables elsewhere
-abbrev pub drumLines : List String
-drumLines =
-    "AB-00417" ∷
-    "" ∷
-    "drum 3" ∷
-    "  2  1  0  0  0  0  0  0  0  0999 V2000" ∷
-    "    0.0000    0.0000    0.0000 C   0  0  0  0  0  0  0  0  0  0  0  0" ∷
-    "    1.2500   -0.8250    0.0000 O   0  5  0  0  0  0  0  0  0  0  0  0" ∷
-    "  1  2  1  0  0  0  0" ∷
-    "M  CHG  1   2  -1" ∷
-    "M  END" ∷
-    ">  <LOT>" ∷
-    "00417" ∷
-    "" ∷
-    "$$$$" ∷ []
 
 -- a pair bonded twice, the second time the other way round
 abbrev pub pairTwice : Sample

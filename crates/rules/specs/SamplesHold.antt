@@ -52,7 +52,7 @@ mixed-written = refl
 -- ---- Codes, and property lines that make them void
 
 -- a carbon at the origin, with a mass difference and a code
-abbrev coded : ℕ → ℕ → Atom
+abbrev pub coded : ℕ → ℕ → Atom
 coded mass code =
     record {
       x = pos 0;

@@ -7,6 +7,7 @@ use Rattle.text.specs.Cut.{lines-same}
 use Rattle.rules.specs.Forms.{Counts, Atom, Bond, Property}
 use Rattle.rules.specs.Record.{Molecule, Item, Raw, Atoms, Bonds, Properties, Values, Items, Parts1to5, Molfile, Record, SDfile, GoodMolfile, GoodSDfile, limit}
 use Rattle.rules.specs.OneForm.{one-counts, one-atom, one-bond, one-property, one-header, property-or-end, header-or-end, value-or-blank}
+use Rattle.rules.specs.PartLaws.{no-record}
 
 -- ---- parts of a record
 atoms-one : {n k : ℕ} {t r q : List Line} {xs ys : List Atom} → Atoms n k t xs r → Atoms n k t ys q → (xs ≡ ys) × (r ≡ q)
@@ -58,16 +59,10 @@ record-one (Record.record-of p is₁) (Record.record-of {r = r} {is = is} q is�
     let f = items-one is₁ (subst (λ (z : List Line). Items z is r) (sym (e .1)) is₂) in
     (λ i. record { molecule = e .0 i; items = f .0 i }, f .1)
 
-no-parts : {X : Type 0} {limit : ℕ} {r : List Line} {x : Molecule} → Parts1to5 limit [] x r → X
-no-parts = elim [ ]
-
-no-lines : {X : Type 0} {limit : ℕ} {r : List Line} {x : Raw} → Record limit [] x r → X
-no-lines (Record.record-of p is) = no-parts p
-
 pub sdfile-one : {limit : ℕ} {t : List Line} {xs ys : List Raw} → SDfile limit t xs → SDfile limit t ys → xs ≡ ys
 sdfile-one SDfile.none SDfile.none = refl
-sdfile-one SDfile.none (SDfile.more q qs) = no-lines q
-sdfile-one (SDfile.more p ps) SDfile.none = no-lines p
+sdfile-one SDfile.none (SDfile.more q qs) = no-record q
+sdfile-one (SDfile.more p ps) SDfile.none = no-record p
 sdfile-one {limit} (SDfile.more p ps) (SDfile.more {xs = ys} q qs) =
     let e = record-one p q in
     ap₂ _∷_ (e .0) (sdfile-one ps (subst (λ (z : List Line). SDfile limit z ys) (sym (e .1)) qs))

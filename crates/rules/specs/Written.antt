@@ -60,9 +60,7 @@ unfolding countsText
 counts-written limit c small g =
     let l = joined (countsFields c) in
     let h = counts-fields c in
-    let at : (k : ℕ) → k < 8 → columns l (suc (upto k countsWidths)) (upto (suc k) countsWidths) ≡ getD (countsFields c) k [] =
-    λ k s. field-at (countsFields c) countsWidths k h s
-    in
+    let at = field-at (countsFields c) countsWidths h in
     record {
       line = joined-within 80 (countsFields c) countsWidths h (omega arith);
       atoms = number-in l 1 3 3 0 limit (c .atoms) (at 0 (omega arith)) (omega (arith, g .atoms)) (omega arith) (g .atoms);
@@ -156,9 +154,7 @@ unfolding atomText
 atom-written n a small g =
     let l = joined (atomFields a) in
     let h = atom-fields a in
-    let at : (k : ℕ) → k < 16 → columns l (suc (upto k atomWidths)) (upto (suc k) atomWidths) ≡ getD (atomFields a) k [] =
-    λ k s. field-at (atomFields a) atomWidths k h s
-    in
+    let at = field-at (atomFields a) atomWidths h in
     record {
       line = joined-within 80 (atomFields a) atomWidths h (omega arith);
       x = subst (λ (cs : Bytes). Coordinate cs (a .x)) (sym (at 0 (omega arith))) (coordinate-back (a .x) (g .x));
@@ -233,9 +229,7 @@ unfolding bondText
 bond-written n b small g =
     let l = joined (bondFields b) in
     let h = bond-fields b in
-    let at : (k : ℕ) → k < 7 → columns l (suc (upto k bondWidths)) (upto (suc k) bondWidths) ≡ getD (bondFields b) k [] =
-    λ k s. field-at (bondFields b) bondWidths k h s
-    in
+    let at = field-at (bondFields b) bondWidths h in
     record {
       line = joined-within 80 (bondFields b) bondWidths h (omega arith);
       first = number-in l 1 3 3 1 n (b .first) (at 0 (omega arith)) (omega (arith, g .first .1)) (g .first .0) (g .first .1);
@@ -340,8 +334,8 @@ property-written n p small g =
     let C = numberText 3 (length (p .entries)) in
     record {
       line = joined-within 80 fs ws h (omega (arith, g .eight));
-      tagged = field-at fs ws 0 h (omega arith);
-      count = number-in (joined fs) 7 9 3 1 8 (length (p .entries)) (field-at fs ws 1 h (omega arith)) (omega (arith, g .eight)) (g .some) (g .eight);
+      tagged = field-at fs ws h 0 (omega arith);
+      count = number-in (joined fs) 7 9 3 1 8 (length (p .entries)) (field-at fs ws h 1 (omega arith)) (omega (arith, g .eight)) (g .some) (g .eight);
       entries =
           subst (λ (x : Line). EntriesFrom n (p .kind) x 10 (p .entries)) (append-assoc T C (joined (entryFields (p .entries))))
           (entries-written n (p .kind) (T ++ C) (p .entries) 10 small

@@ -9,6 +9,7 @@ use lib.Seq.{drop-at, take-append-seam}
 use mir.Syntax.{w64}
 use mir.Val.{Fits}
 use Rattle.text.specs.Text.{Bytes}
+use Rattle.text.specs.Laws.{tail-is}
 use Rattle.rules.specs.Record.{Raw, limit}
 use Rattle.line_counts_bonds.specs.declared.Counts.{Counts}
 use Rattle.judge_file.specs.Place.{sdfile}
@@ -23,7 +24,7 @@ use Rattle.reader_check.specs.Promised.{Promised, numbersOf}
 use Rattle.reader_walk.specs.Promise.{saidBy}
 use Rattle.reader_cursor.specs.declared.Cursor.{Cursor}
 use Rattle.reader_cursor.specs.Walk.{fresh, past, Countable}
-use Rattle.reader_cursor.specs.After.{After, after-start, after-next, after-less, after-fits, after-good, good-more, good-whole, tail-is}
+use Rattle.reader_cursor.specs.After.{After, after-start, after-next, after-less, after-fits, after-good, good-more, good-whole}
 use Rattle.tally_rules.specs.declared.Tally.{Tally}
 use Rattle.tally_rules.specs.declared.Totals.{Totals}
 use Rattle.tally_rules.specs.Tally.{mostSuppliers, Supplier, supplierOf}

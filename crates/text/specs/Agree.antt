@@ -194,7 +194,7 @@ columns-fill l w = columns-join l 1 (length l) w ∙ ap₂ (λ (x y : Bytes). x 
 
 -- ---- spaces to the end of the line
 
-each-get : (P : ℕ → Type 0) (xs : Bytes) (k d : ℕ) → P d → Each P xs → P (getD xs k d)
+pub each-get : (P : ℕ → Type 0) (xs : Bytes) (k d : ℕ) → P d → Each P xs → P (getD xs k d)
 unfolding Each
 each-get P [] k d h e = h
 each-get P (x ∷ xs) zero d h e = e .0

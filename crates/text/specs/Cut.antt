@@ -96,12 +96,12 @@ ended-is (b ∷ (c ∷ bs)) = ended-more b (omega arith) (ended-is (c ∷ bs))
 
 -- ---- a text has one reading as lines: the computed one
 
-split-rest : (r : Bytes) → Without LF r → split r ≡ record { lines = []; rest = r }
+pub split-rest : (r : Bytes) → Without LF r → split r ≡ record { lines = []; rest = r }
 unfolding split Each
 split-rest [] f = refl
 split-rest (b ∷ r) f = rw (ne-eqb b LF (f .0), split-rest r (f .1))
 
-split-line : (bs more : Bytes) → Without LF bs → split (bs ++ (LF ∷ more)) ≡ record { lines = bs ∷ (split more .lines); rest = split more .rest }
+pub split-line : (bs more : Bytes) → Without LF bs → split (bs ++ (LF ∷ more)) ≡ record { lines = bs ∷ (split more .lines); rest = split more .rest }
 unfolding split Each
 split-line [] more f = refl
 split-line (b ∷ bs) more f = rw (ne-eqb b LF (f .0), split-line bs more (f .1))
@@ -147,6 +147,11 @@ cut-is s = split-lines (split-is s)
 
 pub lines-same : {s : Bytes} {ls ms : List Line} {r q : Bytes} → Lines s ls r → Lines s ms q → (ls ≡ ms) × (r ≡ q)
 lines-same p q = let e = sym (lines-cut p) ∙ lines-cut q in (ap (λ (c : Cut). c .lines) e, ap (λ (c : Cut). c .rest) e)
+
+-- each line takes a byte or more
+pub few-lines : {s : Bytes} {ls : List Line} {r : Bytes} → Lines s ls r → length ls ≤ length s
+few-lines (Lines.unfinished f) = omega arith
+few-lines (Lines.line {bs = bs} {more = more} e f h p) = omega (arith, ap length e, length-append bs (LF ∷ more), few-lines p)
 
 -- ---- by positions
 
@@ -244,7 +249,10 @@ unfolding lineTo
 rest-by s at (At k) found h = absurd (let z : _≡_ {A = ℕ} 0 1 = cc in omega arith)
 rest-by s at Nothing found h = each-as (drop at s) (λ b. eqb-false b LF) (first-nothing isLf at (drop at s) found)
 
+pub rest-clean : (s : Bytes) (at : ℕ) → lineAt s at ≡ LineAt.Unfinished → Without LF (drop at s)
+unfolding lineAt
+rest-clean s at h = rest-by s at (firstFrom isLf at (drop at s)) refl h
+
 -- at the end of the text the rest is empty
 pub line-rest : (s : Bytes) (at : ℕ) → lineAt s at ≡ LineAt.Unfinished → cut (drop at s) ≡ record { lines = []; rest = drop at s }
-unfolding lineAt
-line-rest s at h = cut-rest (drop at s) (rest-by s at (firstFrom isLf at (drop at s)) refl h)
+line-rest s at h = cut-rest (drop at s) (rest-clean s at h)

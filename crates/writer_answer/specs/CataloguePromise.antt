@@ -12,6 +12,7 @@ use lib.IntN.{ℤ}
 use borrow.Author.Tests.{leb-true, leb-false, le-leb, lt-leb}
 use Rattle.text.specs.Text.{Bytes}
 use Rattle.text.specs.Written.{text}
+use Rattle.text.specs.Laws.{false-true}
 use Rattle.rules.specs.Record.{Raw, GoodSDfile, limit, atomPlaces, bondPlaces}
 use Rattle.rules.specs.Meaning.{Reading, meaning}
 use Rattle.rules.specs.Canon.{canonFile}
@@ -106,9 +107,6 @@ roomy-false ta tb h = go (roomy ta tb) refl
     go : (b : Bool) → roomy ta tb ≡ b → roomy ta tb ≡ false
     go true e = absurd (h (roomy-agrees ta tb .0 e))
     go false e = e
-
-false-true : {X : Type 0} → false ≡ true → X
-false-true h = absurd (let z : _≡_ {A = ℕ} 0 1 = cc in omega arith)
 
 -- ---- The definitions keep the promise
 

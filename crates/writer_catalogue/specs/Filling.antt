@@ -10,6 +10,7 @@ use lib.Seq.{sets-eq}
 use lib.IntN.{ℤ}
 use borrow.Author.Tests.{leb-true, le-leb}
 use Rattle.text.specs.Text.{Bytes}
+use Rattle.text.specs.Laws.{tail-is}
 use Rattle.rules.specs.Record.{Raw, limit, atomPlaces, bondPlaces}
 use Rattle.rules.specs.Meaning.{meaning}
 use Rattle.judge_file.specs.Place.{sdfile}
@@ -21,7 +22,7 @@ use Rattle.reader_tables.specs.Filled.{cleared}
 use Rattle.reader_tables.specs.Cleared.{refused-filled}
 use Rattle.reader_cursor.specs.declared.Cursor.{Cursor}
 use Rattle.reader_cursor.specs.Walk.{fresh, past, Countable}
-use Rattle.reader_cursor.specs.After.{After, after-start, after-good, after-next, after-less, after-fits, good-more, good-whole, tail-is}
+use Rattle.reader_cursor.specs.After.{After, after-start, after-good, after-next, after-less, after-fits, good-more, good-whole}
 use Rattle.writer_lines.specs.Laid.{Laid, laid-none, laid-join}
 use Rattle.reader_answer.specs.Read.{zeroed, rowsIn}
 use Rattle.writer_record.specs.Write.{canonText, demand}

@@ -9,6 +9,7 @@ use lib.ListN.{length, take, drop, length-append}
 use lib.IntN.{ℤ}
 use borrow.Author.Tests.{leb-true, leb-false, lt-ltb, le-ltb}
 use Rattle.text.specs.Text.{Bytes}
+use Rattle.text.specs.Laws.{tail-is}
 use Rattle.rules.specs.Record.{Raw, atomPlaces, bondPlaces}
 use Rattle.rules.specs.Meaning.{meaning}
 use Rattle.judge_file.specs.Place.{sdfile}
@@ -18,7 +19,7 @@ use Rattle.reader_walk.specs.Outcome.{Outcome, whole, refused, outcomeOf}
 use Rattle.reader_walk.specs.Walked.{Beside}
 use Rattle.reader_cursor.specs.declared.Cursor.{Cursor}
 use Rattle.reader_cursor.specs.Walk.{fresh, past, Countable}
-use Rattle.reader_cursor.specs.After.{After, after-start, after-good, after-next, after-less, after-fits, after-line, after-verdict, tail-is}
+use Rattle.reader_cursor.specs.After.{After, after-start, after-good, after-next, after-less, after-fits, after-line, after-verdict}
 use Rattle.writer_record.specs.Write.{canonText, demand}
 use Rattle.writer_answer.specs.declared.Catalogue.{Catalogue}
 use Rattle.writer_catalogue.specs.declared.Measured.{Measured}

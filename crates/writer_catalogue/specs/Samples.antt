@@ -7,7 +7,7 @@ use lib.ListN.{length, replicate}
 use lib.IntN.{ℤ, pos}
 use Rattle.text.specs.Text.{Bytes}
 use Rattle.text.specs.Columns.{columnsFor}
-use Rattle.text.specs.Find.{firstFrom, badColumn, inkColumn, sameBytes}
+use Rattle.text.specs.Find.{firstFrom, badColumn, inkColumn, sameBytes, isBlank}
 use Rattle.text.specs.Cut.{ended, split, cut}
 use Rattle.text.specs.Written.{text}
 use Rattle.field_numbers.specs.Number.{decimalAfter}
@@ -24,7 +24,7 @@ use Rattle.rules.specs.Canon as C
 use Rattle.judge_pairs.specs.Taken.{pairTaken}
 use Rattle.judge_line.specs.Got.{then, need}
 use Rattle.judge_line.specs.Field.{numberAt, signedAt, elem, listedAt, elemSigned, signedListedAt, coordinateAt, symbolAt, spaceAt, spacesFrom, within}
-use Rattle.judge_line.specs.Judge.{begins, contains, firstHeaderOf, countsOf, atomOf, bondOf, entryNumberAt, entriesOf, listOf, propertyOf, blankb, nameOn, opened}
+use Rattle.judge_line.specs.Judge.{begins, contains, firstHeaderOf, countsOf, atomOf, bondOf, entryNumberAt, entriesOf, listOf, propertyOf, nameOn, opened}
 use Rattle.judge_line.specs.Judge.{spaced, arrowed, headerOf, itemOf, valueOf}
 use Rattle.judge_file.specs.Place.{toBonds, toAtoms, lineOf, turnOf}
 use Rattle.judge_file.specs.Verdict.{run, verdict}
@@ -121,7 +121,7 @@ unfolding columnsFor firstFrom badColumn inkColumn sameBytes ended split cut tex
     numberIn signedRanged signedIn textBy pointRead beforePoint inked coordinateIn pointText among symbolIn symbolText listed M.among M.numberIn M.atomsFrom
     M.meaning joined countsText atomText bondText entryFields propertyText headerText itemsLines moleculeLines recordLines fileLines C.chargeCode C.atomOf
     C.bondOf C.entriesFrom C.eights C.propertiesOf C.canon pairTaken then need numberAt signedAt elem listedAt elemSigned signedListedAt coordinateAt symbolAt
-    spaceAt spacesFrom within begins contains firstHeaderOf countsOf atomOf bondOf entryNumberAt entriesOf listOf propertyOf blankb nameOn opened spaced
+    spaceAt spacesFrom within begins contains firstHeaderOf countsOf atomOf bondOf entryNumberAt entriesOf listOf propertyOf isBlank nameOn opened spaced
     arrowed headerOf itemOf valueOf toBonds toAtoms lineOf turnOf run verdict rowsIn roomy catalogueText fileFor catalogueFor catalogueOf roomAfter atomsAfter
     bondsAfter
 samples-written = refl

@@ -1,11 +1,12 @@
 -- Bytes laid into lent room from a place on: one piece after the other, and all else as it was.
-use Prim.Native.Nat.{ℕ, suc, _+_, _≤_}
+use Prim.Native.Nat.{ℕ, _+_, _≤_}
 use native.Mathlib.Omega.{arith}
 use mathlib.Core.Path.{_≡_, refl, sym, ap, ap₂, _∙_}
-use mathlib.Core.List.{[], _∷_, _++_}
-use lib.ListN.{length, set, length-append}
+use mathlib.Core.List.{[], _++_}
+use lib.ListN.{length, length-append}
 use lib.Seq.{sets, length-sets}
 use Rattle.text.specs.Text.{Bytes}
+use Rattle.text.specs.Laws.{sets-append}
 
 -- room r₀ became r: bytes bs stand from place `at` on, and e is the place after them
 pub record Laid (r₀ r : Bytes) (at : ℕ) (bs : Bytes) (e : ℕ) : Type 0 where
@@ -19,10 +20,6 @@ pub record Field (r₀ r : Bytes) (at width : ℕ) (bs : Bytes) (e : ℕ) : Type
   pub laid : Laid r₀ r at bs e
   pub wide : e ≡ at + width
 
-sets-join : (xs ys r : Bytes) (at : ℕ) → sets (sets r at xs) (at + length xs) ys ≡ sets r at (xs ++ ys)
-sets-join [] ys r at = let e : at + 0 ≡ at = omega arith in rw e
-sets-join (x ∷ xs) ys r at = let e : at + suc (length xs) ≡ suc at + length xs = omega arith in rw e (sets-join xs ys (set r at x) (suc at))
-
 pub laid-none : (r : Bytes) (at : ℕ) → at ≤ length r → Laid r r at [] at
 laid-none r at h = record { size = refl; next = omega arith; fits = h; same = refl }
 
@@ -35,7 +32,7 @@ laid-join {r₀} {r₁} {r₂} {at} {e} {f} {xs} {ys} p q =
       size = q .size ∙ p .size;
       next = omega (arith, p .next, q .next, length-append xs ys);
       fits = omega (arith, q .fits, p .size);
-      same = q .same ∙ ap₂ (λ (r : Bytes) (i : ℕ). sets r i ys) (p .same) (p .next) ∙ sets-join xs ys r₀ at;
+      same = q .same ∙ ap₂ (λ (r : Bytes) (i : ℕ). sets r i ys) (p .same) (p .next) ∙ sym (sets-append xs ys r₀ at);
     }
 
 -- what a leaf has put, as a field
@@ -62,7 +59,7 @@ owes-next {r₀} {r} {r′} {at} {e} {f} {whole} {xs} {ys} o l =
       size = l .size ∙ o .size;
       next = omega (arith, o .next, l .next, length-append xs ys);
       fits = o .fits;
-      same = o .same ∙ sym (sets-join xs ys r e) ∙ ap₂ (λ (x : Bytes) (i : ℕ). sets x i ys) (sym (l .same)) (sym (l .next));
+      same = o .same ∙ sets-append xs ys r e ∙ ap₂ (λ (x : Bytes) (i : ℕ). sets x i ys) (sym (l .same)) (sym (l .next));
     }
 
 pub owes-end : {r₀ r : Bytes} {at e : ℕ} {whole : Bytes} → Owes r₀ r at e whole [] → Laid r₀ r at whole e

@@ -1,14 +1,13 @@
 -- Signed numbers as the machine holds them: sizes, and tests against a number.
 use Prim.Native.Nat.{ℕ, zero, suc, _<_, _^_}
 use mathlib.Core.Path.{_≡_, refl, sym, ap, _∙_}
-use mathlib.Core.Bool.{true, false}
+use mathlib.Core.Bool.{true, false, and-false}
 use lib.IntN.{ℤ, pos, negsuc}
 use lib.Signed.{mag}
 use borrow.Author.Tests.{ne-eqb}
 use mir.Syntax.{w32}
 use mir.Val.{SFits, toZ, ofZ}
 use mir.Facts.{toZ-ofZ}
-use Rattle.field_numbers.specs.Agree.{and-false}
 use Rattle.field_numbers.specs.Signs.{less-fits, less-sign, less-cast, less-plus, less-size, same-sign, same-cast, same-size}
 use Rattle.rules.specs.Canon.{codeOfCharge, isZero, isTwo, chargeCode}
 

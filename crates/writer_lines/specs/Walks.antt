@@ -6,7 +6,7 @@ use native.Mathlib.Omega.{arith}
 use mathlib.Core.Path.{_≡_, refl, sym, ap, _∙_, subst}
 use mathlib.Core.List.{List, [], _∷_, _++_, map, append-assoc}
 use lib.ListN.{length, getD, take, drop, length-append, length-take, length-drop, drop-of-length-le}
-use lib.IntN.{ℤ, pos, negsuc, natAbs}
+use lib.IntN.{ℤ, pos, natAbs}
 use Rattle.text.specs.Text.{Bytes, Line, LF}
 use Rattle.text.specs.Written.{text}
 use Rattle.field_numbers.specs.Written.{signed-length, text-length}
@@ -14,10 +14,11 @@ use Rattle.field_coordinates.specs.Written.{coordinate-length}
 use Rattle.field_symbols.specs.Symbol.{symbolsAll}
 use Rattle.field_symbols.specs.Write.{symbol-length}
 use Rattle.rules.specs.Write.{joined, atomText, bondText}
-use Rattle.rules.specs.Canon.{atomRow, atomOf, bondOf, FromTo, WritableAtom}
+use Rattle.rules.specs.Canon.{atomRow, atomOf, bondOf, WritableAtom}
 use Rattle.rules.specs.Canon as R
 use Rattle.writer_lines.specs.Laid.{Laid, Field, Owes, owes-start, owes-next, owes-end}
 use Rattle.rules.specs.Rows.{rowsOf, rowAt, rows-length, rows-at, rows-next}
+use Rattle.rules.specs.CanonGood.{sized}
 use Rattle.writer_lines.specs.Lines.{atomLine, bondLine, WritableAtoms}
 
 -- ---- Every line is as long as the others, its LF included
@@ -115,10 +116,6 @@ rows-each width P [] h i k = absurd (omega arith)
 rows-each width P (t ∷ ts) h zero k = h .0 .1
 rows-each width P (t ∷ ts) h (suc i) k = rows-each width P ts (h .1) i (omega arith)
 
-from-to : (least most : ℕ) (z : ℤ) → FromTo least most z → (least ≤ natAbs z) × (natAbs z ≤ most)
-from-to least most (pos k) h = h
-from-to least most (negsuc k) h = absurd h
-
 module _ (n : ℕ) (t : List ℤ) (w : WritableAtoms n t) (i : ℕ) (h : i < n) where
   row-good : WritableAtom n (atomRow (part 16 t i))
   unfolding WritableAtoms
@@ -127,9 +124,9 @@ module _ (n : ℕ) (t : List ℤ) (w : WritableAtoms n t) (i : ℕ) (h : i < n) 
       (rows-each 16 (λ (x : List ℤ). WritableAtom n (atomRow x)) (rowsOf 16 n t) w i (omega (arith, rows-length 16 n t)))
 
   pub symbol-least : 1 ≤ natAbs (getD (part 16 t i) 3 (pos 0))
-  symbol-least = from-to 1 symbolsAll (getD (part 16 t i) 3 (pos 0)) (row-good .symbol) .0
+  symbol-least = sized 1 symbolsAll (getD (part 16 t i) 3 (pos 0)) (row-good .symbol) .0
 
   pub symbol-most : natAbs (getD (part 16 t i) 3 (pos 0)) ≤ symbolsAll
-  symbol-most = from-to 1 symbolsAll (getD (part 16 t i) 3 (pos 0)) (row-good .symbol) .1
+  symbol-most = sized 1 symbolsAll (getD (part 16 t i) 3 (pos 0)) (row-good .symbol) .1
 
 pub ruleset laying-laws = (atom-long, bond-long, laying-start, laying-next, laying-end, laying-size, part-long, symbol-least, symbol-most)

@@ -3,21 +3,20 @@ use Prim.Native.Nat.{ℕ, zero, suc, _+_, _-_, _≤_, _<_, _^_}
 use native.Mathlib.Nat.{add-zero}
 use native.Mathlib.Numerals.{add-one}
 use native.Mathlib.Omega.{arith}
-use mathlib.Core.Path.{_≡_, refl, sym, ap, _∙_}
+use mathlib.Core.Path.{_≡_, refl, sym, _∙_}
 use mathlib.Core.List.{List, [], _∷_, _++_}
-use mathlib.Core.Bool.{Bool, true, false, _&&_}
+use mathlib.Core.Bool.{Bool, true, false, _&&_, and-false}
 use lib.Dec.{eqb}
 use lib.ListN.{length, getD}
-use lib.IntN.{ℤ, pos, negsuc}
+use lib.IntN.{ℤ, pos}
 use lib.Signed.{mag}
-use borrow.Author.Tests.{eqb-true}
 use mir.Syntax.{w32}
 use mir.Val.{ofZ}
 use Rattle.text.specs.Text.{bytes, LF}
 use Rattle.field_numbers.specs.Write.{textBy}
 use Rattle.text.specs.Laws.{and-true}
-use Rattle.field_numbers.specs.Agree.{and-false}
 use Rattle.rules.specs.Canon.{isZero, chargeCode}
+use Rattle.rules.specs.Entries.{is-zero}
 use Rattle.writer_lines.specs.Lines.{columnsFrom, areZeros, isPlain, valuesText, stereoText}
 use Rattle.writer_lines.specs.Signs.{zero-is, zero-not}
 
@@ -62,14 +61,10 @@ pub ruleset zeros-laws = (looking-start, looking-zero, looking-other, looking-en
 
 -- ---- What is written for them
 
-zero-number : (z : ℤ) → isZero z ≡ true → z ≡ pos 0
-zero-number (pos k) h = ap pos (eqb-true k 0 h)
-zero-number (negsuc k) h = absurd (let z : _≡_ {A = ℕ} 0 1 = cc in omega arith)
-
 zeros-get : (t : List ℤ) (i count j : ℕ) → areZeros t i count ≡ true → j < count → getD t (i + j) (pos 0) ≡ pos 0
 unfolding areZeros
 zeros-get t i zero j h l = absurd (omega arith)
-zeros-get t i (suc count) zero h l = rw (add-zero i) (zero-number (getD t i (pos 0)) (and-true (isZero (getD t i (pos 0))) (areZeros t (suc i) count) h .0))
+zeros-get t i (suc count) zero h l = rw (add-zero i) (is-zero (getD t i (pos 0)) (and-true (isZero (getD t i (pos 0))) (areZeros t (suc i) count) h .0))
 zeros-get t i (suc count) (suc j) h l =
     let e : i + suc j ≡ suc i + j = omega arith in
     rw e (zeros-get t (suc i) count j (and-true (isZero (getD t i (pos 0))) (areZeros t (suc i) count) h .1) (omega arith))

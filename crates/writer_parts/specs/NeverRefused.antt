@@ -15,7 +15,8 @@ use Rattle.judge_line.specs.Got.{Got, got, bad}
 use Rattle.judge_line.specs.GotLaws.{got-inj, bad-got, then-got}
 use Rattle.judge_line.specs.Judge.{firstHeaderOf, itemOf, ItemOrEnd, title, close, valueOf, ValueOrBlank, value, blank}
 use Rattle.judge_line.specs.Agree.{within-got, header-agrees, title-agrees, value-agrees, blank-agrees}
-use Rattle.line_judged.specs.Known.{Standing, Header, Named, value-told, blank-told}
+use Rattle.judge_line.specs.AgreeItem.{value-told, blank-told}
+use Rattle.line_judged.specs.Known.{Standing, Header, Named}
 use Rattle.rules.specs.Forms.{DataHeader}
 use Rattle.rules.specs.OneForm.{one-header}
 use Rattle.judge_file.specs.Verdict.{accepted}

@@ -10,6 +10,7 @@ use lib.ListN.{length, drop}
 use borrow.Author.Tests.{leb-true, leb-false, le-leb, lt-leb}
 use Rattle.text.specs.Text.{Bytes, Line, Lines}
 use Rattle.text.specs.Written.{text}
+use Rattle.text.specs.Laws.{false-true}
 use Rattle.rules.specs.Record.{Headers, Item, Raw, GoodSDfile, limit}
 use Rattle.rules.specs.Meaning.{Reading, meaning}
 use Rattle.rules.specs.Write.{fileLines}
@@ -98,9 +99,6 @@ module _ (g : Given) (x : Reading) (a : Accepted g x) where
   text-only rs h = canon-only (x ∷ []) rs all-good (subst (λ (ls : List Line). GoodSDfile (text ls) rs) (sym one-text) h)
 
 -- ---- The definitions keep the promise
-
-false-true : {X : Type 0} → false ≡ true → X
-false-true h = absurd (let z : _≡_ {A = ℕ} 0 1 = cc in omega arith)
 
 module _ (g : Given) where
   abbrev holds : Bool

@@ -7,7 +7,7 @@ use lib.ListN.{length, replicate}
 use lib.IntN.{pos, negsuc}
 use Rattle.text.specs.Text.{Bytes}
 use Rattle.text.specs.Columns.{columnsFor}
-use Rattle.text.specs.Find.{firstFrom, badColumn}
+use Rattle.text.specs.Find.{firstFrom, badColumn, isBlank}
 use Rattle.text.specs.Cut.{ended, split, cut}
 use Rattle.text.specs.Written.{text}
 use Rattle.field_numbers.specs.Read.{afterSpaces}
@@ -16,14 +16,14 @@ use Rattle.field_coordinates.specs.Write.{pointText}
 use Rattle.field_symbols.specs.Write.{symbolText}
 use Rattle.rules.specs.Write.{joined, countsText, atomText, bondText, entryFields, propertyText, headerText, itemsLines, moleculeLines, recordLines}
 use Rattle.rules.specs.Canon.{chargeCode, atomOf, bondOf, entriesFrom, eights, propertiesOf, canon}
-use Rattle.rules.specs.Samples.{atom, bond, drumLines}
+use Rattle.rules.specs.Samples.{atom, bond}
 use Rattle.rules.specs.Record.{atomPlaces, bondPlaces}
 use Rattle.judge_line.specs.Got.{then, need}
 use Rattle.judge_line.specs.Field.{within, elemSigned}
-use Rattle.judge_line.specs.Judge.{begins, contains, firstHeaderOf, blankb, nameOn, opened, spaced, arrowed, headerOf, itemOf, valueOf}
+use Rattle.judge_line.specs.Judge.{begins, contains, firstHeaderOf, nameOn, opened, spaced, arrowed, headerOf, itemOf, valueOf}
 use Rattle.rules.specs.Rows.{rowsOf}
 use Rattle.judge_parts.specs.Part.{run, verdictFrom, headerLine, headerTurn, headersVerdict, itemTurn, itemsVerdict}
-use Rattle.judge_parts.specs.Samples.{lines}
+use Rattle.judge_file.specs.Samples.{lines, theSample}
 use Rattle.writer_row.specs.Row.{inRange, marks, placeHolds, numbersHold, codesHold, changesHold, atomHolds, kindHolds, bondHolds}
 use Rattle.writer_tables.specs.Tables.{allRows, massesHold, sameEnds, sameAt, against, walkFrom, countsHold, tablesHold, writableTables}
 use Rattle.writer_record.specs.Write.{Given, roomy, recordFor, textFor, writeOf, roomAfter}
@@ -57,9 +57,6 @@ three = lines ("AB-00417" ∷ "" ∷ "drum 3" ∷ [])
 abbrev lot : Bytes
 lot = lines (">  <LOT>" ∷ "00417" ∷ "" ∷ [])
 
-abbrev whole : Bytes
-whole = lines drumLines
-
 -- room that holds nothing but `x`
 abbrev lent : ℕ → Bytes
 lent k = replicate k 120
@@ -69,10 +66,10 @@ kept g k a = record { given = g; room = lent k; answer = a; after = lent k }
 
 abbrev pub samples : List Sample
 samples =
-    record { given = drum three lot; room = lent 265; answer = Written.Done 265; after = whole } ∷
-    record { given = drum three lot; room = lent 267; answer = Written.Done 265; after = whole ++ lent 2 } ∷
+    record { given = drum three lot; room = lent 265; answer = Written.Done 265; after = theSample } ∷
+    record { given = drum three lot; room = lent 267; answer = Written.Done 265; after = theSample ++ lent 2 } ∷
     -- an item's header and blank line are written anew
-    record { given = drum three (lines ("> <LOT>  " ∷ "00417" ∷ " " ∷ [])); room = lent 265; answer = Written.Done 265; after = whole } ∷
+    record { given = drum three (lines ("> <LOT>  " ∷ "00417" ∷ " " ∷ [])); room = lent 265; answer = Written.Done 265; after = theSample } ∷
     -- no room
     kept (drum three lot) 264 (Written.Refused 20 0 0) ∷
     -- before that a bad item, before that a bad header line, before that tables that cannot be written, before that small tables
@@ -88,7 +85,7 @@ abbrev done : Sample → Sample
 done s = record { given = s .given; room = s .room; answer = writeOf (s .given) (length (s .room)); after = roomAfter (s .given) (s .room) }
 
 pub samples-written : map done samples ≡ samples
-unfolding firstFrom badColumn ended split cut text afterSpaces headerText then need within begins contains firstHeaderOf blankb nameOn opened spaced arrowed
+unfolding firstFrom badColumn ended split cut text afterSpaces headerText then need within begins contains firstHeaderOf isBlank nameOn opened spaced arrowed
     headerOf itemOf valueOf run verdictFrom headerLine headerTurn headersVerdict itemTurn itemsVerdict joined countsText atomText bondText entryFields propertyText
     itemsLines moleculeLines recordLines textBy columnsFor pointText symbolText chargeCode atomOf bondOf entriesFrom eights propertiesOf canon rowsOf
     elemSigned inRange marks placeHolds numbersHold codesHold changesHold atomHolds kindHolds bondHolds allRows massesHold sameEnds sameAt against

@@ -16,9 +16,9 @@ use mir.Val.{SFits, toZ, ofZ}
 use mir.ValLaws.{toZ-pos}
 use Rattle.rules.specs.Forms.{stereos}
 use Rattle.judge_line.specs.Field.{sameInteger, elemSigned}
+use Rattle.judge_line.specs.AgreeField.{integer-same, same-integer}
 use Rattle.line_fields.specs.Steps.{hop}
 use Rattle.writer_row.specs.Row.{inRange, marks}
-use Rattle.writer_row.specs.AgreeNumber.{same-refl, same-is}
 
 -- ---- One test after the other
 
@@ -58,13 +58,13 @@ module _ (low z : ℤ) (high : ℕ) (l : SFits w32 low) (f : SFits w32 z) where
 
 module _ (x y : ℤ) (f : SFits w32 x) (g : SFits w32 y) where
   pub bits-same : ofZ w32 x ≡ ofZ w32 y → sameInteger x y ≡ true
-  bits-same e = rw (sym (hop x f) ∙ ap (toZ w32) e ∙ hop y g) (same-refl y)
+  bits-same e = rw (sym (hop x f) ∙ ap (toZ w32) e ∙ hop y g) (integer-same y)
 
   pub bits-apart : (ofZ w32 x ≡ ofZ w32 y → ⊥) → sameInteger x y ≡ false
   bits-apart h = go (sameInteger x y) refl
     where
       go : (t : Bool) → sameInteger x y ≡ t → t ≡ false
-      go true e = absurd (h (ap (ofZ w32) (same-is x y e)))
+      go true e = absurd (h (ap (ofZ w32) (same-integer x y e)))
       go false e = refl
 
   pub bits-test : eqb (ofZ w32 x) (ofZ w32 y) ≡ sameInteger x y

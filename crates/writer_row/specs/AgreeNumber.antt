@@ -1,30 +1,28 @@
 -- The tests of one number say what the rules say.
 use Prim.Native.Nat.{ℕ, zero, suc, _≤_}
 use native.Mathlib.Omega.{arith}
-use mathlib.Core.Path.{_≡_, refl, sym, ap, subst}
+use mathlib.Core.Path.{_≡_, refl, sym, ap}
 use mathlib.Core.Logic.{_≢_, _↔_}
-use mathlib.Core.List.{List, [], _∷_, map}
+use mathlib.Core.List.{List, map}
 use mathlib.Core.Bool.{Bool, true, false, cond, not, _&&_}
 use lib.Dec.{eqb, leb}
 use lib.IntN.{ℤ, pos, negsuc, natAbs}
-use borrow.Author.Tests.{eq-eqb, eqb-true, le-leb, leb-true}
+use borrow.Author.Tests.{eqb-true, le-leb, leb-true}
+use Rattle.text.specs.Laws.{true-false, and-true}
 use Rattle.field_numbers.specs.Number.{Between, OneOf}
 use Rattle.rules.specs.Forms.{stereos}
 use Rattle.rules.specs.Canon.{FromTo, isZero}
-use Rattle.judge_pairs.specs.Agree.{true-false}
-use Rattle.judge_line.specs.GotLaws.{cond-by}
 use Rattle.judge_line.specs.Field.{sameInteger, elemSigned}
+use Rattle.judge_line.specs.AgreeField.{integer-same, same-integer, elem-signed-true, elem-signed-is}
 use Rattle.writer_row.specs.Row.{inRange, minus, marks}
 
 -- ---- Two tests
 
 pub left-true : (a b : Bool) → (a && b) ≡ true → a ≡ true
-left-true true b h = refl
-left-true false b h = h
+left-true a b h = and-true a b h .0
 
 pub right-true : (a b : Bool) → (a && b) ≡ true → b ≡ true
-right-true true b h = h
-right-true false b h = true-false (sym h)
+right-true a b h = and-true a b h .1
 
 pub and-agrees : {P Q : Type 0} {a b : Bool} → (a ≡ true) ↔ P → (b ≡ true) ↔ Q → ((a && b) ≡ true) ↔ P × Q
 and-agrees {P} {Q} {a} {b} f g = ((λ h. (f .0 (left-true a b h), g .0 (right-true a b h))), (λ h. both (f .1 (h .0)) (g .1 (h .1))))
@@ -54,21 +52,11 @@ between (suc below) above (negsuc k) = ((λ h. low (leb-true k below (left-true 
 
 -- ---- The same number
 
-pub same-refl : (x : ℤ) → sameInteger x x ≡ true
-same-refl (pos a) = eq-eqb a a refl
-same-refl (negsuc a) = eq-eqb a a refl
-
-pub same-is : (x y : ℤ) → sameInteger x y ≡ true → x ≡ y
-same-is (pos a) (pos b) h = ap pos (eqb-true a b h)
-same-is (pos a) (negsuc b) h = true-false (sym h)
-same-is (negsuc a) (pos b) h = true-false (sym h)
-same-is (negsuc a) (negsuc b) h = ap negsuc (eqb-true a b h)
-
 pub differ-agrees : (x y : ℤ) → (not (sameInteger x y) ≡ true) ↔ (x ≢ y)
-differ-agrees x y = ((λ h e. true-false (sym (rw (e, same-refl y) at h))), (λ h. go (sameInteger x y) refl h))
+differ-agrees x y = ((λ h e. true-false (sym (rw (e, integer-same y) at h))), (λ h. go (sameInteger x y) refl h))
   where
     go : (t : Bool) → sameInteger x y ≡ t → x ≢ y → not t ≡ true
-    go true e h = absurd (h (same-is x y e))
+    go true e h = absurd (h (same-integer x y e))
     go false e h = refl
 
 pub zero-agrees : (z : ℤ) → (isZero z ≡ true) ↔ (z ≡ pos 0)
@@ -83,24 +71,8 @@ same-size least most (negsuc a) y f g = absurd f
 
 -- ---- Lists
 
-or-true : (t : Bool) → cond t true true ≡ true
-or-true true = refl
-or-true false = refl
-
-listed-true : (z : ℤ) (xs : List ℤ) → elemSigned z xs ≡ true → OneOf z xs
-unfolding elemSigned
-listed-true z [] h = true-false (sym h)
-listed-true z (x ∷ xs) h =
-    cond-by _ _ _ _ h (λ e h. subst (λ (y : ℤ). OneOf z (y ∷ xs)) (same-is z x e) OneOf.this) λ e h.
-    OneOf.later (listed-true z xs h)
-
-true-listed : {z : ℤ} {xs : List ℤ} → OneOf z xs → elemSigned z xs ≡ true
-unfolding elemSigned
-true-listed {z} OneOf.this = rw (same-refl z)
-true-listed {z} (OneOf.later {y = y} o) = rw (true-listed o) (or-true (sameInteger z y))
-
 pub listed-agrees : (z : ℤ) (xs : List ℤ) → (elemSigned z xs ≡ true) ↔ OneOf z xs
-listed-agrees z xs = (listed-true z xs, true-listed)
+listed-agrees z xs = (elem-signed-true z xs, elem-signed-is)
 
 pub marks-are : (type : ℤ) → FromTo 1 8 type → marks type ≡ map pos (stereos (natAbs type))
 unfolding marks

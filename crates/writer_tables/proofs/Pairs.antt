@@ -13,15 +13,15 @@ use lib.Signed.{ltZ}
 use borrow.Author.Tests.{eqb-true, eqb-false, ltb-true, lt-leb, le-leb}
 use mir.Syntax.{w32}
 use mir.Val.{SFits, toZ, ofZ}
+use Rattle.text.specs.Laws.{true-false}
 use Rattle.field_numbers.specs.Signs.{same-sign, same-cast, same-size}
 use Rattle.rules.specs.Record.{limit}
 use Rattle.judge_line.specs.Field.{sameInteger}
-use Rattle.judge_pairs.specs.Agree.{true-false}
+use Rattle.judge_line.specs.AgreeField.{integer-same, same-integer}
 use Rattle.line_fields.specs.Steps.{hop}
 use Rattle.reader_pairs.specs.Keys.{pairKey, Searching}
 use Rattle.writer_tables.specs.Tables.{sameEnds, sameAt, against, walkFrom, firstRepeat}
 use Rattle.writer_tables.specs.PairKey.{smallEnd, small-end, keyAt, same-key}
-use Rattle.writer_row.specs.AgreeNumber.{same-refl, same-is}
 use Rattle.writer_tables.specs.declared.Repeat.the-variants.{Pair, Nothing}
 use Rattle.writer_row.proofs.Steps.{bits-same, bits-apart, bits-test}
 use Rattle.writer_tables.proofs.Loops.{row-get}
@@ -35,7 +35,7 @@ alike a b c d e = go (sameInteger b d) (sameInteger a d) (sameInteger b c) refl 
   where
     go : (s t u : Bool) → sameInteger b d ≡ s → sameInteger a d ≡ t → sameInteger b c ≡ u → s ≡ (s || (t && u))
     go true t u p q r = refl
-    go false true true p q r = sym p ∙ ap (λ (z : ℤ). sameInteger z d) (same-is b c r ∙ sym e ∙ same-is a d q) ∙ same-refl d
+    go false true true p q r = sym p ∙ ap (λ (z : ℤ). sameInteger z d) (same-integer b c r ∙ sym e ∙ same-integer a d q) ∙ integer-same d
     go false true false p q r = refl
     go false false u p q r = refl
 
@@ -50,7 +50,7 @@ module _ (t : List ℤ) (i j : ℕ) (fa : SFits w32 (end t (6 * i))) (fb : SFits
   pub first-alike : ofZ w32 (end t (6 * i)) ≡ ofZ w32 (end t (6 * j)) → eqb (ofZ w32 (end t (6 * i + 1))) (ofZ w32 (end t (6 * j + 1))) ≡ sameAt t i j
   first-alike a =
       let e : sameInteger (end t (6 * i)) (end t (6 * j)) ≡ true = bits-same _ _ fa fc a in
-      rw (ends, e, bits-test _ _ fb fd) (alike (end t (6 * i)) (end t (6 * i + 1)) (end t (6 * j)) (end t (6 * j + 1)) (same-is _ _ e))
+      rw (ends, e, bits-test _ _ fb fd) (alike (end t (6 * i)) (end t (6 * i + 1)) (end t (6 * j)) (end t (6 * j + 1)) (same-integer _ _ e))
 
   pub other-way : (ofZ w32 (end t (6 * i)) ≡ ofZ w32 (end t (6 * j)) → ⊥) →
       ofZ w32 (end t (6 * i)) ≡ ofZ w32 (end t (6 * j + 1)) → eqb (ofZ w32 (end t (6 * i + 1))) (ofZ w32 (end t (6 * j))) ≡ sameAt t i j

@@ -8,11 +8,12 @@ use mathlib.Core.Bool.{Bool, true, false, cond}
 use lib.ListN.{getD, length, drop}
 use lib.Seq.{drop-drop}
 use lib.IntN.{ℤ}
+use Rattle.text.specs.Laws.{true-false}
 use Rattle.rules.specs.Forms.{Bond}
 use Rattle.rules.specs.Record.{NewPair, NoPairTwice}
 use Rattle.rules.specs.Canon.{bondRow, bondOf, WritableBond, Rows}
 use Rattle.judge_pairs.specs.Taken.{samePair, pairTaken}
-use Rattle.judge_pairs.specs.Agree.{true-false, taken-no}
+use Rattle.judge_pairs.specs.Agree.{taken-no}
 use Rattle.judge_pairs.specs.Append.{pair-once}
 use Rattle.rules.specs.Rows.{rowAt, rowsOf, rows-length, rows-at}
 use Rattle.writer_tables.specs.Tables.{sameEnds, sameAt, against, walkFrom, firstRepeat, isNothing}

@@ -9,9 +9,9 @@ use mathlib.Core.Bool.{Bool, true, false, cond, _&&_, _||_}
 use lib.ListN.{getD, length, take, drop, length-drop}
 use lib.Seq.{length-take-le}
 use lib.IntN.{ℤ, pos}
+use Rattle.text.specs.Laws.{true-false}
 use Rattle.rules.specs.Forms.{ISO}
 use Rattle.rules.specs.Canon.{atomRow, isZero, entriesFrom, Rows}
-use Rattle.judge_pairs.specs.Agree.{true-false}
 use Rattle.rules.specs.Rows.{rowsOf}
 use Rattle.writer_row.specs.AgreeNumber.{and-agrees, zero-agrees}
 use Rattle.writer_tables.specs.Tables.{allRows, allZero, massesHold}

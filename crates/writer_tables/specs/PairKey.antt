@@ -10,8 +10,9 @@ use borrow.Author.Tests.{leb-true}
 use Rattle.rules.specs.Canon.{bondRow}
 use Rattle.rules.specs.Rows.{rowAt}
 use Rattle.judge_line.specs.Field.{sameInteger}
+use Rattle.judge_line.specs.AgreeField.{same-integer}
 use Rattle.reader_pairs.specs.Keys.{pairKey, key-either}
-use Rattle.writer_row.specs.AgreeNumber.{left-true, right-true, same-is}
+use Rattle.writer_row.specs.AgreeNumber.{left-true, right-true}
 use Rattle.writer_tables.specs.Tables.{sameEnds, sameAt}
 
 -- an end that three columns can hold, else 0
@@ -39,8 +40,8 @@ ends-key : (a b c d : ℤ) → ((sameInteger a c && sameInteger b d) || (sameInt
 ends-key a b c d h = go (sameInteger a c && sameInteger b d) refl h
   where
     go : (s : Bool) → (sameInteger a c && sameInteger b d) ≡ s → (s || (sameInteger a d && sameInteger b c)) ≡ true → endsKey a b ≡ endsKey c d
-    go true e k = ap₂ endsKey (same-is a c (left-true _ (sameInteger b d) e)) (same-is b d (right-true (sameInteger a c) _ e))
-    go false e k = ap₂ endsKey (same-is a d (left-true _ (sameInteger b c) k)) (same-is b c (right-true (sameInteger a d) _ k)) ∙ key-either (smallEnd d) (smallEnd c)
+    go true e k = ap₂ endsKey (same-integer a c (left-true _ (sameInteger b d) e)) (same-integer b d (right-true (sameInteger a c) _ e))
+    go false e k = ap₂ endsKey (same-integer a d (left-true _ (sameInteger b c) k)) (same-integer b c (right-true (sameInteger a d) _ k)) ∙ key-either (smallEnd d) (smallEnd c)
 
 pub same-key : (t : List ℤ) (i j : ℕ) → sameAt t i j ≡ true → keyAt t i ≡ keyAt t j
 unfolding sameAt sameEnds keyAt

@@ -2,12 +2,13 @@
 use native.Mathlib.Omega.{arith}
 use borrow.Author.Needs.{needs}
 use borrow.Author.Tests.{not-false}
-use Rattle.line_usual_position.specs.Usual.{no-lead, lead-bound, line-usual}
+use Rattle.text.specs.Laws.{false-true}
+use Rattle.line_usual_position.specs.Usual.{lead-bound, line-usual}
 use Rattle.line_usual_position.proofs.is_usual.Statement.{statement}
 use Rattle.line_usual_position.proofs.is_usual.Tie as tie
 
 returns : tie.Need-returns
-returns c = no-lead
+returns c = false-true
 
 slice-aggregate-outside : tie.Need-slice-aggregate-outside
 slice-aggregate-outside c = search needs
@@ -19,21 +20,21 @@ outside-requires : tie.Need-outside-requires
 outside-requires c κs = search needs
 
 returns-2 : tie.Need-returns-2
-returns-2 c = no-lead
+returns-2 c = false-true
 
 has-lead-requires : tie.Need-has-lead-requires
 has-lead-requires c κs =
     (omega arith, omega arith, search needs, lead-bound (c .before .before .before .before .before .before .args .line .now) (search needs) (c .before .outside .ensures (search needs)) .0)
 
 returns-3 : tie.Need-returns-3
-returns-3 c = no-lead
+returns-3 c = false-true
 
 has-lead-requires-2 : tie.Need-has-lead-requires-2
 has-lead-requires-2 c κs =
     (omega arith, omega arith, search needs, lead-bound (c .before .before .before .before .before .before .before .before .args .line .now) (search needs) (c .before .before .before .outside .ensures (search needs)) .1)
 
 returns-4 : tie.Need-returns-4
-returns-4 c = no-lead
+returns-4 c = false-true
 
 has-lead-requires-3 : tie.Need-has-lead-requires-3
 has-lead-requires-3 c κs =
