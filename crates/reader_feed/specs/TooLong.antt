@@ -73,7 +73,7 @@ record-piece {s = s} {ls = ls} {x = x} p r =
     let one : oneRecord limit (cut s .lines) ≡ One.whole x (length ls) [] = ap (oneRecord limit) is ∙ one-whole limit ls x (length ls) [] .1 (r, omega arith) in
     one-piece s (One.whole x (length ls) []) one ∙ ap (λ (n : ℕ). Piece.Whole n (length ls)) (lines-all p)
 
-file-record : {ls : List Line} {x : Raw} → SDfile limit ls (x ∷ []) → Record limit ls x []
+pub file-record : {ls : List Line} {x : Raw} → SDfile limit ls (x ∷ []) → Record limit ls x []
 file-record (SDfile.more r SDfile.none) = r
 
 good-piece : (s : Bytes) (x : Raw) → GoodSDfile s (x ∷ []) → (k : ℕ) × (pieceOf s ≡ Piece.Whole (length s) k)

@@ -1,8 +1,7 @@
 -- The items of a good record, looked at again: no line is unfinished, none is refused.
 use Prim.Native.Nat.{ℕ, _-_}
-use native.Mathlib.Omega.{arith}
 use mathlib.Core.Path.{_≡_, refl, sym, ap, _∙_, subst}
-use mathlib.Core.Bool.{Bool, true, false}
+use mathlib.Core.Bool.{true, false}
 use mathlib.Core.List.{List, [], _∷_}
 use lib.ListN.{take, drop}
 use Rattle.text.specs.Text.{Bytes, Line}
@@ -13,6 +12,7 @@ use Rattle.rules.specs.Record.{Item, Values, Items}
 use Rattle.judge_line.specs.Got.{got, bad}
 use Rattle.judge_line.specs.GotLaws.{bad-got}
 use Rattle.judge_line.specs.Judge.{title, close, itemOf, value, blank, valueOf}
+use Rattle.judge_line.specs.AgreeText.{true-false}
 use Rattle.judge_line.specs.AgreeItem.{title-is, close-line-is, value-is, blank-line-is}
 use Rattle.line_judged.specs.Known.{Standing, HeaderOrEnd, value-told, blank-told}
 
@@ -36,17 +36,14 @@ value-never-bad : {X : Type 0} {l : Line} {t vs r : List Line} (e c : ℕ) → V
 value-never-bad e c (Values.end {l = l} b) h = bad-got (sym h ∙ blank-line-is l b)
 value-never-bad e c (Values.more {l = l} v p) h = bad-got (sym h ∙ value-is l v)
 
-true-false : {X : Type 0} {b : Bool} → b ≡ true → b ≡ false → X
-true-false p q = absurd (let z : true ≡ false = sym p ∙ q in let z : _≡_ {A = ℕ} 0 1 = cc in omega arith)
-
 -- one look tells the values from the blank after them
 pub value-known : {l : Line} {t vs r : List Line} → Values (l ∷ t) vs r → isBlank l ≡ false → (ws : List Line) × Values t ws r × (valueOf l ≡ got value)
-value-known (Values.end {l = l} b) h = true-false (blank-told l b) h
+value-known (Values.end {l = l} b) h = true-false (isBlank l) (blank-told l b) h
 value-known (Values.more {l = l} {vs = vs} v p) h = (vs, p, value-is l v)
 
 pub blank-known : {l : Line} {t vs r : List Line} → Values (l ∷ t) vs r → isBlank l ≡ true → valueOf l ≡ got blank
 blank-known (Values.end {l = l} b) h = blank-line-is l b
-blank-known (Values.more {l = l} v p) h = true-false h (value-told l v)
+blank-known (Values.more {l = l} v p) h = true-false (isBlank l) h (value-told l v)
 
 -- ---- At a position of the text
 

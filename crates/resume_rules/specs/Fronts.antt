@@ -7,7 +7,7 @@ use lib.ListN.{length, take}
 use lib.Seq.{take-append-add}
 use Rattle.text.specs.Text.{Bytes, Line}
 use Rattle.text.specs.Cut.{Cut, cut, cut-is, lines-cut}
-use Rattle.rules.specs.Record.{Raw, Record, SDfile, GoodSDfile, limit}
+use Rattle.rules.specs.Record.{Raw, GoodSDfile, limit}
 use Rattle.judge_file.specs.One.{One, oneRecord}
 use Rattle.judge_file.specs.OneAgree.{one-refused, one-short}
 use Rattle.judge_refusals.specs.Because.{one-because}
@@ -15,7 +15,7 @@ use Rattle.judge_refusals.specs.NoRecord.{NoRecord}
 use Rattle.reader_feed.specs.Fed.{Piece, pieceOf}
 use Rattle.reader_feed.specs.Pieces.{piece-room}
 use Rattle.reader_feed.specs.Stays.{refused-one, short-one, one-piece, whole-stays}
-use Rattle.reader_feed.specs.TooLong.{record-piece, open-short}
+use Rattle.reader_feed.specs.TooLong.{record-piece, file-record, open-short}
 
 -- ---- No record
 
@@ -55,9 +55,6 @@ pub open-line : (s : Bytes) (k : ℕ) → pieceOf s ≡ Piece.Short k → k ≡ 
 open-line s k h = let f = one-short limit (omega arith) (cut s .lines) k (short-one s k h) .0 in omega (arith, f)
 
 -- ---- A record
-
-file-record : {ls : List Line} {x : Raw} → SDfile limit ls (x ∷ []) → Record limit ls x []
-file-record (SDfile.more r SDfile.none) = r
 
 module _ (room : ℕ) (t own rest : Bytes) (x : Raw) (e : t ≡ own ++ rest) (g : GoodSDfile own (x ∷ [])) (fits : length own ≤ room) where
   pub good-front : (pieceOf (take room t) ≡ Piece.Whole (length own) (length (cut own .lines))) × (0 < length own)
