@@ -29,15 +29,12 @@ use Rattle.formula_rules.specs.Formula.{Trees}
 use Rattle.formula_rules.specs.Total.{countTrees}
 use Rattle.formula_rules.specs.Verdict.{Verdict, counts, Judged, differences}
 use Rattle.formula_rules.specs.Verdict as W
-use Rattle.formula_rules.specs.Judged.{verdictOf, judged, one-verdict}
+use Rattle.formula_rules.specs.Judged.{verdictOf, judged, one-verdict, never}
 use Rattle.formula_drawn.specs.Drawn.{onlyElements, howMany}
 use Rattle.formula_record.specs.Said.{Said, formulaName, symbols, Value, nowhere, none, first, valueIn, valueOf, byVerdict, byValue, byOutcome, saidOf, toldOf, foundIn, room, answerOf, foundAfter}
 use Rattle.formula_record.specs.Promise.{numbersOf, OnlyElements, Compares, ComparePromise}
 use Rattle.formula_record.specs.Values.{Valued, valued, value-none, value-first, only-elements, elements-only}
 use Rattle.formula_record.specs.declared.Compared.{Compared}
-
-never : {X : Type 0} {b : Bool} → b ≡ true → b ≡ false → X
-never h k = absurd (let z : true ≡ false = sym h ∙ k in let z : _≡_ {A = ℕ} 0 1 = cc in omega arith)
 
 -- ---- A good record
 

@@ -1,7 +1,6 @@
 -- The value that is looked up is the one of the rules.
 use Prim.Native.Nat.{ℕ, _≤_}
-use native.Mathlib.Omega.{arith}
-use mathlib.Core.Path.{_≡_, refl, sym, ap, _∙_, subst}
+use mathlib.Core.Path.{_≡_, refl, ap, _∙_, subst}
 use mathlib.Core.List.{List, [], _∷_, _++_}
 use mathlib.Core.Bool.{Bool, true, false, cond, _&&_}
 use lib.Dec.{leb}
@@ -14,12 +13,10 @@ use Rattle.rules.specs.Record.{Item}
 use Rattle.reader_item.specs.Promise.{NoneNamed}
 use Rattle.reader_item.specs.Beyond.{FirstNamed}
 use Rattle.formula_rules.specs.Formula.{elements}
+use Rattle.formula_rules.specs.Judged.{never}
 use Rattle.formula_drawn.specs.Drawn.{onlyElements}
 use Rattle.formula_record.specs.Said.{Value, nowhere, valueIn, valueOf}
 use Rattle.formula_record.specs.Promise.{OnlyElements}
-
-never : {X : Type 0} {b : Bool} → b ≡ true → b ≡ false → X
-never h k = absurd (let z : true ≡ false = sym h ∙ k in let z : _≡_ {A = ℕ} 0 1 = cc in omega arith)
 
 pub data Valued (name : Bytes) (is : List Item) : Value → Type 0 where
   none : NoneNamed name is → Valued name is nowhere

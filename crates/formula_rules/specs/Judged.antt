@@ -16,7 +16,7 @@ use Rattle.formula_rules.specs.Verdict.{most, Few, Verdict, counts, refu
 use Rattle.formula_rules.specs.Parse.{UnitsRead, units, unitsOf, formulaOf}
 use Rattle.formula_rules.specs.Complete.{one-formula, units-complete, end-text, formula-complete, formula-sound, formula-any}
 use Rattle.formula_rules.specs.Sums.{sat, Below, addedUnits}
-use Rattle.formula_rules.specs.Capped.{sat-small, capped-small, formula-counts, units-length}
+use Rattle.formula_rules.specs.Capped.{sat-small, capped-small, formula-counts}
 
 -- ---- The verdict computed
 
@@ -73,10 +73,6 @@ pub empty-below : Below empty
 unfolding Below
 empty-below j = omega (arith, empty-place j)
 
-pub sums-length : (s : Bytes) → length (sumsOf s) ≡ places
-unfolding sumsOf
-sums-length s = units-length 1 (unitsOf s deepest 0) empty
-
 module _ (s : Bytes) (ts : Trees) (f : Formula s ts) (i : TreesIn ts deepest) where
   sum-at : (k : ℕ) → k ≤ elements → getD (sumsOf s) k 0 ≡ sat (countTrees ts k)
   unfolding sumsOf
@@ -127,7 +123,7 @@ crowded-some t i (suc n) h = go (ltb most (getD t i 0)) refl (λ q. crowded-some
     go true e f q = record { k = i; low = omega arith; high = omega arith; above = ltb-true most (getD t i 0) e }
     go false e f q = let a = f q in record { k = a .k; low = omega (arith, a .low); high = omega (arith, a .high); above = a .above }
 
-never : {X : Type 0} {b : Bool} → b ≡ true → b ≡ false → X
+pub never : {X : Type 0} {b : Bool} → b ≡ true → b ≡ false → X
 never h k = absurd (let z : true ≡ false = sym h ∙ k in let z : _≡_ {A = ℕ} 0 1 = cc in omega arith)
 
 pub judged : (s : Bytes) → Judged s (verdictOf s)
