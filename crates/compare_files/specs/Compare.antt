@@ -40,6 +40,9 @@ pub record Work : Type 0 where
   pub new-atoms : List ℤ
   pub new-bonds : List ℤ
 
+abbrev pub work : List ℤ → List ℤ → List ℤ → List ℤ → Work
+work ta tb ua ub = record { old-atoms = ta; old-bonds = tb; new-atoms = ua; new-bonds = ub }
+
 unfoldable pub roomy : Work → Bool
 roomy w =
     leb atomPlaces (length (w .old-atoms)) && (leb bondPlaces (length (w .old-bonds))

@@ -1,5 +1,5 @@
 -- Counted, then listed; judged before, and the work tables emptied behind: laws for the code.
-use Prim.Native.Nat.{ℕ, zero, suc, _+_, _*_, _/_, _≤_, _<_, _^_}
+use Prim.Native.Nat.{ℕ, _+_, _*_, _/_, _≤_, _<_, _^_}
 use native.Mathlib.Omega.{arith}
 use mathlib.Core.Path.{_≡_, refl, sym, ap, ap₂, _∙_, subst}
 use mathlib.Core.List.{List, [], _∷_, _++_}
@@ -8,15 +8,13 @@ use lib.Dec.{leb, ltb}
 use lib.ListN.{length, drop, length-append}
 use lib.Seq.{sets, sets-eq}
 use lib.IntN.{ℤ}
-use borrow.Author.Tests.{leb-true, leb-false, le-leb, lt-leb, le-ltb, ltb-true, ltb-false}
+use borrow.Author.Tests.{leb-true, leb-false, le-leb, lt-leb, le-ltb, ltb-false}
 use Rattle.text.specs.Text.{Bytes}
 use Rattle.rules.specs.Record.{Raw, limit, atomPlaces, bondPlaces}
 use Rattle.judge_file.specs.Place.{sdfile}
 use Rattle.judge_file.specs.Verdict.{Verdict, accepted, refused, verdict}
-use Rattle.reader_tables.specs.Filled.{cleared}
-use Rattle.reader_tables.specs.Cleared.{refused-filled}
-use Rattle.reader_walk.specs.Walked.{Beside}
 use Rattle.reader_answer.specs.Read.{zeroed, rowsIn}
+use Rattle.reader_answer.specs.Rows.{rows-emptied}
 use Rattle.compare_rules.specs.declared.Count.{Count}
 use Rattle.compare_rules.specs.Differences.{Difference, row}
 use Rattle.compare_rules.specs.Files.{filesApart}
@@ -24,29 +22,18 @@ use Rattle.compare_rules.specs.Log.{Log, log, seen, noted}
 use Rattle.compare_rules.specs.Listed.{flat, stored-exact, room-told}
 use Rattle.compare_files.specs.declared.Compared.{Compared}
 use Rattle.compare_files.specs.declared.Judged.{Judged}
-use Rattle.compare_files.specs.Compare.{within, first, filesFor, Work, answerBy, listBy, emptied}
-use Rattle.compare_files.specs.Judging.{secondBy, judgedBy, shortBy}
-use Rattle.compare_files.specs.Walking.{GoodFiles, Apart, work, beside-join}
+use Rattle.compare_files.specs.Compare.{within, first, filesFor, Work, work, answerBy, listBy, emptied}
+use Rattle.compare_files.specs.Judging.{judgedBy, shortBy}
+use Rattle.compare_files.specs.Pair.{Kept, kept-rooms}
+use Rattle.compare_files.specs.Walking.{GoodFiles, Apart}
 use Rattle.compare_files.specs.Promise.{Rooms, Promise, promise-short, promise-long}
 
 -- ---- Two good files
 
 -- tables that were lent once are lent again
-pub good-again : (a : Bytes) (n : ℕ) (b : Bytes) (m : ℕ) (ta tb ua ub ta′ tb′ ua′ ub′ : List ℤ) → GoodFiles a n b m (work ta tb ua ub) →
-    Beside atomPlaces ta ta′ → Beside bondPlaces tb tb′ → Beside atomPlaces ua ua′ → Beside bondPlaces ub ub′ → GoodFiles a n b m (work ta′ tb′ ua′ ub′)
-good-again a n b m ta tb ua ub ta′ tb′ ua′ ub′ g oa ob na nb =
-    record {
-      xs = g .xs;
-      ys = g .ys;
-      left = g .left;
-      right = g .right;
-      n-is = g .n-is;
-      m-is = g .m-is;
-      old-atoms = omega (arith, oa .room, oa .size);
-      old-bonds = omega (arith, ob .room, ob .size);
-      new-atoms = omega (arith, na .room, na .size);
-      new-bonds = omega (arith, nb .room, nb .size);
-    }
+pub good-again : {a : Bytes} {n : ℕ} {b : Bytes} {m : ℕ} {w w′ : Work} → GoodFiles a n b m w → Kept w w′ → GoodFiles a n b m w′
+good-again g kept =
+    record { xs = g .xs; ys = g .ys; left = g .left; right = g .right; n-is = g .n-is; m-is = g .m-is; rooms = kept-rooms kept }
 
 flat-length : (ds : List Difference) → length (flat ds) ≡ 7 * length ds
 unfolding flat
@@ -113,13 +100,11 @@ module _ (a : Bytes) (n : ℕ) (b : Bytes) (m : ℕ) (w : Work) (g : GoodFiles a
 -- ---- Judged before
 
 module _ (a b : Bytes) (j : Judged) (ej : j ≡ judgedBy (verdict sdfile limit a) (verdict sdfile limit b)) where
-  pub judged-good : (ta tb ua ub : List ℤ) (n m : ℕ) → atomPlaces ≤ length ta → bondPlaces ≤ length tb → atomPlaces ≤ length ua → bondPlaces ≤ length ub →
-      j ≡ Judged.Good n m → GoodFiles a n b m (work ta tb ua ub)
-  judged-good ta tb ua ub n m oa ob na nb q = go (verdict sdfile limit a) refl (verdict sdfile limit b) refl (sym ej ∙ q)
+  pub judged-good : (w : Work) (n m : ℕ) → Rooms w → j ≡ Judged.Good n m → GoodFiles a n b m w
+  judged-good w n m rooms q = go (verdict sdfile limit a) refl (verdict sdfile limit b) refl (sym ej ∙ q)
     where
-      go : (u : Verdict (List Raw)) → verdict sdfile limit a ≡ u → (v : Verdict (List Raw)) → verdict sdfile limit b ≡ v → judgedBy u v ≡ Judged.Good n m → GoodFiles a n b m (work ta tb ua ub)
-      go (accepted xs) e (accepted ys) f z =
-          record { xs = xs; ys = ys; left = e; right = f; n-is = cc; m-is = cc; old-atoms = oa; old-bonds = ob; new-atoms = na; new-bonds = nb }
+      go : (u : Verdict (List Raw)) → verdict sdfile limit a ≡ u → (v : Verdict (List Raw)) → verdict sdfile limit b ≡ v → judgedBy u v ≡ Judged.Good n m → GoodFiles a n b m w
+      go (accepted xs) e (accepted ys) f z = record { xs = xs; ys = ys; left = e; right = f; n-is = cc; m-is = cc; rooms = rooms }
       go (accepted xs) e (refused k i c) f z = absurd (let z : _≡_ {A = ℕ} 0 1 = cc in omega arith)
       go (refused k i c) e v f z = absurd (let z : _≡_ {A = ℕ} 0 1 = cc in omega arith)
 
@@ -147,18 +132,7 @@ module _ (a b : Bytes) (j : Judged) (ej : j ≡ judgedBy (verdict sdfile limit a
     pub judged-kept : l ≡ listBy l (filesFor a b (length l))
     judged-kept = sym (ap (listBy l) stopped)
 
-pub beside-self : (cap : ℕ) (t : List ℤ) → cap ≤ length t → Beside cap t t
-beside-self cap t h = record { room = h; size = refl; past = refl }
-
 -- ---- The work tables
-
-pub zeroed-is : (t u : List ℤ) (k : ℕ) → u ≡ cleared t 0 k → u ≡ zeroed t 0 k
-unfolding zeroed
-zeroed-is t u k e = e
-
-emptied-is : (cap : ℕ) (t u v : List ℤ) → Beside cap t u → v ≡ zeroed u 0 cap → v ≡ rowsIn cap t []
-unfolding zeroed rowsIn
-emptied-is cap t u v b e = e ∙ refused-filled cap t u (b .past)
 
 module _ (ta tb ua ub : List ℤ) (t : Bool) (et : t ≡ shortBy (length ta) (length tb) (length ua) (length ub)) where
   pub short-rooms : t ≡ true → Rooms (work ta tb ua ub) → ⊥
@@ -191,17 +165,13 @@ module _ (a b : Bytes) (ta tb ua ub l : List ℤ) (t : Bool) (et : t ≡ shortBy
   pub files-short : t ≡ true → Promise a b (work ta tb ua ub) l (Compared.Refused 2 0 0) (work ta tb ua ub) l
   files-short h = promise-short a b (work ta tb ua ub) l (short-rooms ta tb ua ub t et h)
 
-  pub files-room : t ≡ false → (atomPlaces ≤ length ta) × (bondPlaces ≤ length tb) × (atomPlaces ≤ length ua) × (bondPlaces ≤ length ub)
-  files-room h = let r = long-rooms ta tb ua ub t et h in (r .old .atoms, r .old .bonds, r .new .atoms, r .new .bonds)
-
   pub files-long : t ≡ false → (r : Compared) (l′ ta′ tb′ ua′ ub′ ta″ tb″ ua″ ub″ : List ℤ) →
       r ≡ answerBy (filesFor a b (length l)) → l′ ≡ listBy l (filesFor a b (length l)) →
-      Beside atomPlaces ta ta′ → Beside bondPlaces tb tb′ → Beside atomPlaces ua ua′ → Beside bondPlaces ub ub′ →
-      ta″ ≡ zeroed ta′ 0 atomPlaces → tb″ ≡ zeroed tb′ 0 bondPlaces → ua″ ≡ zeroed ua′ 0 atomPlaces → ub″ ≡ zeroed ub′ 0 bondPlaces →
+      Kept (work ta tb ua ub) (work ta′ tb′ ua′ ub′) → ta″ ≡ zeroed ta′ 0 atomPlaces → tb″ ≡ zeroed tb′ 0 bondPlaces → ua″ ≡ zeroed ua′ 0 atomPlaces → ub″ ≡ zeroed ub′ 0 bondPlaces →
       Promise a b (work ta tb ua ub) l r (work ta″ tb″ ua″ ub″) l′
-  files-long h r l′ ta′ tb′ ua′ ub′ ta″ tb″ ua″ ub″ e f oa ob na nb i j k m =
+  files-long h r l′ ta′ tb′ ua′ ub′ ta″ tb″ ua″ ub″ e f kept i j k m =
       let w : work ta″ tb″ ua″ ub″ ≡ emptied (work ta tb ua ub) =
-      ap₂ (λ (x y : List ℤ). work x y ua″ ub″) (emptied-is atomPlaces ta ta′ ta″ oa i) (emptied-is bondPlaces tb tb′ tb″ ob j)
-      ∙ ap₂ (λ (x y : List ℤ). work (rowsIn atomPlaces ta []) (rowsIn bondPlaces tb []) x y) (emptied-is atomPlaces ua ua′ ua″ na k) (emptied-is bondPlaces ub ub′ ub″ nb m)
+      ap₂ (λ (x y : List ℤ). work x y ua″ ub″) (rows-emptied atomPlaces ta ta′ ta″ (kept .old-atoms) i) (rows-emptied bondPlaces tb tb′ tb″ (kept .old-bonds) j)
+      ∙ ap₂ (λ (x y : List ℤ). work (rowsIn atomPlaces ta []) (rowsIn bondPlaces tb []) x y) (rows-emptied atomPlaces ua ua′ ua″ (kept .new-atoms) k) (rows-emptied bondPlaces ub ub′ ub″ (kept .new-bonds) m)
       in
       subst (λ (z : Work). Promise a b (work ta tb ua ub) l r z l′) (sym w) (promise-long a b (work ta tb ua ub) l (long-rooms ta tb ua ub t et h) r l′ e f)

@@ -1,8 +1,8 @@
 -- Two records read and compared: laws for the code.
 use Prim.Native.Nat.{ℕ, _-_, _*_, _≤_, _<_, _^_}
 use native.Mathlib.Omega.{arith}
-use mathlib.Core.Path.{_≡_, refl, sym, ap, ap₂, _∙_, subst}
-use mathlib.Core.List.{List, [], _∷_}
+use mathlib.Core.Path.{_≡_, sym, ap, ap₂, _∙_}
+use mathlib.Core.List.{List, []}
 use lib.ListN.{length, take, drop}
 use lib.IntN.{ℤ}
 use Rattle.text.specs.Text.{Bytes, Line, Lines}
@@ -11,25 +11,28 @@ use Rattle.rules.specs.Meaning.{Reading, meaning}
 use Rattle.rules.specs.Canon.{HeaderPart}
 use Rattle.judge_file.specs.Place.{sdfile}
 use Rattle.judge_file.specs.WalkText.{afterLines}
-use Rattle.reader_walk.specs.Outcome.{Outcome, whole, refused, outcomeOf}
-use Rattle.reader_walk.specs.Walked.{walkOf, Beside}
+use Rattle.reader_walk.specs.Outcome.{whole, refused, outcomeOf}
+use Rattle.reader_walk.specs.Walked.{Beside, beside-same, beside-join}
 use Rattle.reader_answer.specs.declared.RecordRead.{RecordRead}
-use Rattle.reader_answer.specs.Read.{answered, readAs, RowsLeft}
-use Rattle.reader_answer.specs.Reading.{enough}
+use Rattle.reader_answer.specs.Read.{readAs}
+use Rattle.reader_answer.specs.Promise.{Roomy}
 use Rattle.reader_answer.specs.Rows.{RowsPromise}
+use Rattle.reader_answer.specs.Told.{whole-raw, whole-lines}
 use Rattle.writer_record.specs.Write.{Given, handed}
 use Rattle.writer_record.specs.Promise.{Accepted}
-use Rattle.writer_copy.specs.Bridge.{givenOf, Front, front, walked-refused}
+use Rattle.writer_copy.specs.Bridge.{givenOf, Front}
+use Rattle.writer_copy.specs.Reading.{front, read-refused}
 use Rattle.compare_rules.specs.declared.Count.{Count}
 use Rattle.compare_rules.specs.Differences.{recordsApart}
 use Rattle.compare_rules.specs.Log.{Log, log, noted}
-use Rattle.compare_items.specs.Part.{itemsAt, part-items}
+use Rattle.compare_items.specs.Part.{part-items}
 use Rattle.compare_record.specs.declared.Numbers.{Numbers}
 use Rattle.compare_record.specs.Numbers.{SmallNumbers}
 use Rattle.compare_record.specs.Heads.{headersOf, headers-are, readingOf}
 use Rattle.compare_files.specs.declared.Taken.{Taken}
 use Rattle.compare_files.specs.declared.Pair.{Pair}
-use Rattle.compare_files.specs.Compare.{Work}
+use Rattle.compare_files.specs.Compare.{Work, work}
+use Rattle.compare_files.specs.Promise.{Rooms}
 
 -- ---- A record that was read
 
@@ -50,27 +53,16 @@ pub record Read (r : RecordRead) (t : Bytes) (ta tb : List ℤ) : Type 0 where
   pub good : (e i c : ℕ) → r ≡ RecordRead.Refused e i c → ⊥
   pub front : (n m chiral len k h a b : ℕ) → r ≡ RecordRead.Read n m chiral len k h a b → Front sdfile t ta tb n m chiral len k h a b
 
-module _ (t : Bytes) (ta tb ta′ tb′ : List ℤ) (ra : atomPlaces ≤ length ta) (rb : bondPlaces ≤ length tb) (p : RowsPromise sdfile t ta tb ta′ tb′) where
-  left : RowsLeft ta ta′ tb tb′ (outcomeOf sdfile t)
-  left = p .rows (record { atoms = ra; bonds = rb })
-
-  read-atoms : Beside atomPlaces ta ta′
-  read-atoms = left .atoms
-
-  read-bonds : Beside bondPlaces tb tb′
-  read-bonds = left .bonds
-
-  read-is : (x : Raw) (k : ℕ) → outcomeOf sdfile t ≡ whole x k → (r : RecordRead) → r ≡ readAs sdfile (length ta) (length tb) t → Read r t ta′ tb′
-  unfolding walkOf
-  read-is x k o r er =
-      let w : answered (walkOf sdfile t) ≡ r = enough sdfile t (length ta) (length tb) (answered (walkOf sdfile t)) ra rb refl ∙ sym er in
-      record {
-        good = λ e i c q.
-            let z : whole x k ≡ refused e i c = sym o ∙ walked-refused sdfile t e i c (outcomeOf sdfile t) (w ∙ q) in
-            let n : _≡_ {A = ℕ} 0 1 = cc in
-            omega arith;
-        front = λ n m chiral len k h a b q. front sdfile t ta tb ta′ tb′ left n m chiral len k h a b (w ∙ q);
-      }
+read-is : (t : Bytes) (ta tb ta′ tb′ : List ℤ) → Roomy ta tb → RowsPromise sdfile t ta tb ta′ tb′ → (x : Raw) (k : ℕ) → outcomeOf sdfile t ≡ whole x k →
+    (r : RecordRead) → r ≡ readAs sdfile (length ta) (length tb) t → Read r t ta′ tb′
+read-is t ta tb ta′ tb′ y p x k o r er =
+    record {
+      good = λ e i c q.
+          let z : whole x k ≡ refused e i c = sym o ∙ read-refused t ta tb ta′ tb′ (y .atoms) (y .bonds) p r er e i c q in
+          let n : _≡_ {A = ℕ} 0 1 = cc in
+          omega arith;
+      front = λ n m chiral len k h a b q. front t ta tb ta′ tb′ (y .atoms) (y .bonds) p r er n m chiral len k h a b q;
+    }
 
 -- ---- Two of them
 
@@ -79,9 +71,6 @@ pub record Paired (position : ℕ) (t u : Bytes) (g : Log) (l : List ℤ) (r : P
   pub left : (x : Raw) (k : ℕ) → outcomeOf sdfile t ≡ whole x k → (r .left .bytes ≡ afterLines t 0 k) × (r .left .lines ≡ k)
   pub right : (y : Raw) (k : ℕ) → outcomeOf sdfile u ≡ whole y k → (r .right .bytes ≡ afterLines u 0 k) × (r .right .lines ≡ k)
   pub same : (x y : Raw) (k j : ℕ) → outcomeOf sdfile t ≡ whole x k → outcomeOf sdfile u ≡ whole y j → log l (r .count) ≡ noted g (recordsApart position (meaning x) (meaning y))
-
-same-whole : {o : Outcome} {x y : Raw} {k j : ℕ} → o ≡ whole x k → o ≡ whole y j → (x ≡ y) × (k ≡ j)
-same-whole {o} {x} {y} {k} {j} p q = let e : whole x k ≡ whole y j = sym p ∙ q in (cc, cc)
 
 -- records that begin the texts are read
 pub never-old : (position : ℕ) (x : RecordRead) (t u : Bytes) (ta tb : List ℤ) (g : Log) (l : List ℤ) (r : Pair) → Read x t ta tb → (e i c : ℕ) → x ≡ RecordRead.Refused e i c →
@@ -136,12 +125,12 @@ pair-done position x y t u ta tb ua ub p q n m chiral len k h a b e n′ m′ ch
     let f = it x t ta tb p n m chiral len k h a b e in
     let f′ = it y u ua ub q n′ m′ chiral′ len′ k′ h′ a′ b′ e′ in
     record {
-      left = λ z j o. let w = same-whole (f .is) o in (f .size ∙ ap (afterLines t 0) (w .1), w .1);
-      right = λ z j o. let w = same-whole (f′ .is) o in (f′ .size ∙ ap (afterLines u 0) (w .1), w .1);
+      left = λ z j o. let w = whole-lines (sym (f .is) ∙ o) in (f .size ∙ ap (afterLines t 0) w, w);
+      right = λ z j o. let w = whole-lines (sym (f′ .is) ∙ o) in (f′ .size ∙ ap (afterLines u 0) w, w);
       same = λ z z′ j j′ o o′.
           s ∙ ap₂ (λ (v w : Reading). noted g (recordsApart position v w))
-          (told x t ta tb p n m chiral len k h a b e ∙ ap meaning (same-whole (f .is) o .0))
-          (told y u ua ub q n′ m′ chiral′ len′ k′ h′ a′ b′ e′ ∙ ap meaning (same-whole (f′ .is) o′ .0));
+          (told x t ta tb p n m chiral len k h a b e ∙ ap meaning (whole-raw (sym (f .is) ∙ o)))
+          (told y u ua ub q n′ m′ chiral′ len′ k′ h′ a′ b′ e′ ∙ ap meaning (whole-raw (sym (f′ .is) ∙ o′)));
     }
 
 pub ruleset pair-laws = (never-old, never-new, pair-headers, pair-items, pair-items-end, pair-small, pair-atoms, pair-bonds, pair-done)
@@ -151,10 +140,7 @@ pub ruleset pair-laws = (never-old, never-new, pair-headers, pair-items, pair-it
 -- both texts begin with a record, and the work tables have room
 pub record Ready (position : ℕ) (t u : Bytes) (w : Work) : Type 0 where
   pub small : position < 2 ^ 63
-  pub old-atoms : atomPlaces ≤ length (w .old-atoms)
-  pub old-bonds : bondPlaces ≤ length (w .old-bonds)
-  pub new-atoms : atomPlaces ≤ length (w .new-atoms)
-  pub new-bonds : bondPlaces ≤ length (w .new-bonds)
+  pub rooms : Rooms w
   pub x : Raw
   pub k : ℕ
   pub left : outcomeOf sdfile t ≡ whole x k
@@ -162,26 +148,50 @@ pub record Ready (position : ℕ) (t u : Bytes) (w : Work) : Type 0 where
   pub j : ℕ
   pub right : outcomeOf sdfile u ≡ whole y j
 
-module _ (position : ℕ) (t u : Bytes) (ta tb ua ub : List ℤ) (g : Ready position t u (record { old-atoms = ta; old-bonds = tb; new-atoms = ua; new-bonds = ub })) where
-  module _ (ta′ tb′ : List ℤ) (p : RowsPromise sdfile t ta tb ta′ tb′) where
-    pub old-atoms-left : Beside atomPlaces ta ta′
-    old-atoms-left = read-atoms t ta tb ta′ tb′ (g .old-atoms) (g .old-bonds) p
+-- nothing of the tables w₀ changed past the limit
+pub record Kept (w₀ w : Work) : Type 0 where
+  pub old-atoms : Beside atomPlaces (w₀ .old-atoms) (w .old-atoms)
+  pub old-bonds : Beside bondPlaces (w₀ .old-bonds) (w .old-bonds)
+  pub new-atoms : Beside atomPlaces (w₀ .new-atoms) (w .new-atoms)
+  pub new-bonds : Beside bondPlaces (w₀ .new-bonds) (w .new-bonds)
 
-    pub old-bonds-left : Beside bondPlaces tb tb′
-    old-bonds-left = read-bonds t ta tb ta′ tb′ (g .old-atoms) (g .old-bonds) p
+pub kept-same : (w : Work) → Rooms w → Kept w w
+kept-same w r =
+    record {
+      old-atoms = beside-same atomPlaces (w .old-atoms) (r .old .atoms);
+      old-bonds = beside-same bondPlaces (w .old-bonds) (r .old .bonds);
+      new-atoms = beside-same atomPlaces (w .new-atoms) (r .new .atoms);
+      new-bonds = beside-same bondPlaces (w .new-bonds) (r .new .bonds);
+    }
 
-    module _ (ua′ ub′ : List ℤ) (q : RowsPromise sdfile u ua ub ua′ ub′) (r s : RecordRead)
-        (er : r ≡ readAs sdfile (length ta) (length tb) t) (es : s ≡ readAs sdfile (length ua) (length ub) u) where
-      pub both-read : (position < 2 ^ 63) × Read r t ta′ tb′ × Read s u ua′ ub′
-      both-read = (
-        g .small,
-        read-is t ta tb ta′ tb′ (g .old-atoms) (g .old-bonds) p (g .x) (g .k) (g .left) r er,
-        read-is u ua ub ua′ ub′ (g .new-atoms) (g .new-bonds) q (g .y) (g .j) (g .right) s es,
-      )
+pub kept-join : {w₀ w w′ : Work} → Kept w₀ w → Kept w w′ → Kept w₀ w′
+kept-join p q =
+    record {
+      old-atoms = beside-join (p .old-atoms) (q .old-atoms);
+      old-bonds = beside-join (p .old-bonds) (q .old-bonds);
+      new-atoms = beside-join (p .new-atoms) (q .new-atoms);
+      new-bonds = beside-join (p .new-bonds) (q .new-bonds);
+    }
 
-  module _ (ua′ ub′ : List ℤ) (q : RowsPromise sdfile u ua ub ua′ ub′) where
-    pub new-atoms-left : Beside atomPlaces ua ua′
-    new-atoms-left = read-atoms u ua ub ua′ ub′ (g .new-atoms) (g .new-bonds) q
+pub kept-rooms : {w₀ w : Work} → Kept w₀ w → Rooms w
+kept-rooms p =
+    record {
+      old = record { atoms = omega (arith, p .old-atoms .room, p .old-atoms .size); bonds = omega (arith, p .old-bonds .room, p .old-bonds .size) };
+      new = record { atoms = omega (arith, p .new-atoms .room, p .new-atoms .size); bonds = omega (arith, p .new-bonds .room, p .new-bonds .size) };
+    }
 
-    pub new-bonds-left : Beside bondPlaces ub ub′
-    new-bonds-left = read-bonds u ua ub ua′ ub′ (g .new-atoms) (g .new-bonds) q
+module _ (position : ℕ) (t u : Bytes) (ta tb ua ub : List ℤ) (g : Ready position t u (work ta tb ua ub)) (ta′ tb′ ua′ ub′ : List ℤ)
+    (p : RowsPromise sdfile t ta tb ta′ tb′) (q : RowsPromise sdfile u ua ub ua′ ub′) where
+  pub both-kept : Kept (work ta tb ua ub) (work ta′ tb′ ua′ ub′)
+  both-kept =
+      let old = p .rows (g .rooms .old) in
+      let new = q .rows (g .rooms .new) in
+      record { old-atoms = old .atoms; old-bonds = old .bonds; new-atoms = new .atoms; new-bonds = new .bonds }
+
+  pub both-read : (r s : RecordRead) → r ≡ readAs sdfile (length ta) (length tb) t → s ≡ readAs sdfile (length ua) (length ub) u →
+      (position < 2 ^ 63) × Read r t ta′ tb′ × Read s u ua′ ub′
+  both-read r s er es = (
+    g .small,
+    read-is t ta tb ta′ tb′ (g .rooms .old) p (g .x) (g .k) (g .left) r er,
+    read-is u ua ub ua′ ub′ (g .rooms .new) q (g .y) (g .j) (g .right) s es,
+  )

@@ -4,7 +4,7 @@ use Prim.Native.Nat.{ℕ, zero, suc, _+_, _*_, _≤_, _<_}
 use native.Mathlib.Omega.{arith}
 use mathlib.Core.Path.{_≡_, refl, sym, ap, ap₂, _∙_}
 use mathlib.Core.Logic.{_↔_}
-use mathlib.Core.Bool.{Bool, true, false, cond, _&&_}
+use mathlib.Core.Bool.{Bool, true, false, cond, false≢true}
 use mathlib.Core.List.{List, [], _∷_, _++_, map}
 use lib.Dec.{leb, ltb}
 use lib.ListN.{length, drop}
@@ -21,6 +21,7 @@ use Rattle.judge_file.specs.SameVerdict.{accepted-refused, same-accepted, same-
 use Rattle.judge_file.specs.Promise.{accepted-sd}
 use Rattle.reader_walk.specs.Promise.{RefusedAt, refused-at, at-refused}
 use Rattle.reader_answer.specs.Promise.{Roomy}
+use Rattle.writer_answer.specs.CataloguePromise.{both}
 use Rattle.compare_rules.specs.Differences.{Difference, exchanged}
 use Rattle.compare_rules.specs.Files.{filesApart, none-same-files, exchange-files}
 use Rattle.compare_rules.specs.Listed.{flat}
@@ -123,11 +124,6 @@ module _ {a b : Bytes} {w₀ : Work} {l₀ : List ℤ} {r : Compared} {w : Work}
 
 -- ---- The tests
 
-both : {P Q : Type 0} (x y : Bool) → (x ≡ true → P) → (y ≡ true → Q) → (P → x ≡ true) → (Q → y ≡ true) → ((x && y) ≡ true) ↔ (P × Q)
-both true true p q u v = ((λ h. (p refl, q refl)), (λ h. refl))
-both true false p q u v = ((λ h. absurd (let z : _≡_ {A = ℕ} 0 1 = cc in omega arith)), (λ h. v (h .1)))
-both false y p q u v = ((λ h. absurd (let z : _≡_ {A = ℕ} 0 1 = cc in omega arith)), (λ h. u (h .0)))
-
 -- a table with room
 abbrev Long : ℕ → List ℤ → Type 0
 Long cap t = cap ≤ length t
@@ -175,7 +171,7 @@ module _ (a b : Bytes) (w : Work) (k : ℕ) where
       fit xs ys r e f false t = Found.list r e f (leb-false (7 * length (filesApart xs ys)) k t)
 
       go : (t : Bool) → roomy w ≡ t → (u : Verdict (List Raw)) → verdict sdfile limit a ≡ u → (v : Verdict (List Raw)) → verdict sdfile limit b ≡ v → Found (cond t (first k u v) (refused 2 0 0))
-      go false o u e v f = Found.tables (λ r. false-true (sym o ∙ roomy-agrees w .1 r))
+      go false o u e v f = Found.tables (λ r. false≢true (sym o ∙ roomy-agrees w .1 r))
       go true o (accepted xs) e (accepted ys) f = fit xs ys (roomy-agrees w .0 o) e f (leb (7 * length (filesApart xs ys)) k) refl
       go true o (accepted xs) e (refused n i c) f = Found.new (roomy-agrees w .0 o) e f
       go true o (refused n i c) e v f = Found.old (roomy-agrees w .0 o) e

@@ -13,13 +13,12 @@ use mir.Syntax.{w64}
 use mir.Val.{Fits}
 use Rattle.text.specs.Text.{Bytes}
 use Rattle.text.specs.Laws.{tail-is}
-use Rattle.rules.specs.Record.{Raw, limit, atomPlaces, bondPlaces}
+use Rattle.rules.specs.Record.{Raw, limit}
 use Rattle.rules.specs.Meaning.{Reading, meaning}
 use Rattle.judge_file.specs.Place.{sdfile}
 use Rattle.judge_file.specs.Verdict.{Verdict, verdict}
 use Rattle.judge_file.specs.WalkText.{afterLines}
 use Rattle.reader_walk.specs.Outcome.{whole, outcomeOf}
-use Rattle.reader_walk.specs.Walked.{Beside}
 use Rattle.reader_cursor.specs.declared.Cursor.{Cursor}
 use Rattle.reader_cursor.specs.Walk.{fresh, past, Countable, Walk, over, short, stopped, recordsOf, verdictBy, fileWalk}
 use Rattle.reader_cursor.specs.After.{After, after-start, after-good, after-next, after-fits, good-more, good-whole, walk-after, verdict-walk}
@@ -27,12 +26,13 @@ use Rattle.compare_rules.specs.declared.Count.{Count}
 use Rattle.compare_rules.specs.Along.{along}
 use Rattle.compare_rules.specs.Differences.{Difference, place, leftOnly, rightOnly, recordsApart, recordwise, differencesOf}
 use Rattle.compare_rules.specs.Files.{filesApart}
-use Rattle.compare_rules.specs.Log.{Log, log, seen, noted, Small}
+use Rattle.compare_rules.specs.Log.{Log, log, noted, Small}
 use Rattle.compare_rules.specs.Noted.{noted-joined, noted-length}
 use Rattle.compare_tables.specs.Smaller.{Smaller}
 use Rattle.compare_files.specs.declared.Pair.{Pair}
-use Rattle.compare_files.specs.Compare.{Work}
-use Rattle.compare_files.specs.Pair.{Paired, Ready}
+use Rattle.compare_files.specs.Compare.{Work, work}
+use Rattle.compare_files.specs.Promise.{Rooms}
+use Rattle.compare_files.specs.Pair.{Paired, Ready, Kept, kept-same, kept-join, kept-rooms}
 
 -- ---- A cursor in a good file
 
@@ -197,30 +197,11 @@ pub record GoodFiles (a : Bytes) (n : ℕ) (b : Bytes) (m : ℕ) (w : Work) : Ty
   pub right : verdict sdfile limit b ≡ Verdict.accepted ys
   pub n-is : n ≡ length xs
   pub m-is : m ≡ length ys
-  pub old-atoms : atomPlaces ≤ length (w .old-atoms)
-  pub old-bonds : bondPlaces ≤ length (w .old-bonds)
-  pub new-atoms : atomPlaces ≤ length (w .new-atoms)
-  pub new-bonds : bondPlaces ≤ length (w .new-bonds)
+  pub rooms : Rooms w
 
 -- what differs between them is noted
 pub record Apart (a b : Bytes) (g₀ g : Log) : Type 0 where
   pub same : (xs ys : List Raw) → verdict sdfile limit a ≡ Verdict.accepted xs → verdict sdfile limit b ≡ Verdict.accepted ys → g ≡ noted g₀ (filesApart xs ys)
-
--- nothing of the tables w₀ changed past the limit
-pub record Kept (w₀ w : Work) : Type 0 where
-  pub old-atoms : Beside atomPlaces (w₀ .old-atoms) (w .old-atoms)
-  pub old-bonds : Beside bondPlaces (w₀ .old-bonds) (w .old-bonds)
-  pub new-atoms : Beside atomPlaces (w₀ .new-atoms) (w .new-atoms)
-  pub new-bonds : Beside bondPlaces (w₀ .new-bonds) (w .new-bonds)
-
-abbrev pub work : List ℤ → List ℤ → List ℤ → List ℤ → Work
-work ta tb ua ub = record { old-atoms = ta; old-bonds = tb; new-atoms = ua; new-bonds = ub }
-
-beside-same : (cap : ℕ) (t : List ℤ) → cap ≤ length t → Beside cap t t
-beside-same cap t h = record { room = h; size = refl; past = refl }
-
-pub beside-join : {cap : ℕ} {t u v : List ℤ} → Beside cap t u → Beside cap u v → Beside cap t v
-beside-join p q = record { room = p .room; size = q .size ∙ p .size; past = q .past ∙ p .past }
 
 -- between two pairs of records: the cursors stand after as many of either file
 pub record Walking (a : Bytes) (n : ℕ) (b : Bytes) (m k : ℕ) (w₀ : Work) (g₀ : Log) (w : Work) (g : Log) (c d : Cursor) : Type 0 where
@@ -244,12 +225,7 @@ walking-start a n b m k ta tb ua ub g c d f s ha hb ec ed =
       files = f;
       few = s;
       bytes = (ha, hb);
-      kept = record {
-        old-atoms = beside-same atomPlaces ta (f .old-atoms);
-        old-bonds = beside-same bondPlaces tb (f .old-bonds);
-        new-atoms = beside-same atomPlaces ua (f .new-atoms);
-        new-bonds = beside-same bondPlaces ub (f .new-bonds);
-      };
+      kept = kept-same (work ta tb ua ub) (f .rooms);
       us = f .xs;
       vs = f .ys;
       left = subst (λ (z : Cursor). Before a (f .xs) z (f .xs)) (sym ec) (before-start a (f .xs) (f .left));
@@ -271,17 +247,8 @@ module _ (a : Bytes) (n : ℕ) (b : Bytes) (m k : ℕ) (w₀ : Work) (g₀ : Log
       ∙ ap (λ (f : Log). length (f .list)) (sym (g .same))
       ∙ noted-length g₀ (filesApart (g .files .xs) (g .files .ys))
 
-  pub walking-old-atoms : Beside atomPlaces (w₀ .old-atoms) ta
-  walking-old-atoms = g .kept .old-atoms
-
-  pub walking-old-bonds : Beside bondPlaces (w₀ .old-bonds) tb
-  walking-old-bonds = g .kept .old-bonds
-
-  pub walking-new-atoms : Beside atomPlaces (w₀ .new-atoms) ua
-  walking-new-atoms = g .kept .new-atoms
-
-  pub walking-new-bonds : Beside bondPlaces (w₀ .new-bonds) ub
-  walking-new-bonds = g .kept .new-bonds
+  pub walking-kept : Kept w₀ (work ta tb ua ub)
+  walking-kept = g .kept
 
   module _ (more : c .records < k) where
     old-ahead : Ahead a (g .files .xs) c (g .us) (g .left)
@@ -312,10 +279,7 @@ module _ (a : Bytes) (n : ℕ) (b : Bytes) (m k : ℕ) (w₀ : Work) (g₀ : Log
     walking-ready =
         record {
           small = small;
-          old-atoms = omega (arith, g .kept .old-atoms .room, g .kept .old-atoms .size);
-          old-bonds = omega (arith, g .kept .old-bonds .room, g .kept .old-bonds .size);
-          new-atoms = omega (arith, g .kept .new-atoms .room, g .kept .new-atoms .size);
-          new-bonds = omega (arith, g .kept .new-bonds .room, g .kept .new-bonds .size);
+          rooms = kept-rooms (g .kept);
           x = old-ahead .x;
           k = old-ahead .k;
           left = old-lent;
@@ -371,19 +335,13 @@ module _ (a : Bytes) (n : ℕ) (b : Bytes) (m k : ℕ) (w₀ : Work) (g₀ : Log
             ∙ noted-joined (log l e) (recordsApart (c .records + 1) (meaning (o .x)) (meaning (q .x))) (along recordwise (suc (c .records + 1)) (map meaning (o .more)) (map meaning (q .more)))
             ∙ ap₂ (λ (f : Log) (j : ℕ). noted f (along recordwise j (map meaning (o .more)) (map meaning (q .more)))) (sym (p .same (o .x) (q .x) (o .k) (q .k) old-lent new-lent)) i
 
-        pub walking-next : (ta′ tb′ ua′ ub′ : List ℤ) → Beside atomPlaces ta ta′ → Beside bondPlaces tb tb′ → Beside atomPlaces ua ua′ → Beside bondPlaces ub ub′ →
-            Walking a n b m k w₀ g₀ (work ta′ tb′ ua′ ub′) (log l′ (r .count)) c′ d′
-        walking-next ta′ tb′ ua′ ub′ oa ob na nb =
+        pub walking-next : (ta′ tb′ ua′ ub′ : List ℤ) → Kept (work ta tb ua ub) (work ta′ tb′ ua′ ub′) → Walking a n b m k w₀ g₀ (work ta′ tb′ ua′ ub′) (log l′ (r .count)) c′ d′
+        walking-next ta′ tb′ ua′ ub′ kept =
             record {
               files = g .files;
               few = g .few;
               bytes = g .bytes;
-              kept = record {
-                old-atoms = beside-join (g .kept .old-atoms) oa;
-                old-bonds = beside-join (g .kept .old-bonds) ob;
-                new-atoms = beside-join (g .kept .new-atoms) na;
-                new-bonds = beside-join (g .kept .new-bonds) nb;
-              };
+              kept = kept-join (g .kept) kept;
               us = old-ahead .more;
               vs = new-ahead .more;
               left = subst (λ (z : Cursor). Before a (g .files .xs) z (old-ahead .more)) (sym old-moved) (old-ahead .before);
@@ -428,10 +386,7 @@ module _ (a : Bytes) (n : ℕ) (b : Bytes) (m k : ℕ) (w₀ : Work) (g₀ : Log
 pub ruleset walking-laws = (
   walking-start,
   walking-long,
-  walking-old-atoms,
-  walking-old-bonds,
-  walking-new-atoms,
-  walking-new-bonds,
+  walking-kept,
   walking-old-at,
   walking-new-at,
   walking-fits,

@@ -10,17 +10,15 @@ use rules::BONDS;
 ghost use mathlib.Core.Path.{_≡_};
 ghost use Prim.Native.Nat.{_-_, _^_, _≤_, _<_};
 ghost use lib.ListN.{length};
-ghost use Rattle.rules.specs.Record.{limit, atomPlaces, bondPlaces};
+ghost use Rattle.rules.specs.Record.{limit};
 ghost use Rattle.judge_file.specs.Place.{sdfile};
 ghost use Rattle.judge_file.specs.Verdict.{verdict};
-ghost use Rattle.reader_answer.specs.Read.{zeroed};
-ghost use Rattle.reader_walk.specs.Walked.{Beside};
 ghost use Rattle.compare_rules.specs.Log.{log, noted, seen};
-ghost use Rattle.compare_files.specs.Compare.{Work, roomy, filesFor, answerBy, listBy};
+ghost use Rattle.compare_files.specs.Compare.{work, filesFor, answerBy, listBy};
 ghost use Rattle.compare_files.specs.Judging.{secondBy, judgedBy, shortBy};
-ghost use Rattle.compare_files.specs.Pair.{Read, Ready, Paired};
+ghost use Rattle.compare_files.specs.Pair.{Read, Ready, Paired, Kept};
 ghost use Rattle.compare_files.specs.Walking.{GoodFiles, aloneRecords, Apart};
-ghost use Rattle.compare_files.specs.Promise.{Promise};
+ghost use Rattle.compare_files.specs.Promise.{Rooms, Promise};
 
 // What is answered: the number of differences, or the first refusal.
 pub enum Compared {
@@ -179,12 +177,9 @@ fn pair_apart(
     count: Count,
     position: usize,
 ) -> Pair
-    requires { ⌜ Ready position (now t) (now u) (record { old-atoms = now ta; old-bonds = now tb; new-atoms = now ua; new-bonds = now ub }) ⌝ }
+    requires { ⌜ Ready position (now t) (now u) (work (now ta) (now tb) (now ua) (now ub)) ⌝ }
     ensures { λ r. ⌜ Paired position (now (t .entry)) (now (u .entry)) (log (now (list .entry)) count) (now (list .exit)) r ⌝ }
-    ensures { λ r. ⌜ Beside atomPlaces (now (ta .entry)) (now (ta .exit)) ⌝ }
-    ensures { λ r. ⌜ Beside bondPlaces (now (tb .entry)) (now (tb .exit)) ⌝ }
-    ensures { λ r. ⌜ Beside atomPlaces (now (ua .entry)) (now (ua .exit)) ⌝ }
-    ensures { λ r. ⌜ Beside bondPlaces (now (ub .entry)) (now (ub .exit)) ⌝ }
+    ensures { λ r. ⌜ Kept (work (now (ta .entry)) (now (tb .entry)) (now (ua .entry)) (now (ub .entry))) (work (now (ta .exit)) (now (tb .exit)) (now (ua .exit)) (now (ub .exit))) ⌝ }
 {
     let x = reader_record::read_rows(true, t, ta, tb);
     let y = reader_record::read_rows(true, u, ua, ub);
@@ -223,12 +218,9 @@ fn files_apart(
     ub: &mut [i32],
     list: &mut [i64],
 ) -> Count
-    requires { ⌜ GoodFiles (now old) n (now new) m (record { old-atoms = now ta; old-bonds = now tb; new-atoms = now ua; new-bonds = now ub }) ⌝ }
+    requires { ⌜ GoodFiles (now old) n (now new) m (work (now ta) (now tb) (now ua) (now ub)) ⌝ }
     ensures { λ r. ⌜ Apart (now (old .entry)) (now (new .entry)) (log (now (list .entry)) (seen 0)) (log (now (list .exit)) r) ⌝ }
-    ensures { λ r. ⌜ Beside atomPlaces (now (ta .entry)) (now (ta .exit)) ⌝ }
-    ensures { λ r. ⌜ Beside bondPlaces (now (tb .entry)) (now (tb .exit)) ⌝ }
-    ensures { λ r. ⌜ Beside atomPlaces (now (ua .entry)) (now (ua .exit)) ⌝ }
-    ensures { λ r. ⌜ Beside bondPlaces (now (ub .entry)) (now (ub .exit)) ⌝ }
+    ensures { λ r. ⌜ Kept (work (now (ta .entry)) (now (tb .entry)) (now (ua .entry)) (now (ub .entry))) (work (now (ta .exit)) (now (tb .exit)) (now (ua .exit)) (now (ub .exit))) ⌝ }
 {
     let both = compare_tables::smaller(n, m);
     let mut a = Cursor::new();
@@ -260,13 +252,10 @@ fn list_files(
     ub: &mut [i32],
     list: &mut [i64],
 ) -> Compared
-    requires { ⌜ GoodFiles (now old) n (now new) m (record { old-atoms = now ta; old-bonds = now tb; new-atoms = now ua; new-bonds = now ub }) ⌝ }
+    requires { ⌜ GoodFiles (now old) n (now new) m (work (now ta) (now tb) (now ua) (now ub)) ⌝ }
     ensures { λ r. ⌜ r ≡ answerBy (filesFor (now (old .entry)) (now (new .entry)) (length (now (list .entry)))) ⌝ }
     ensures { λ r. ⌜ now (list .exit) ≡ listBy (now (list .entry)) (filesFor (now (old .entry)) (now (new .entry)) (length (now (list .entry)))) ⌝ }
-    ensures { λ r. ⌜ Beside atomPlaces (now (ta .entry)) (now (ta .exit)) ⌝ }
-    ensures { λ r. ⌜ Beside bondPlaces (now (tb .entry)) (now (tb .exit)) ⌝ }
-    ensures { λ r. ⌜ Beside atomPlaces (now (ua .entry)) (now (ua .exit)) ⌝ }
-    ensures { λ r. ⌜ Beside bondPlaces (now (ub .entry)) (now (ub .exit)) ⌝ }
+    ensures { λ r. ⌜ Kept (work (now (ta .entry)) (now (tb .entry)) (now (ua .entry)) (now (ub .entry))) (work (now (ta .exit)) (now (tb .exit)) (now (ua .exit)) (now (ub .exit))) ⌝ }
 {
     let mut none = [0i64; 1];
     let counted = files_apart(old, n, new, m, ta, tb, ua, ub, &mut none);
@@ -291,13 +280,10 @@ fn compare_judged(
     ub: &mut [i32],
     list: &mut [i64],
 ) -> Compared
-    requires { ⌜ (atomPlaces ≤ length (now ta)) × (bondPlaces ≤ length (now tb)) × (atomPlaces ≤ length (now ua)) × (bondPlaces ≤ length (now ub)) ⌝ }
+    requires { ⌜ Rooms (work (now ta) (now tb) (now ua) (now ub)) ⌝ }
     ensures { λ r. ⌜ r ≡ answerBy (filesFor (now (old .entry)) (now (new .entry)) (length (now (list .entry)))) ⌝ }
     ensures { λ r. ⌜ now (list .exit) ≡ listBy (now (list .entry)) (filesFor (now (old .entry)) (now (new .entry)) (length (now (list .entry)))) ⌝ }
-    ensures { λ r. ⌜ Beside atomPlaces (now (ta .entry)) (now (ta .exit)) ⌝ }
-    ensures { λ r. ⌜ Beside bondPlaces (now (tb .entry)) (now (tb .exit)) ⌝ }
-    ensures { λ r. ⌜ Beside atomPlaces (now (ua .entry)) (now (ua .exit)) ⌝ }
-    ensures { λ r. ⌜ Beside bondPlaces (now (ub .entry)) (now (ub .exit)) ⌝ }
+    ensures { λ r. ⌜ Kept (work (now (ta .entry)) (now (tb .entry)) (now (ua .entry)) (now (ub .entry))) (work (now (ta .exit)) (now (tb .exit)) (now (ua .exit)) (now (ub .exit))) ⌝ }
 {
     match judge(old, new) {
         Judged::Good { old: n, new: m } => list_files(old, n, new, m, ta, tb, ua, ub, list),
@@ -321,14 +307,6 @@ fn is_short(ta: usize, tb: usize, ua: usize, ub: usize) -> bool
     ub < BONDS
 }
 
-// No row is left.
-fn empty(table: &mut [i32], to: usize)
-    requires { ⌜ to ≤ length (now table) ⌝ }
-    ensures { λ r. ⌜ now (table .exit) ≡ zeroed (now (table .entry)) 0 to ⌝ }
-{
-    reader_tables::clear(table, 0, to);
-}
-
 // What differs between two SDfiles, seven numbers a difference at the front of the list; after a refusal nothing is written to it. The work tables, atoms
 // and bonds of either file, are empty in the end.
 pub fn compare_files(
@@ -340,7 +318,7 @@ pub fn compare_files(
     ub: &mut [i32],
     list: &mut [i64],
 ) -> Compared
-    ensures { λ r. ⌜ Promise (now (old .entry)) (now (new .entry)) (record { old-atoms = now (ta .entry); old-bonds = now (tb .entry); new-atoms = now (ua .entry); new-bonds = now (ub .entry) }) (now (list .entry)) r (record { old-atoms = now (ta .exit); old-bonds = now (tb .exit); new-atoms = now (ua .exit); new-bonds = now (ub .exit) }) (now (list .exit)) ⌝ }
+    ensures { λ r. ⌜ Promise (now (old .entry)) (now (new .entry)) (work (now (ta .entry)) (now (tb .entry)) (now (ua .entry)) (now (ub .entry))) (now (list .entry)) r (work (now (ta .exit)) (now (tb .exit)) (now (ua .exit)) (now (ub .exit))) (now (list .exit)) ⌝ }
 {
     if is_short(ta.len(), tb.len(), ua.len(), ub.len()) {
         return Compared::Refused {
@@ -350,9 +328,9 @@ pub fn compare_files(
         };
     }
     let answer = compare_judged(old, new, ta, tb, ua, ub, list);
-    empty(ta, ATOMS);
-    empty(tb, BONDS);
-    empty(ua, ATOMS);
-    empty(ub, BONDS);
+    reader_clear::zero_rows(ta, 0, ATOMS);
+    reader_clear::zero_rows(tb, 0, BONDS);
+    reader_clear::zero_rows(ua, 0, ATOMS);
+    reader_clear::zero_rows(ub, 0, BONDS);
     answer
 }

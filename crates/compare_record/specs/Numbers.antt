@@ -11,7 +11,7 @@ use mir.Facts.{toZ-ofZ}
 use Rattle.rules.specs.Rows.{rowsOf}
 use Rattle.compare_rules.specs.Along.{along}
 use Rattle.compare_rules.specs.Differences.{Difference, place, figures, rowwise}
-use Rattle.compare_rules.specs.Log.{Log, noted, Small}
+use Rattle.compare_rules.specs.Log.{Log, noted}
 use Rattle.compare_rules.specs.Noted.{noted-joined}
 use Rattle.compare_tables.specs.Smaller.{Smaller}
 use Rattle.compare_record.specs.declared.Numbers.{Numbers}
@@ -28,9 +28,6 @@ countsOf r x y =
     figures (place r 2 0 0) (pos (x .n)) (pos (y .n))
     ++ (figures (place r 3 0 0) (pos (x .m)) (pos (y .m))
     ++ figures (place r 4 0 0) (pos (x .chiral)) (pos (y .chiral)))
-
-pub part-small : (r part : ℕ) → r < 2 ^ 63 → part < 11 → Small (place r part 0 0)
-part-small r part h k = record { position = h; part = omega arith; index = omega arith; field = omega arith }
 
 plain : (n : ℕ) → n < 2 ^ 31 → toZ w32 n ≡ pos n
 plain n h = toZ-ofZ {w = w32} {z = pos n} (record { sfits = h })

@@ -14,7 +14,7 @@ use Rattle.formula_rules.specs.Formula.{Tree, Trees, atom, group, more, 
 use Rattle.formula_rules.specs.Depth.{TreesIn}
 use Rattle.formula_rules.specs.Total.{countTree, countTrees}
 use Rattle.formula_rules.specs.Complete.{units-complete, end-text}
-use Rattle.formula_rules.specs.Parse.{UnitRead, unit, UnitsRead, units, unitsOf}
+use Rattle.formula_rules.specs.Parse.{UnitRead, unit, unitsOf}
 use Rattle.formula_rules.specs.Sums.{sat, Below, addTree, addTrees, addedUnits, addedUnit}
 
 -- ---- Capped sums and products
@@ -115,16 +115,6 @@ mutual
   trees-length : (ts : Trees) (m : ℕ) (t : List ℕ) → length (addTrees m ts t) ≡ length t
   trees-length Trees.none m t = refl
   trees-length (more x ts) m t = trees-length ts m (addTree m x t) ∙ tree-length x m t
-
-pub units-length : (m : ℕ) (r : UnitsRead) (t : List ℕ) → length (addedUnits m r t) ≡ length t
-unfolding addedUnits
-units-length m (units e ts) t = trees-length ts m t
-units-length m UnitsRead.no t = refl
-
-pub unit-length : (m : ℕ) (r : UnitRead) (t : List ℕ) → length (addedUnit m r t) ≡ length t
-unfolding addedUnit
-unit-length m (unit e x) t = tree-length x m t
-unit-length m UnitRead.no t = refl
 
 -- ---- The entries
 

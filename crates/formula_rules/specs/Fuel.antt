@@ -118,10 +118,6 @@ module _ (s : List ℕ) where
   unfolding unitsOf groupOf unitsBy
   group-is d a w = ap (closed s a) (units-same (length s - a + suc d) (enough s d a) d a w (omega arith) (omega arith))
 
-  pub units-of-in : (d a : ℕ) → a ≤ length s → UnitsIn s a (unitsOf s d a)
-  unfolding unitsOf
-  units-of-in d a w = units-in (enough s d a) d a w
-
   pub group-of-in : (d a : ℕ) → a ≤ length s → UnitIn s a (groupOf s d a)
   unfolding groupOf
   group-of-in d a w = group-in (enough s d a) d a w

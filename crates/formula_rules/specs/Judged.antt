@@ -16,7 +16,7 @@ use Rattle.formula_rules.specs.Verdict.{most, Few, Verdict, counts, refu
 use Rattle.formula_rules.specs.Parse.{UnitsRead, units, unitsOf, formulaOf}
 use Rattle.formula_rules.specs.Complete.{one-formula, units-complete, end-text, formula-complete, formula-sound, formula-any}
 use Rattle.formula_rules.specs.Sums.{sat, Below, addedUnits}
-use Rattle.formula_rules.specs.Capped.{sat-small, capped-small, formula-counts, units-length}
+use Rattle.formula_rules.specs.Capped.{sat-small, capped-small, formula-counts}
 
 -- ---- The verdict computed
 
@@ -72,10 +72,6 @@ empty-place j = zeros places j
 pub empty-below : Below empty
 unfolding Below
 empty-below j = omega (arith, empty-place j)
-
-pub sums-length : (s : Bytes) → length (sumsOf s) ≡ places
-unfolding sumsOf
-sums-length s = units-length 1 (unitsOf s deepest 0) empty
 
 module _ (s : Bytes) (ts : Trees) (f : Formula s ts) (i : TreesIn ts deepest) where
   sum-at : (k : ℕ) → k ≤ elements → getD (sumsOf s) k 0 ≡ sat (countTrees ts k)

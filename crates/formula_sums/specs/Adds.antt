@@ -253,10 +253,6 @@ whole-read : (s : List ℕ) (r : UnitsRead) → wholeOf s r ≡ true → readUni
 whole-read s (units e ts) h = refl
 whole-read s UnitsRead.no h = h
 
-pub formula-read : (s : List ℕ) (d : ℕ) {r : Bool} → r ≡ formulaOf s d → r ≡ true → readUnits (unitsOf s d 0) ≡ true
-unfolding formulaOf
-formula-read s d e h = whole-read s (unitsOf s d 0) (sym e ∙ h)
-
 pub symbol-set : (s : List ℕ) (a : ℕ) (t u : List ℕ) (m i k c : ℕ) → u ≡ set t i (sat (getD t i 0 + k)) → i ≡ elementAt s a → k ≡ sat (m * c) → c ≡ symbolCount s a →
     u ≡ set t (elementAt s a) (sat (getD t (elementAt s a) 0 + sat (m * symbolCount s a)))
 symbol-set s a t u m i k c eu ei ek ec = eu ∙ rw (ei, ek, ec)

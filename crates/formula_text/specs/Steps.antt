@@ -15,7 +15,7 @@ use Rattle.text.specs.Columns.{columns, columnsFor}
 use Rattle.field_symbols.specs.Read.{symbolIn}
 use Rattle.field_symbols.specs.declared.SymbolRead.{SymbolRead}
 use Rattle.formula_rules.specs.Ends.{UnitIn, symbol-end, symbol-in}
-use Rattle.formula_rules.specs.Fuel.{UnitsIn, units-is, group-is, group-none, units-of-in, group-of-in}
+use Rattle.formula_rules.specs.Fuel.{units-is, group-is, group-none, group-of-in}
 use Rattle.formula_text.specs.Told.{toldCount, toldUnit, toldUnits}
 use Rattle.formula_text.specs.declared.Parsed.{Parsed}
 
@@ -156,19 +156,11 @@ unfolding UnitIn toldUnit
 unit-ends s a n (unit m t) h e = let q : m ≡ n = cc in (omega arith, omega arith)
 unit-ends s a n UnitRead.no h e = absurd (let z : _≡_ {A = ℕ} 0 1 = cc in omega arith)
 
-units-ends-by : (s : List ℕ) (a n : ℕ) (x : UnitsRead) → UnitsIn s a x → toldUnits x ≡ Parsed.At n → (a ≤ n) × (n ≤ length s)
-unfolding UnitsIn toldUnits
-units-ends-by s a n (units m t) h e = let q : m ≡ n = cc in (omega arith, omega arith)
-units-ends-by s a n UnitsRead.no h e = absurd (let z : _≡_ {A = ℕ} 0 1 = cc in omega arith)
-
 pub group-ends : (s : List ℕ) (d a n : ℕ) {g : Parsed} → a ≤ length s → g ≡ toldUnit (groupOf s d a) → g ≡ Parsed.At n → (a < n) × (n ≤ length s)
 group-ends s d a n w e h = unit-ends s a n (groupOf s d a) (group-of-in s d a w) (sym e ∙ h)
 
 pub symbol-ends : (s : List ℕ) (a n : ℕ) {g : Parsed} → a < length s → g ≡ toldUnit (symbolAt s a) → g ≡ Parsed.At n → (a < n) × (n ≤ length s)
 symbol-ends s a n w e h = unit-ends s a n (symbolAt s a) (symbol-in s a w) (sym e ∙ h)
-
-pub units-ends : (s : List ℕ) (d a n : ℕ) {g : Parsed} → a ≤ length s → g ≡ toldUnits (unitsOf s d a) → g ≡ Parsed.At n → (a ≤ n) × (n ≤ length s)
-units-ends s d a n w e h = units-ends-by s a n (unitsOf s d a) (units-of-in s d a w) (sym e ∙ h)
 
 module _ (s : List ℕ) (d a : ℕ) (w : a ≤ length s) {b : ℕ} (eb : b ≡ byteAt s a) where
   pub open-within : b ≡ 40 → a < length s

@@ -1,31 +1,29 @@
 -- Laws on judging a line: what the reader's step answered decides what is told.
-use Prim.Native.Nat.{ℕ, _*_, _≤_}
+use Prim.Native.Nat.{ℕ, _*_}
 use native.Mathlib.Omega.{arith}
 use mathlib.Core.Path.{_≡_, refl, sym, ap, _∙_, subst}
 use mathlib.Core.List.{List, [], _∷_, _++_}
 use mathlib.Core.Bool.{Bool, true}
 use lib.ListN.{length, take, length-set}
 use Rattle.text.specs.Text.{Line}
-use Rattle.rules.specs.Forms as R
 use Rattle.rules.specs.Record.{Raw, limit}
 use Rattle.judge_pairs.specs.Taken.{pairTaken}
 use Rattle.judge_line.specs.Got.{Got, got, bad}
 use Rattle.judge_line.specs.Field.{elem}
 use Rattle.line_atom.specs.declared.Atom.{Atom}
 use Rattle.line_counts_bonds.specs.Answer.{bondIs}
-use Rattle.line_counts_bonds.specs.declared.Counts.{Counts}
 use Rattle.line_counts_bonds.specs.declared.Bond.{Bond}
 use Rattle.line_property.specs.Listed.{places}
 use Rattle.judge_file.specs.Place.{sdfile, turnOf}
 use Rattle.judge_file.specs.Place as J
-use Rattle.judge_file.specs.Place.{first, second, third, counts, atoms, bonds, properties, over, items, values, done}
+use Rattle.judge_file.specs.Place.{first}
 use Rattle.reader_state.specs.declared.Reader.{Reader}
 use Rattle.reader_state.specs.declared.Step.{Step}
 use Rattle.reader_state.specs.Parts.{begun}
 use Rattle.reader_state.specs.Went as W
 use Rattle.reader_state.specs.Went.{Went, stepGot, wentOf, tableAt, Kept, Sane}
 use Rattle.reader_pairs.specs.Keys.{pairKey, keyOf, AllSmall, taken-keys}
-use Rattle.reader_walk.specs.Stands.{placeOf, Counted}
+use Rattle.reader_walk.specs.Walking.{counted-sane}
 use Rattle.mend_rules.specs.Mend.{some, leftBy, left}
 use Rattle.mend_judge.specs.declared.Judge.{Judge}
 use Rattle.mend_judge.specs.declared.Judged.{Judged}
@@ -56,24 +54,7 @@ some-more (y ∷ xs) x = refl
 -- the state is one that the reader can be in
 pub placed-sane : (j : Judge) (t keys : List ℕ) → Placed j t keys → Sane (j .reader)
 placed-sane j t keys g =
-    let st = g .standing .stands in
-    record {
-      owing = subst W.Owing (sym (st .place)) (owing (g .p) (st .counted) (st .few-atoms) (st .few-bonds));
-      atoms = st .few-atoms;
-      bonds = st .few-bonds;
-    }
-  where
-    owing : (p : J.Place) → Counted (j .reader .counts) t p → j .reader .counts .atoms ≤ limit → j .reader .counts .bonds ≤ limit → W.Owing (placeOf p)
-    owing first c na nb = (omega arith, omega arith)
-    owing (second h₁) c na nb = (omega arith, omega arith)
-    owing (third h₁ h₂) c na nb = (omega arith, omega arith)
-    owing (counts hs) c na nb = tt
-    owing (atoms hs x k xs) c na nb = (omega arith, omega (arith, c .2, ap (λ (y : R.Counts). y .atoms) (c .0)))
-    owing (bonds hs x xs k bs) c na nb = (omega arith, omega (arith, c .2, ap (λ (y : R.Counts). y .bonds) (c .0)))
-    owing (properties hs x xs bs ps) c na nb = tt
-    owing (over mol) c na nb = tt
-    owing (items mol is) c na nb = tt
-    owing (values mol is name vs) c na nb = tt
+    let st = g .standing .stands in counted-sane (j .reader) t (g .p) (st .place) (st .few-atoms) (st .few-bonds) (st .counted)
 
 abbrev reads : Judge → Reader → Judge
 reads j r = record { reader = r; bonds = j .bonds; some = j .some }

@@ -143,10 +143,7 @@ module _ (s : Bytes) (ta tb : List ℤ) where
       bonds-are : (k : FileKind) → kind ≡ kindNumber k → tb′ ≡ bondsAs k la s tb
       bonds-are k h = g ∙ ap (λ (i : ℕ). bondsAfter i la s tb) h ∙ by-kind k .2
 
-  -- a kind and tables that a record is read into: the walk answers, and the tables begin with the rows
-  pub after-answer : (kind : ℕ) (k : FileKind) → kind ≡ kindNumber k → Roomy ta tb → readOf kind la lb s ≡ answered (walkOf k s)
-  after-answer kind k h y = ap (λ (i : ℕ). readOf i la lb s) h ∙ by-kind k .0 ∙ sym (enough k s la lb (answered (walkOf k s)) (y .atoms) (y .bonds) refl)
-
+  -- a kind and tables that a record is read into: the tables begin with the rows
   pub after-left : (kind : ℕ) (k : FileKind) (ta′ tb′ : List ℤ) → kind ≡ kindNumber k → Roomy ta tb → ta′ ≡ atomsAfter kind lb s ta → tb′ ≡ bondsAfter kind la s tb →
       RowsLeft ta ta′ tb tb′ (outcomeOf k s)
   after-left kind k ta′ tb′ h y f g =

@@ -195,6 +195,10 @@ zeroed-rows : (cap k : ℕ) (t u vs : List ℤ) → Beside cap t u → Holds u v
 unfolding zeroed rowsIn
 zeroed-rows cap k t u vs b h e = ap (λ (i : ℕ). cleared u i cap) (sym e) ∙ cleared-filled cap t u (b .past) vs h
 
+-- no row is left
+pub rows-emptied : (cap : ℕ) (t u v : List ℤ) → Beside cap t u → v ≡ zeroed u 0 cap → v ≡ rowsIn cap t []
+rows-emptied cap t u v b e = e ∙ zeroed-rows cap 0 t u [] b refl refl
+
 -- an answer that is within the limit, and tells how many rows there are
 record Counted (o : Outcome) (r : RecordRead) : Type 0 where
   few-atoms : atomsRead r ≤ limit

@@ -22,6 +22,7 @@ use Rattle.judge_file.specs.WalkText.{afterLines, after-cut}
 use Rattle.judge_file.specs.Promise.{accepted-mol}
 use Rattle.reader_walk.specs.Outcome.{whole, refused, ofOne, ofVerdict, outcomeOf}
 use Rattle.reader_walk.specs.Stands.{moleculeLines}
+use Rattle.reader_walk.specs.Asked.{apart}
 use Rattle.reader_walk.specs.Promise.{RefusedAt, saidBy, verdict-checked}
 use Rattle.reader_answer.specs.Stretch.{Stretch, stretch-none, stretch-join, stretch-cut, stretch-after, stretch-at, after-order}
 use Rattle.reader_answer.specs.Promise.{Reply, Begins, Own, Told, Refusal}
@@ -212,14 +213,11 @@ begins-outcome sdfile s x g =
     ap (λ (ls : List Line). ofOne (oneRecord limit ls)) e
     ∙ ap ofOne (one-whole limit (g .0) x (linesOf sdfile x) (g .2) .1 (g .4, sym (many-record (g .4))))
 
-whole-raw : {x y : Raw} {k j : ℕ} → whole x k ≡ whole y j → x ≡ y
+pub whole-raw : {x y : Raw} {k j : ℕ} → whole x k ≡ whole y j → x ≡ y
 whole-raw e = cc
 
 pub whole-lines : {x y : Raw} {k j : ℕ} → whole x k ≡ whole y j → k ≡ j
 whole-lines e = cc
-
-apart : {X : Type 0} {x : Raw} {k e i c : ℕ} → whole x k ≡ refused e i c → X
-apart h = absurd (let z : _≡_ {A = ℕ} 0 1 = cc in omega arith)
 
 pub outcome-begins : (kind : FileKind) (s : Bytes) (x : Raw) (k : ℕ) → outcomeOf kind s ≡ whole x k → Begins kind s x
 unfolding outcomeOf

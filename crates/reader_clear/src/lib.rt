@@ -11,7 +11,7 @@ use rules::ATOMS;
 use rules::BONDS;
 
 // Zeros from place `from` to before place `to`.
-fn zero_rows(table: &mut [i32], from: usize, to: usize)
+pub fn zero_rows(table: &mut [i32], from: usize, to: usize)
     requires { ⌜ (from ≤ to) × (to ≤ length (now table)) ⌝ }
     ensures { λ r. ⌜ now (table .exit) ≡ zeroed (now (table .entry)) from to ⌝ }
 {

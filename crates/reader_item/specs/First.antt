@@ -22,6 +22,11 @@ use Rattle.reader_item.specs.Hunting.{by-title, items-at}
 use Rattle.reader_item.specs.Promise.{FirstItem, NoneNamed, ItemIn, Joined, Stretch}
 use Rattle.reader_item.specs.Joined.{before-lines, joined-lines, start-one, joined-one}
 
+-- the value lines stand at the front
+pub lead : {t vs u : List Line} → Values t vs u → take (length vs) t ≡ vs
+lead (Values.end h) = refl
+lead (Values.more {l = l} h p) = ap (λ (x : List Line). l ∷ x) (lead p)
+
 -- ---- The first item of a name is one
 
 module _ (name : Bytes) where
@@ -43,11 +48,6 @@ module _ (name : Bytes) where
   pub item-one : {ls v w vs ws : List Line} → ItemIn name ls v vs → ItemIn name ls w ws → (v ≡ w) × (vs ≡ ws)
   item-one {w = w} {ws = ws} a b =
       first-item-one (a .first) (subst (λ (t : List Line). FirstItem name t w ws) (sym (parts-one (a .molecule) (b .molecule) .1)) (b .first))
-
-  -- the value lines stand at the front
-  lead : {t vs u : List Line} → Values t vs u → take (length vs) t ≡ vs
-  lead (Values.end h) = refl
-  lead (Values.more {l = l} h p) = ap (λ (x : List Line). l ∷ x) (lead p)
 
   pub first-lead : {u v vs : List Line} → FirstItem name u v vs → (take (length vs) v ≡ vs) × (length vs < length v)
   first-lead (FirstItem.here h p) = (lead p, omega (arith, past-values p .some))

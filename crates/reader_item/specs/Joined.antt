@@ -46,7 +46,7 @@ line-bytes : (s : Bytes) (at e n : ℕ) → lineAt s at ≡ LineAt.Line e n → 
 unfolding lineAt
 line-bytes s at e n h = bytes-by s at e n (firstFrom isLf at (drop at s)) refl h
 
-head-same : {l m : Line} {ls ms : List Line} → l ∷ ls ≡ m ∷ ms → l ≡ m
+pub head-same : {l m : Line} {ls ms : List Line} → l ∷ ls ≡ m ∷ ms → l ≡ m
 head-same e = cc
 
 line-ended : (s : Bytes) (at e n : ℕ) (h : lineAt s at ≡ LineAt.Line e n) → Ended (line-bytes s at e n h .bs) (take (e - at) (drop at s))

@@ -21,8 +21,9 @@ use Rattle.judge_file.specs.WalkText.{afterLines, after-none, after-next}
 use Rattle.line_text.specs.declared.ItemRead.{ItemRead}
 use Rattle.reader_item.specs.Find.{fromOf, toOf}
 use Rattle.reader_item.specs.Position.{stretch-within, after-low, Past, past-values}
+use Rattle.reader_item.specs.First.{lead}
 use Rattle.reader_item.specs.Promise.{Joined}
-use Rattle.reader_item.specs.Joined.{before-lines, joined-lines, start-one, joined-one}
+use Rattle.reader_item.specs.Joined.{before-lines, joined-lines, start-one, joined-one, head-same}
 use Rattle.reader_items.specs.declared.ItemAt.{ItemAt}
 use Rattle.reader_items.specs.declared.ValuesAt.{ValuesAt}
 use Rattle.reader_items.specs.Step.{titleIs, valueIs, titleOf, Ran, over, stopped, valuesRun, valuesBy, valuesFrom, withValues, titled, stepOf}
@@ -98,9 +99,6 @@ pub record Begun (s : Bytes) (at : ℕ) (l : Line) (t : List Line) : Type 0 wher
   pub first : take (e - at) (drop at s) ≡ l
   pub rest : cut (drop n s) .lines ≡ t
 
-head-same : {l m : Line} {ls ms : List Line} → l ∷ ls ≡ m ∷ ms → l ≡ m
-head-same h = cc
-
 tail-same : {l m : Line} {ls ms : List Line} → l ∷ ls ≡ m ∷ ms → ls ≡ ms
 tail-same h = cc
 
@@ -144,10 +142,6 @@ module _ (s : Bytes) (at : ℕ) where
       (omega (arith, p .low, q .low, e), omega (arith, p .many, q .many))
 
 -- the value lines stand at the front
-lead : {t vs u : List Line} → Values t vs u → take (length vs) t ≡ vs
-lead (Values.end h) = refl
-lead (Values.more {l = l} h p) = ap (λ (x : List Line). l ∷ x) (lead p)
-
 values-in : (s : Bytes) (n : ℕ) {vs u : List Line} → n ≤ length s → Values (cut (drop n s) .lines) vs u → ValuesIn s vs (fromOf n (length vs)) (toOf s n (length vs))
 values-in s n {vs = []} h v = ValuesIn.none
 values-in s n {vs = l ∷ vs} h v =

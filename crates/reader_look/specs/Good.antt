@@ -3,7 +3,7 @@ use Prim.Native.Nat.{ℕ, zero, suc, _+_, _-_, _≤_}
 use native.Mathlib.Omega.{arith}
 use mathlib.Core.Path.{_≡_, refl, sym, ap, _∙_, subst}
 use mathlib.Core.Logic.{_⊎_, inl, inr}
-use mathlib.Core.Bool.{Bool, true, false, _&&_}
+use mathlib.Core.Bool.{Bool, true, false, _&&_, false≢true}
 use mathlib.Core.List.{List, [], _∷_, _++_, append-assoc}
 use lib.Dec.{leb}
 use lib.IntN.{ℤ}
@@ -69,8 +69,8 @@ all-spaces (suc i) c cs h = dull-space c cc
 number-first : {ds : Bytes} {z : ℤ} (c : ℕ) (cs : Bytes) → c ∷ cs ≡ ds → Integer false ds z → Dull c
 number-first c cs h (Integer.blank i e) = all-spaces i c cs (h ∙ e)
 number-first c cs h (Integer.plain i ds j k e d) = spaced-digits i c cs ds (spaces j) k d (h ∙ e)
-number-first c cs h (Integer.plus i ds j k t e d) = false-true t
-number-first c cs h (Integer.minus i ds j k t e d) = false-true t
+number-first c cs h (Integer.plus i ds j k t e d) = absurd (false≢true t)
+number-first c cs h (Integer.minus i ds j k t e d) = absurd (false≢true t)
 
 coordinate-first : {ds : Bytes} {z : ℤ} (c : ℕ) (cs : Bytes) → c ∷ cs ≡ ds → Coordinate ds z → Dull c
 coordinate-first c cs h (Coordinate.blank e) = all-spaces 10 c cs (h ∙ e)

@@ -1,7 +1,6 @@
 -- Pairs entered in the rows, one after the other, each by its key and in the rows of both its ends: the rows then say the pairs.
 use Prim.Native.Nat.{ℕ, suc, _+_, _-_, _*_, _/_, _%_, _≤_, _<_, _^_}
 use native.Mathlib.Omega.{arith}
-use native.Mathlib.Nat.{zero-div}
 use mathlib.Core.Path.{_≡_, refl, sym, ap, _∙_, subst}
 use mathlib.Core.List.{List, [], _∷_, _++_}
 use mathlib.Core.Bool.{Bool, true, false, cond, _&&_, _||_}
@@ -12,7 +11,7 @@ use borrow.Author.Tests.{eq-eqb, ne-eqb, eqb-true, eqb-false, ltb-true, ltb-fals
 use Rattle.rules.specs.Forms.{Bond}
 use Rattle.rules.specs.Record.{limit}
 use Rattle.sets_words.specs.Bits.{bitAt, hasBit, wordWith, withBit, inRow}
-use Rattle.sets_words.specs.Members.{row-put-has, put-length}
+use Rattle.sets_words.specs.Members.{row-put-has, put-length, zero-word}
 use Rattle.sets_words.specs.Fresh.{fresh-fits}
 use Rattle.judge_line.specs.Field.{elem}
 use Rattle.judge_pairs.specs.Taken.{samePair, pairTaken}
@@ -283,10 +282,6 @@ module _ (ws : List ℕ) where
       ∙ ap (λ (us : List ℕ). getD us i 0) (take-at (replicate rowPlaces 0) (drop rowPlaces ws) rowPlaces (length-replicate {A = ℕ} rowPlaces 0))
       ∙ getD-replicate rowPlaces i 0 0 h
 
--- a word of zeros has no bits
-zero-bit : (k w : ℕ) → w ≡ 0 → eqb (w / 2 ^ k % 2) 1 ≡ false
-zero-bit k w e = rw (e, zero-div (2 ^ k))
-
 pub record Blank (ws : List ℕ) : Type 0 where
   pub zeros : (i : ℕ) → i < rowPlaces → getD ws i 0 ≡ 0
 
@@ -295,18 +290,18 @@ emptied-blank ws = record { zeros = emptied-word ws }
 
 blank-has : (ws : List ℕ) → Blank ws → (a b : ℕ) → 1 ≤ a → a ≤ limit → 1 ≤ b → b ≤ 1024 → hasBit ws (inRow a b) ≡ false
 unfolding hasBit bitAt
-blank-has ws g a b la ha lb hb = zero-bit (inRow a b % 64) (getD ws (inRow a b / 64) 0) (g .zeros (inRow a b / 64) (omega arith))
+blank-has ws g a b la ha lb hb = zero-word (inRow a b % 64) (getD ws (inRow a b / 64) 0) (g .zeros (inRow a b / 64) (omega arith))
 
 blank-words : (ws : List ℕ) → Blank ws → Words ws
 blank-words ws g = record { below = λ i h. subst (λ (w : ℕ). w < 2 ^ 64) (sym (g .zeros i h)) (omega arith) }
 
-or-false : (s t : Bool) → t ≡ false → (s || t) ≡ s
-or-false true t e = refl
-or-false false t e = e
+or-none : (s t : Bool) → t ≡ false → (s || t) ≡ s
+or-none true t e = refl
+or-none false t e = e
 
 module _ (ws ks : List ℕ) (empty : Blank ws) (room : rowPlaces ≤ length ws) (all : AllPairs ks) where
   has : (a b : ℕ) → 1 ≤ a → a ≤ limit → 1 ≤ b → b ≤ 1024 → hasBit (marked ws ks) (inRow a b) ≡ joinedKeys a b ks
-  has a b la ha lb hb = marked-has ws ks a b all room la lb hb ∙ or-false (joinedKeys a b ks) (hasBit ws (inRow a b)) (blank-has ws empty a b la ha lb hb)
+  has a b la ha lb hb = marked-has ws ks a b all room la lb hb ∙ or-none (joinedKeys a b ks) (hasBit ws (inRow a b)) (blank-has ws empty a b la ha lb hb)
 
   -- the rows are asked where the keys would be searched
   pub marked-asks : (key : ℕ) → PairKey key → hasBit (marked ws ks) (inRow (key / 1024) (key % 1024)) ≡ elem key ks

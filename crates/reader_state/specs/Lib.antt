@@ -1,4 +1,2 @@
 pub mod Went
 pub mod Parts
-pub mod Stays
-pub mod Within

@@ -4,7 +4,7 @@ use native.Mathlib.Omega.{arith}
 use mathlib.Core.Path.{_≡_, refl, sym, ap, _∙_, subst}
 use mathlib.Core.List.{List, [], _∷_, _++_, map}
 use lib.ListN.{length, take, drop, set}
-use lib.Seq.{sets, sets-eq, length-sets, drop-set-lt, take-at}
+use lib.Seq.{sets, sets-eq, drop-set-lt, take-at}
 use lib.IntN.{ℤ}
 use Rattle.rules.specs.Forms.{Atom, Bond}
 use Rattle.rules.specs.Meaning.{bondNumbers}
@@ -45,12 +45,6 @@ module _ (t : List ℤ) (xs : List Atom) (a : Atom) where
       subst (λ (vs : List ℤ). Holds atomStored vs) (sym (rows-more xs a))
       (subst (λ (i : ℕ). Holds (sets t i (rawRow a)) (rawRows xs ++ rawRow a)) n (holds-more t (rawRows xs) (rawRow a) e (omega arith)))
 
-  pub atom-length : length atomStored ≡ length t
-  atom-length = length-sets t (16 * length xs) (rawRow a)
-
-  pub atom-past : (k : ℕ) → 16 * (length xs + 1) ≤ k → drop k atomStored ≡ drop k t
-  atom-past k h = drop-sets (rawRow a) t (16 * length xs) k (omega arith)
-
 -- ---- rows of bonds
 
 pub length-bond-rows : (bs : List Bond) → length (bondRows bs) ≡ 6 * length bs
@@ -72,12 +66,6 @@ module _ (t : List ℤ) (bs : List Bond) (b : Bond) where
       let n : length (bondRows bs) ≡ 6 * length bs = length-bond-rows bs in
       subst (λ (vs : List ℤ). Holds bondStored vs) (sym (bond-rows-more bs b))
       (subst (λ (i : ℕ). Holds (sets t i (bondNumbers b)) (bondRows bs ++ bondNumbers b)) n (holds-more t (bondRows bs) (bondNumbers b) e (omega arith)))
-
-  pub bond-length : length bondStored ≡ length t
-  bond-length = length-sets t (6 * length bs) (bondNumbers b)
-
-  pub bond-past : (k : ℕ) → 6 * (length bs + 1) ≤ k → drop k bondStored ≡ drop k t
-  bond-past k h = drop-sets (bondNumbers b) t (6 * length bs) k (omega arith)
 
 -- the rows of a reading's bonds
 pub bond-rows-flat : (bs : List Bond) → flat (map bondNumbers bs) ≡ bondRows bs

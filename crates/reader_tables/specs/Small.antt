@@ -1,17 +1,12 @@
 -- What the judge of a line accepts fits a place of the table.
 use Prim.Native.Nat.{ℕ, _+_, _≤_}
 use native.Mathlib.Omega.{arith}
-use mathlib.Core.Path.{_≡_}
 use mathlib.Core.List.{List, [], _∷_}
 use mathlib.Core.Bool.{Bool, true, false, cond}
 use lib.Dec.{eqb}
 use Rattle.text.specs.Text.{Line}
-use Rattle.text.specs.Columns.{Within}
 use Rattle.field_numbers.specs.Number.{OneOf}
 use Rattle.rules.specs.Forms.{Atom, AtomLine, Bond, BondLine}
-use Rattle.judge_line.specs.Got.{got}
-use Rattle.judge_line.specs.Judge.{atomOf, bondOf}
-use Rattle.judge_line.specs.AgreeLine.{atom-got, bond-got}
 use Rattle.reader_tables.specs.Row.{SmallAtom, SmallBond}
 
 pub atom-small : (n : ℕ) (l : Line) (a : Atom) → n ≤ 999 → AtomLine n l a → SmallAtom a
@@ -53,9 +48,3 @@ bond-small n l b h g =
       stereo = omega (arith, below-total (g .stereo .listed), stereos-small (eqb (b .type) 1) (eqb (b .type) 2));
       topology = omega (arith, g .topology .high);
     }
-
-pub judged-atom-small : (n : ℕ) (l : Line) (a : Atom) → n ≤ 999 → Within 80 l → atomOf n l ≡ got a → SmallAtom a
-judged-atom-small n l a h w e = atom-small n l a h (atom-got n l a w e)
-
-pub judged-bond-small : (n : ℕ) (l : Line) (b : Bond) → n ≤ 999 → Within 80 l → bondOf n l ≡ got b → SmallBond b
-judged-bond-small n l b h w e = bond-small n l b h (bond-got n l b w e)

@@ -98,22 +98,6 @@ none-own {A} longest l bs g f e column h = go (leb (length l) longest) (badColum
     go true Found.Nothing (bad x y) h = refl
     go false n g h = refl
 
--- and one that gives a bond brings it
-pub its-own-bond : {A : Type 0} (longest : ℕ) (l : Line) (bs : List Bond) (g : Got Bond) (f : Bond → A) (b : Bond) (a : A) → ((c : Bond) → f c ≡ a → c ≡ b) →
-    within longest l (then g λ c. got (f c)) ≡ got a → withOwn bs (within longest l g) ≡ bs ++ (b ∷ [])
-unfolding within need then
-its-own-bond {A} longest l bs g f b a one h = go (leb (length l) longest) (badColumn l) g h
-  where
-    inj : (x y : A) → _≡_ {A = Got A} (got x) (got y) → x ≡ y
-    inj x y e = cc
-
-    go : (t : Bool) (n : Found) (g : Got Bond) → need t 3 (suc longest) (noneFound 4 n (then g λ c. got (f c))) ≡ got a →
-        withOwn bs (need t 3 (suc longest) (noneFound 4 n g)) ≡ bs ++ (b ∷ [])
-    go true (Found.At i) g h = bad-got h
-    go true Found.Nothing (got c) h = ap (λ (x : Bond). bs ++ (x ∷ [])) (one c (inj (f c) a h))
-    go true Found.Nothing (bad x y) h = bad-got h
-    go false n g h = bad-got h
-
 -- ---- The same in the words of the rules
 
 -- where a bond line must stand, its form decides; at every other place the bonds read are all
@@ -262,7 +246,7 @@ module _ (kind : FileKind) (ls : List Line) (i : ℕ) (cs : List Bond) (g : Came
 
 -- ---- The judge's outcome and its bonds
 
-apart : {X : Type 0} {x : Raw} {k e i c : ℕ} → whole x k ≡ refused e i c → X
+pub apart : {X : Type 0} {x : Raw} {k e i c : ℕ} → whole x k ≡ refused e i c → X
 apart h = absurd (let z : _≡_ {A = ℕ} 0 1 = cc in omega arith)
 
 refused-line : {e i c e′ i′ c′ : ℕ} → refused e i c ≡ refused e′ i′ c′ → i ≡ i′

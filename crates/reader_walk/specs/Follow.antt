@@ -60,7 +60,7 @@ module _ (longest : ℕ) (l : Line) (R : Got Went → Got Turn → Type 0) (bads
   short-enough true x y h = h refl
   short-enough false x y h = bads 3 (suc longest)
 
-  pub both-within : (x : Got Went) (y : Got Turn) → (Within longest l → R x y) → R (within longest l x) (within longest l y)
+  both-within : (x : Got Went) (y : Got Turn) → (Within longest l → R x y) → R (within longest l x) (within longest l y)
   unfolding within need
   both-within x y h =
       short-enough (leb (length l) longest) (noneFound 4 (badColumn l) x) (noneFound 4 (badColumn l) y)
@@ -69,7 +69,7 @@ module _ (longest : ℕ) (l : Line) (R : Got Went → Got Turn → Type 0) (bads
       good : leb (length l) longest ≡ true → badColumn l ≡ Found.Nothing → Within longest l
       good long none = within-got longest l (got l) l (rw (long, none)) .0
 
-  pub both-then : {A : Type 0} (g : Got A) (f : A → Got Went) (h : A → Got Turn) → (Within longest l → (a : A) → g ≡ got a → R (f a) (h a)) →
+  both-then : {A : Type 0} (g : Got A) (f : A → Got Went) (h : A → Got Turn) → (Within longest l → (a : A) → g ≡ got a → R (f a) (h a)) →
       R (within longest l (then g f)) (within longest l (then g h))
   unfolding then
   both-then {A = A} g f h k = both-within (then g f) (then g h) (λ w. go g (k w))
@@ -128,50 +128,43 @@ Goes kind s i n p l r m t keys ta tb (got (W.blank r′)) y = Onto kind s i keys
 Goes kind s i n p l r m t keys ta tb (got W.done) y = (x : Raw) × (y ≡ got (J.done x)) × Closed s r m t ta tb x
 Goes kind s i n p l r m t keys ta tb (bad e column) y = y ≡ bad e column
 
+-- notes of as many rows
+rows-kept : (m m′ : Notes) (keys : List ℕ) (ta tb : List ℤ) (xs : List Atom) (bs : List Bond) → m′ .atoms ≡ m .atoms → m′ .bonds ≡ m .bonds → Rows m keys ta tb xs bs → Rows m′ keys ta tb xs bs
+rows-kept m m′ keys ta tb xs bs e f rows =
+    record {
+      atoms = e ∙ rows .atoms;
+      bonds = f ∙ rows .bonds;
+      atom-rows = rows .atom-rows;
+      bond-rows = rows .bond-rows;
+      bond-keys = rows .bond-keys;
+      small = rows .small;
+    }
+
 -- ---- Lines owed
 
-module _ (kind : FileKind) (s : Bytes) (hs : Headers) (d : Counts) (m : Notes) (t keys : List ℕ) (ta tb : List ℤ) (i : ℕ) where
+module _ (kind : FileKind) (s : Bytes) (d : Counts) (m : Notes) (t keys : List ℕ) (ta tb : List ℤ) (i : ℕ) where
   abbrev at : Place → Reader
   at p = record { sd = isSd kind; place = p; counts = d }
 
-  to-bonds : (xs : List Atom) (k : ℕ) (bs : List Bond) → d .atoms ≤ limit → d .bonds ≤ limit → Listing (d .atoms) t [] → length bs + k ≡ d .bonds →
+  stands : (q : Place) (p : J.Place) → d .atoms ≤ limit → d .bonds ≤ limit → q ≡ placeOf p → Counted d t p → Rows m keys ta tb (atomsIn p) (bondsIn p) → Marks s m i p →
+      Stands kind s (at q) m t keys ta tb i p
+  stands q p na nb e c rows marks =
+      record { sd = refl; place = e; few-atoms = na; few-bonds = nb; counted = c; rows = rows; marks = marks }
+
+  to-bonds : (hs : Headers) (xs : List Atom) (k : ℕ) (bs : List Bond) → d .atoms ≤ limit → d .bonds ≤ limit → Listing (d .atoms) t [] → length bs + k ≡ d .bonds →
       Rows m keys ta tb xs bs → i ≡ 5 + length xs + length bs → Headed s m → Stands kind s (at (bondsOwed k)) m t keys ta tb i (toBonds hs (countsIs d) xs k bs)
   unfolding toBonds bondsOwed
-  to-bonds xs zero bs na nb sh n rows line head =
-      record {
-        sd = refl;
-        place = refl;
-        few-atoms = na;
-        few-bonds = nb;
-        counted = (refl, sh);
-        rows = rows;
-        marks = (omega arith, head);
-      }
-  to-bonds xs (suc k) bs na nb sh n rows line head =
-      record {
-        sd = refl;
-        place = rw (ne-eqb (suc k) 0 (λ (e : suc k ≡ 0). omega arith));
-        few-atoms = na;
-        few-bonds = nb;
-        counted = (refl, sh, n);
-        rows = rows;
-        marks = (line, head);
-      }
+  to-bonds hs xs zero bs na nb sh n rows line head =
+      stands (bondsOwed 0) (properties hs (countsIs d) xs bs []) na nb refl (refl, sh) rows (omega arith, head)
+  to-bonds hs xs (suc k) bs na nb sh n rows line head =
+      stands (bondsOwed (suc k)) (bonds hs (countsIs d) xs k bs) na nb (rw (ne-eqb (suc k) 0 (λ (e : suc k ≡ 0). omega arith))) (refl, sh, n) rows (line, head)
 
-  to-atoms : (k : ℕ) (xs : List Atom) → d .atoms ≤ limit → d .bonds ≤ limit → Listing (d .atoms) t [] → length xs + k ≡ d .atoms →
+  to-atoms : (hs : Headers) (k : ℕ) (xs : List Atom) → d .atoms ≤ limit → d .bonds ≤ limit → Listing (d .atoms) t [] → length xs + k ≡ d .atoms →
       Rows m keys ta tb xs [] → i ≡ 5 + length xs → Headed s m → Stands kind s (at (atomsOwed k (d .bonds))) m t keys ta tb i (toAtoms hs (countsIs d) k xs)
   unfolding toAtoms atomsOwed
-  to-atoms zero xs na nb sh n rows line head = to-bonds xs (d .bonds) [] na nb sh (omega arith) rows (omega arith) head
-  to-atoms (suc k) xs na nb sh n rows line head =
-      record {
-        sd = refl;
-        place = rw (ne-eqb (suc k) 0 (λ (e : suc k ≡ 0). omega arith));
-        few-atoms = na;
-        few-bonds = nb;
-        counted = (refl, sh, n);
-        rows = rows;
-        marks = (line, head);
-      }
+  to-atoms hs zero xs na nb sh n rows line head = to-bonds hs xs (d .bonds) [] na nb sh (omega arith) rows (omega arith) head
+  to-atoms hs (suc k) xs na nb sh n rows line head =
+      stands (atomsOwed (suc k) (d .bonds)) (atoms hs (countsIs d) k xs) na nb (rw (ne-eqb (suc k) 0 (λ (e : suc k ≡ 0). omega arith))) (refl, sh, n) rows (line, head)
 
 -- ---- The table of listed numbers
 
@@ -226,15 +219,8 @@ module _ (kind : FileKind) (s : Bytes) (m : Notes) (t keys : List ℕ) (ta tb : 
       (λ w. (
         counts hs,
         refl,
-        record {
-          sd = refl;
-          place = refl;
-          few-atoms = na;
-          few-bonds = nb;
-          counted = tt;
-          rows = record { atoms = rows .atoms; bonds = rows .bonds; atom-rows = rows .atom-rows; bond-rows = rows .bond-rows; bond-keys = rows .bond-keys; small = rows .small };
-          marks = (omega arith, after ∙ ap (afterLines s 0) three);
-        },
+        stands kind s d (headedAt m n) t keys ta tb (suc i) P.Counts (counts hs) na nb refl tt (rows-kept m (headedAt m n) keys ta tb [] [] refl refl rows)
+            (omega arith, after ∙ ap (afterLines s 0) three),
       ))
 
   follow-counts : (hs : Headers) (d : Counts) → Statement (counts hs) d
@@ -247,7 +233,7 @@ module _ (kind : FileKind) (s : Bytes) (m : Notes) (t keys : List ℕ) (ta tb : 
         toAtoms hs c (c .atoms) [],
         refl,
         subst (λ (g : Got R.Counts). Stands kind s (W.counted (readerAt (counts hs) d) c) m (emptiedBy t g) keys ta tb (suc i) (toAtoms hs c (c .atoms) [])) (sym e)
-            (to-atoms kind s hs d′ m (emptied (c .atoms + 1) t) keys ta tb (suc i) (c .atoms) [] (good .atoms .high) (good .bonds .high) (none-listed (c .atoms) t rt) (omega arith) rows
+            (to-atoms kind s d′ m (emptied (c .atoms + 1) t) keys ta tb (suc i) hs (c .atoms) [] (good .atoms .high) (good .bonds .high) (none-listed (c .atoms) t rt) (omega arith) rows
             (omega (arith, line .0)) (line .1)),
       ))
 
@@ -273,7 +259,7 @@ module _ (kind : FileKind) (s : Bytes) (m : Notes) (t keys : List ℕ) (ta tb : 
               Stands kind s (moved (readerAt p d) (atomsOwed j (d .bonds))) (atomMore m) t keys (sets ta (16 * (m .atoms)) (rawRow a)) tb (suc i)
               (toAtoms hs (countsIs d) k (xs ++ (a ∷ []))))
               (one-less k)
-              (to-atoms kind s hs d (atomMore m) t keys (sets ta (16 * (m .atoms)) (rawRow a)) tb (suc i) k (xs ++ (a ∷ [])) na nb (counted .1) (omega (arith, counted .2))
+              (to-atoms kind s d (atomMore m) t keys (sets ta (16 * (m .atoms)) (rawRow a)) tb (suc i) hs k (xs ++ (a ∷ [])) na nb (counted .1) (omega (arith, counted .2))
               (record {
                 atoms = omega arith;
                 bonds = rows .bonds;
@@ -330,7 +316,7 @@ module _ (kind : FileKind) (s : Bytes) (m : Notes) (t keys : List ℕ) (ta tb : 
               Stands kind s (moved (readerAt p d) (bondsOwed j)) (bondMore m) t (set keys (m .bonds) (keyOf b)) ta (sets tb (6 * (m .bonds)) (bondNumbers b)) (suc i)
               (toBonds hs (countsIs d) xs k (bs ++ (b ∷ []))))
               (one-less k)
-              (to-bonds kind s hs d (bondMore m) t (set keys (m .bonds) (keyOf b)) ta (sets tb (6 * (m .bonds)) (bondNumbers b)) (suc i) xs k (bs ++ (b ∷ [])) na nb (counted .1)
+              (to-bonds kind s d (bondMore m) t (set keys (m .bonds) (keyOf b)) ta (sets tb (6 * (m .bonds)) (bondNumbers b)) (suc i) hs xs k (bs ++ (b ∷ [])) na nb (counted .1)
               (omega (arith, counted .2))
               (record {
                 atoms = rows .atoms;
@@ -345,30 +331,20 @@ module _ (kind : FileKind) (s : Bytes) (m : Notes) (t keys : List ℕ) (ta tb : 
       })
 
   -- the molecule after its `M  END`
-  after-end : (hs : Headers) (d : Counts) (xs : List Atom) (bs : List Bond) (ps : List Property) → n ≡ afterLines s 0 i → d .atoms ≤ limit → d .bonds ≤ limit →
-      Listing (d .atoms) t ps → Rows m keys ta tb xs bs → i ≡ 5 + length xs + length bs + length ps → Headed s m → (k : FileKind) →
-      let mol : Molecule = record { headers = hs; counts = countsIs d; atoms = xs; bonds = bs; properties = ps } in
+  after-end : (mol : Molecule) (d : Counts) → n ≡ afterLines s 0 i → d .atoms ≤ limit → d .bonds ≤ limit → (countsIs d ≡ mol .counts) × Listing (mol .counts .atoms) t (mol .properties) →
+      Rows m keys ta tb (mol .atoms) (mol .bonds) → i ≡ moleculeLines mol → Headed s m → (k : FileKind) →
       Stands k s (record { sd = isSd k; place = afterEnd (isSd k); counts = d }) (endedAt m n) t keys ta tb (suc i) (J.afterEnd k mol)
-  after-end hs d xs bs ps after na nb sh rows line head molfile =
-      record {
-        sd = refl;
-        place = refl;
-        few-atoms = na;
-        few-bonds = nb;
-        counted = (refl, sh);
-        rows = record { atoms = rows .atoms; bonds = rows .bonds; atom-rows = rows .atom-rows; bond-rows = rows .bond-rows; bond-keys = rows .bond-keys; small = rows .small };
-        marks = (ap suc line, head, after ∙ ap (afterLines s 0) line);
-      }
-  after-end hs d xs bs ps after na nb sh rows line head sdfile =
-      record {
-        sd = refl;
-        place = refl;
-        few-atoms = na;
-        few-bonds = nb;
-        counted = (refl, sh);
-        rows = record { atoms = rows .atoms; bonds = rows .bonds; atom-rows = rows .atom-rows; bond-rows = rows .bond-rows; bond-keys = rows .bond-keys; small = rows .small };
-        marks = (head, after ∙ ap (afterLines s 0) line);
-      }
+  after-end mol d after na nb c rows line head k = go k
+    where
+      rows′ : Rows (endedAt m n) keys ta tb (mol .atoms) (mol .bonds)
+      rows′ = rows-kept m (endedAt m n) keys ta tb (mol .atoms) (mol .bonds) refl refl rows
+
+      start : n ≡ afterLines s 0 (moleculeLines mol)
+      start = after ∙ ap (afterLines s 0) line
+
+      go : (k : FileKind) → Stands k s (record { sd = isSd k; place = afterEnd (isSd k); counts = d }) (endedAt m n) t keys ta tb (suc i) (J.afterEnd k mol)
+      go molfile = stands molfile s d (endedAt m n) t keys ta tb (suc i) P.Over (over mol) na nb refl c rows′ (ap suc line, head, start)
+      go sdfile = stands sdfile s d (endedAt m n) t keys ta tb (suc i) P.Items (items mol []) na nb refl c rows′ (head, start)
 
   follow-properties : (hs : Headers) (d : Counts) (xs : List Atom) (bs : List Bond) (ps : List Property) → Statement (properties hs (countsIs d) xs bs ps) d
   unfolding wentOf lineIn turnOf lineOf
@@ -392,25 +368,16 @@ module _ (kind : FileKind) (s : Bytes) (m : Notes) (t keys : List ℕ) (ta tb : 
             properties hs (countsIs d) xs bs (ps ++ (q ∷ [])),
             refl,
             subst (λ (g : Got L.PropertyOrEnd). Stands kind s (readerAt p d) m (enteredBy t g) keys ta tb (suc i) (properties hs (countsIs d) xs bs (ps ++ (q ∷ [])))) (sym e)
-                (record {
-                  sd = refl;
-                  place = refl;
-                  few-atoms = na;
-                  few-bonds = nb;
-                  counted = (refl, line-listed (d .atoms) t ps l q na w (counted .1) e);
-                  rows = rows;
-                  marks = (omega (arith, line .0), line .1);
-                }),
+                (stands kind s d m (enter (q .kind) t (q .entries)) keys ta tb (suc i) P.Properties (properties hs (countsIs d) xs bs (ps ++ (q ∷ []))) na nb refl
+                (refl, line-listed (d .atoms) t ps l q na w (counted .1) e) rows (omega (arith, line .0), line .1)),
           )
-      go w L.last e = (
-        J.afterEnd kind (record { headers = hs; counts = countsIs d; atoms = xs; bonds = bs; properties = ps }),
-        refl,
-        subst
-            (λ (g : Got L.PropertyOrEnd).
-            Stands kind s (moved (readerAt p d) (afterEnd (isSd kind))) (endedAt m n) (enteredBy t g) keys ta tb (suc i)
-            (J.afterEnd kind (record { headers = hs; counts = countsIs d; atoms = xs; bonds = bs; properties = ps })))
-            (sym e) (after-end hs d xs bs ps after na nb (counted .1) rows (line .0) (line .1) kind),
-      )
+      go w L.last e =
+          let mol : Molecule = record { headers = hs; counts = countsIs d; atoms = xs; bonds = bs; properties = ps } in (
+            J.afterEnd kind mol,
+            refl,
+            subst (λ (g : Got L.PropertyOrEnd). Stands kind s (moved (readerAt p d) (afterEnd (isSd kind))) (endedAt m n) (enteredBy t g) keys ta tb (suc i) (J.afterEnd kind mol)) (sym e)
+                (after-end mol d after na nb (refl, counted .1) rows (line .0) (line .1) kind),
+          )
 
   follow-over : (mol : Molecule) (d : Counts) → Statement (over mol) d
   unfolding wentOf lineIn turnOf lineOf

@@ -1,6 +1,6 @@
 -- What the walk over one record answers, and what it leaves in the lent tables.
 use Prim.Native.Nat.{ℕ, _-_, _*_, _≤_}
-use mathlib.Core.Path.{_≡_}
+use mathlib.Core.Path.{_≡_, refl, _∙_}
 use mathlib.Core.List.{List}
 use lib.ListN.{length, drop}
 use lib.IntN.{ℤ}
@@ -39,6 +39,12 @@ pub record Beside (k : ℕ) (t₀ t : List ℤ) : Type 0 where
   pub room : k ≤ length t₀
   pub size : length t ≡ length t₀
   pub past : drop k t ≡ drop k t₀
+
+pub beside-same : (k : ℕ) (t : List ℤ) → k ≤ length t → Beside k t t
+beside-same k t h = record { room = h; size = refl; past = refl }
+
+pub beside-join : {k : ℕ} {t u v : List ℤ} → Beside k t u → Beside k u v → Beside k t v
+beside-join p q = record { room = p .room; size = q .size ∙ p .size; past = q .past ∙ p .past }
 
 -- the tables hold the record as it was written
 pub record Held (ta tb : List ℤ) (t : List ℕ) (m : Molecule) : Type 0 where

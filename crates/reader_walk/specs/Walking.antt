@@ -127,27 +127,26 @@ walking-start sd s r m t keys ws ta tb e em ra rb rk rt lent few =
       same = outcome-from (kindOf sd) s;
     })
 
--- the state is one that the reader can be in
+-- a state that stands for a place is one that the reader can be in
+pub counted-sane : (r : Reader) (t : List ℕ) (p : J.Place) → r .place ≡ placeOf p → r .counts .atoms ≤ limit → r .counts .bonds ≤ limit → Counted (r .counts) t p → Sane r
+counted-sane r t p e na nb c = record { owing = subst W.Owing (sym e) (owing p c); atoms = na; bonds = nb }
+  where
+    owing : (p : J.Place) → Counted (r .counts) t p → W.Owing (placeOf p)
+    owing first c = (omega arith, omega arith)
+    owing (second h₁) c = (omega arith, omega arith)
+    owing (third h₁ h₂) c = (omega arith, omega arith)
+    owing (counts hs) c = tt
+    owing (atoms hs x k xs) c = (omega arith, omega (arith, na, c .2, ap (λ (y : R.Counts). y .atoms) (c .0)))
+    owing (bonds hs x xs k bs) c = (omega arith, omega (arith, nb, c .2, ap (λ (y : R.Counts). y .bonds) (c .0)))
+    owing (properties hs x xs bs ps) c = tt
+    owing (over mol) c = tt
+    owing (items mol is) c = tt
+    owing (values mol is name vs) c = tt
+
 pub walking-sane : (sd : Bool) (s : Bytes) (ta₀ tb₀ : List ℤ) (ws₀ : List ℕ) (r : Reader) (m : Notes) (at i : ℕ) (t keys ws : List ℕ) (ta tb : List ℤ) →
     Walking sd s ta₀ tb₀ ws₀ r m at i t keys ws ta tb → Sane r
 walking-sane sd s ta₀ tb₀ ws₀ r m at i t keys ws ta tb g =
-    record {
-      owing = subst W.Owing (sym (g .stands .place)) (owing (g .p) (g .stands .counted) (g .stands .few-atoms) (g .stands .few-bonds));
-      atoms = g .stands .few-atoms;
-      bonds = g .stands .few-bonds;
-    }
-  where
-    owing : (p : J.Place) → Counted (r .counts) t p → r .counts .atoms ≤ limit → r .counts .bonds ≤ limit → W.Owing (placeOf p)
-    owing first c na nb = (omega arith, omega arith)
-    owing (second h₁) c na nb = (omega arith, omega arith)
-    owing (third h₁ h₂) c na nb = (omega arith, omega arith)
-    owing (counts hs) c na nb = tt
-    owing (atoms hs x k xs) c na nb = (omega arith, omega (arith, c .2, ap (λ (y : R.Counts). y .atoms) (c .0)))
-    owing (bonds hs x xs k bs) c na nb = (omega arith, omega (arith, c .2, ap (λ (y : R.Counts). y .bonds) (c .0)))
-    owing (properties hs x xs bs ps) c na nb = tt
-    owing (over mol) c na nb = tt
-    owing (items mol is) c na nb = tt
-    owing (values mol is name vs) c na nb = tt
+    let st = g .stands in counted-sane r t (g .p) (st .place) (st .few-atoms) (st .few-bonds) (st .counted)
 
 module _ (sd : Bool) (s : Bytes) (ta₀ tb₀ : List ℤ) (ws₀ : List ℕ) (r : Reader) (m : Notes) (at i : ℕ) (t keys ws : List ℕ) (ta tb : List ℤ)
     (g : Walking sd s ta₀ tb₀ ws₀ r m at i t keys ws ta tb) where

@@ -128,7 +128,7 @@ pub put-length : (ws : List ℕ) (i : ℕ) → length (withBit ws i) ≡ length 
 unfolding withBit
 put-length ws i = length-set ws (i / 64) (wordWith (getD ws (i / 64) 0) (i % 64))
 
-zero-word : (k w : ℕ) → w ≡ 0 → eqb (w / 2 ^ k % 2) 1 ≡ false
+pub zero-word : (k w : ℕ) → w ≡ 0 → eqb (w / 2 ^ k % 2) 1 ≡ false
 zero-word k w e = rw (e, zero-div (2 ^ k))
 
 -- words of zeros hold nothing

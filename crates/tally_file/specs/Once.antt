@@ -20,7 +20,7 @@ use Rattle.tally_rules.specs.declared.Totals.{Totals}
 use Rattle.tally_rules.specs.Tally.{mostSuppliers, longest}
 use Rattle.tally_rules.specs.Book.{Book, Good, Outcome, tallied}
 use Rattle.tally_rules.specs.Book as B
-use Rattle.tally_flat.specs.Flat.{Memory, memory, nameBytes, Sized, talliesFrom, talliesIn}
+use Rattle.tally_flat.specs.Flat.{Memory, memory, nameBytes, Sized, tallyAt, talliesFrom, talliesIn}
 use Rattle.tally_good.specs.Judge.{bookOf, goodBook}
 use Rattle.tally_good.specs.Agree.{good-told, told-good}
 use Rattle.tally_file.specs.declared.Tallied.{Tallied}
@@ -71,30 +71,28 @@ rooms-are m i (suc k) =
     ap (λ (ns : List ℕ). take longest x ++ ns) (rooms-are m (i + 1) k ∙ ap (λ (j : ℕ). take (longest * k) (drop j (m .names))) a ∙ ap (take (longest * k)) (sym (drop-drop longest (longest * i) (m .names))))
     ∙ sym (ap (λ (j : ℕ). take j x) b ∙ take-add longest (longest * k) x)
 
-lengths-are : (m : Memory) (i k : ℕ) → i + k ≤ length (m .lengths) → map (λ (t : Tally). t .length) (talliesFrom m i k) ≡ take k (drop i (m .lengths))
-unfolding talliesFrom
-lengths-are m i zero h = refl
-lengths-are m i (suc k) h =
-    let e = drop-cons (m .lengths) i 0 (omega arith) in
-    ap (λ (ns : List ℕ). getD (m .lengths) i 0 ∷ ns) (lengths-are m (i + 1) k (omega arith) ∙ ap (λ (j : ℕ). take k (drop j (m .lengths))) (add-one i)) ∙ sym (ap (take (suc k)) e)
+-- a number of each tally, and the column that has them
+module _ (f : Tally → ℕ) (column : Memory → List ℕ) (is : (m : Memory) (i : ℕ) → f (tallyAt m i) ≡ getD (column m) i 0) where
+  column-are : (m : Memory) (i k : ℕ) → i + k ≤ length (column m) → map f (talliesFrom m i k) ≡ take k (drop i (column m))
+  unfolding talliesFrom
+  column-are m i zero h = refl
+  column-are m i (suc k) h =
+      let e = drop-cons (column m) i 0 (omega arith) in
+      ap₂ _∷_ (is m i) (column-are m (i + 1) k (omega arith) ∙ ap (λ (j : ℕ). take k (drop j (column m))) (add-one i)) ∙ sym (ap (take (suc k)) e)
 
-counts-are : (m : Memory) (i k : ℕ) → i + k ≤ length (m .counts) → map (λ (t : Tally). t .count) (talliesFrom m i k) ≡ take k (drop i (m .counts))
-unfolding talliesFrom
-counts-are m i zero h = refl
-counts-are m i (suc k) h =
-    let e = drop-cons (m .counts) i 0 (omega arith) in
-    ap (λ (ns : List ℕ). getD (m .counts) i 0 ∷ ns) (counts-are m (i + 1) k (omega arith) ∙ ap (λ (j : ℕ). take k (drop j (m .counts))) (add-one i)) ∙ sym (ap (take (suc k)) e)
+  column-one : (m n : Memory) → length (column m) ≡ mostSuppliers → length (column n) ≡ mostSuppliers → talliesIn m ≡ talliesIn n → column m ≡ column n
+  column-one m n g h e =
+      sym (column-are m 0 mostSuppliers (omega arith) ∙ take-all mostSuppliers (column m) (omega arith))
+      ∙ ap (map f) e
+      ∙ column-are n 0 mostSuppliers (omega arith)
+      ∙ take-all mostSuppliers (column n) (omega arith)
 
 pub memory-one : (m n : Memory) → Sized m → Sized n → talliesIn m ≡ talliesIn n → m ≡ n
 memory-one m n g h e =
     let a : m .names ≡ n .names =
     sym (rooms-are m 0 mostSuppliers ∙ take-all nameBytes (m .names) (omega (arith, g .names))) ∙ ap roomsOf e ∙ rooms-are n 0 mostSuppliers ∙ take-all nameBytes (n .names) (omega (arith, h .names)) in
-    let b : m .lengths ≡ n .lengths =
-    sym (lengths-are m 0 mostSuppliers (omega (arith, g .lengths)) ∙ take-all mostSuppliers (m .lengths) (omega (arith, g .lengths))) ∙ ap (map (λ (t : Tally). t .length)) e
-    ∙ lengths-are n 0 mostSuppliers (omega (arith, h .lengths)) ∙ take-all mostSuppliers (n .lengths) (omega (arith, h .lengths)) in
-    let c : m .counts ≡ n .counts =
-    sym (counts-are m 0 mostSuppliers (omega (arith, g .counts)) ∙ take-all mostSuppliers (m .counts) (omega (arith, g .counts))) ∙ ap (map (λ (t : Tally). t .count)) e
-    ∙ counts-are n 0 mostSuppliers (omega (arith, h .counts)) ∙ take-all mostSuppliers (n .counts) (omega (arith, h .counts)) in
+    let b = column-one (λ (t : Tally). t .length) (λ (x : Memory). x .lengths) (λ x i. refl) m n (g .lengths) (h .lengths) e in
+    let c = column-one (λ (t : Tally). t .count) (λ (x : Memory). x .counts) (λ x i. refl) m n (g .counts) (h .counts) e in
     λ i. record { names = a i; lengths = b i; counts = c i }
 
 pub front-sized : (m : Memory) → Roomy m → Sized (front m)
@@ -117,8 +115,8 @@ laid-roomy y a =
       counts = omega (arith, y .counts, a .counts-size);
     }
 
-laid-one : (d : Book) (m n k : Memory) → Roomy m → LaidOver d m n → LaidOver d m k → n ≡ k
-laid-one d m n k y a b =
+laid-over-one : (d : Book) (m n k : Memory) → Roomy m → LaidOver d m n → LaidOver d m k → n ≡ k
+laid-over-one d m n k y a b =
     let f = memory-one (front n) (front k) (front-sized n (laid-roomy y a)) (front-sized k (laid-roomy y b)) (a .tallies ∙ sym (b .tallies)) in
     let p = parts-one nameBytes (n .names) (k .names) (ap (λ (x : Memory). x .names) f) (a .names-past ∙ sym (b .names-past)) in
     let q = parts-one mostSuppliers (n .lengths) (k .lengths) (ap (λ (x : Memory). x .lengths) f) (a .lengths-past ∙ sym (b .lengths-past)) in
@@ -126,7 +124,7 @@ laid-one d m n k y a b =
     λ i. record { names = p i; lengths = q i; counts = r i }
 
 left-one : (w : Said) (m n k : Memory) → Roomy m → LeftOver w m n → LeftOver w m k → n ≡ k
-left-one (added j d) m n k y a b = laid-one d m n k y a b
+left-one (added j d) m n k y a b = laid-over-one d m n k y a b
 left-one (refused e i c j) m n k y a b = a ∙ sym b
 
 -- ---- One promise

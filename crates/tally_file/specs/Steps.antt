@@ -124,6 +124,3 @@ module _ (s : Bytes) (m : Memory) (t : Totals) (g : ListReady m t) where
           ap Step.Counted (et ∙ ap (λ (j : ℕ). record { entries = j; missing = t .missing + 1; total = t .total + 1 }) (sym k)) ∙ sym (ap stepOf z),
           record { sized = g .sized; tallies = laid-self m (t .entries) (few-entries m t (g .good)) ∙ sym (ap (λ (p : B.Step). laidStep p (talliesIn m)) z) },
         )
-
-    pub missed-fits : (t .missing ≤ 999999) × (t .total ≤ 999999)
-    missed-fits = (omega (arith, g .good .adds, g .good .most), omega (arith, h))

@@ -4,7 +4,7 @@ use native.Mathlib.Omega.{arith}
 use native.Mathlib.Numerals.{add-one}
 use mathlib.Core.Path.{_≡_, refl, sym, ap, _∙_}
 use mathlib.Core.List.{_++_}
-use mathlib.Core.Bool.{Bool, true, false, cond}
+use mathlib.Core.Bool.{Bool, true, false, cond, false≢true}
 use lib.Dec.{leb}
 use lib.ListN.{length, getD, set, take, replicate, length-set}
 use lib.Seq.{length-take-le, take-suc, append-snoc, set-at, take-all}
@@ -15,13 +15,6 @@ use Rattle.tally_rules.specs.declared.Tally.{Tally}
 use Rattle.tally_rules.specs.Tally.{mostSuppliers, longest, mostRecords, order, nameOf, fresh, oneMore}
 use Rattle.tally_flat.specs.declared.Added.{Added}
 use Rattle.tally_list.specs.Change.{sameAs, within, isHere, changeOf, Ready}
-
-abbrev number : Bool → ℕ
-number true = 1
-number false = 0
-
-never : {X : Type 0} → false ≡ true → X
-never e = absurd (let z : _≡_ {A = ℕ} 0 1 = ap number e in omega arith)
 
 -- ---- The place, and whether the name stands there
 
@@ -105,7 +98,7 @@ module _ (t : Tally) (at used : ℕ) (n : Bytes) (b : Bool) (is : b ≡ isHere t
   here-small g e = go (leb used at) refl (sym is ∙ e)
     where
       go : (x : Bool) → leb used at ≡ x → cond x false (sameAs (order (nameOf t) n)) ≡ true → t .count ≤ mostRecords
-      go true l q = never q
+      go true l q = absurd (false≢true q)
       go false l q = g .small (leb-false used at l)
 
   pub change-here : (x : Tally) → x ≡ oneMore t → b ≡ true → record { end = at; tally = x; now = Added.Now used } ≡ changeOf t at used n

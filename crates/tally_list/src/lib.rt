@@ -1,10 +1,9 @@
-// A lent list of tally records: a name found, a place made, a tally read and stored, a record added. Each says of the list what the flat layer says of its arrays.
+// A lent list of tally records: a name found, a tally inserted, a record added. Each says of the list what the flat layer says of its arrays.
 ghost use mathlib.Core.Path.{_≡_};
 ghost use Prim.Native.Nat.{_-_, _<_, _≤_};
-ghost use lib.ListN.{length, getD, set, take};
+ghost use lib.ListN.{length, set, take};
 ghost use Rattle.tally_rules.specs.Tally.{order, fresh, oneMore, added, longest, mostRecords};
 ghost use Rattle.tally_flat.specs.Flat.{nowOf, laidBy};
-ghost use Rattle.tally_flat.specs.Slots.{noTally};
 ghost use Rattle.tally_good.specs.Judge.{isBefore as comesBefore};
 ghost use Rattle.tally_list.specs.Tallies.{isBefore, placeFrom, shifted};
 ghost use Rattle.tally_list.specs.Change.{sameAs, within, isHere, changeOf, Ready, ListReady};
@@ -19,22 +18,6 @@ pub struct Change {
     pub end: usize,
     pub tally: Tally,
     pub now: Added,
-}
-
-// Tally i.
-pub fn tally_at(list: &[Tally], i: usize) -> Tally
-    requires { ⌜ i < length (now list) ⌝ }
-    ensures { λ r. ⌜ r ≡ getD (now (list .entry)) i noTally ⌝ }
-{
-    list[i]
-}
-
-// Tally i is now this one.
-pub fn put_tally(list: &mut [Tally], i: usize, t: Tally)
-    requires { ⌜ i < length (now list) ⌝ }
-    ensures { λ _. ⌜ now (list .exit) ≡ set (now (list .entry)) i t ⌝ }
-{
-    list[i] = t;
 }
 
 // The first n of these bytes against a name, in byte order: all of them where they are fewer.
@@ -80,20 +63,6 @@ pub fn find(list: &[Tally], used: usize, name: &[u8]) -> usize
         }
     }
     used
-}
-
-// Tallies `from` to before `used` move one place up.
-pub fn shift_up(list: &mut [Tally], from: usize, used: usize)
-    requires { ⌜ (from ≤ used) × (used < length (now list)) ⌝ }
-    ensures { λ _. ⌜ now (list .exit) ≡ shifted (used - from) from (now (list .entry)) ⌝ }
-{
-    let mut j = used;
-    while from < j {
-        let k = j - 1;
-        let t = list[k];
-        list[j] = t;
-        j = k;
-    }
 }
 
 // A new tally at its place: those from there on move one place up first.

@@ -4,7 +4,7 @@ use Prim.Native.Nat.{ℕ, _*_, _≤_, _<_}
 use native.Mathlib.Omega.{arith}
 use mathlib.Core.Path.{_≡_, refl, sym, ap, _∙_, subst}
 use mathlib.Core.Logic.{_↔_}
-use mathlib.Core.Bool.{Bool, true, false, cond, _&&_}
+use mathlib.Core.Bool.{Bool, true, false, cond, _&&_, false≢true}
 use mathlib.Core.List.{List, [], _++_, map}
 use lib.Dec.{leb}
 use lib.ListN.{length, drop}
@@ -90,7 +90,7 @@ module _ (s : Bytes) (xs : List Raw) (f : GoodSDfile s xs) where
 
 -- ---- The tests
 
-both : {P Q : Type 0} (x y : Bool) → (x ≡ true → P) → (y ≡ true → Q) → (P → x ≡ true) → (Q → y ≡ true) → ((x && y) ≡ true) ↔ (P × Q)
+pub both : {P Q : Type 0} (x y : Bool) → (x ≡ true → P) → (y ≡ true → Q) → (P → x ≡ true) → (Q → y ≡ true) → ((x && y) ≡ true) ↔ (P × Q)
 both true true p q u v = ((λ h. (p refl, q refl)), (λ h. refl))
 both true false p q u v = ((λ h. absurd (let z : _≡_ {A = ℕ} 0 1 = cc in omega arith)), (λ h. v (h .1)))
 both false y p q u v = ((λ h. absurd (let z : _≡_ {A = ℕ} 0 1 = cc in omega arith)), (λ h. u (h .0)))
@@ -127,7 +127,7 @@ module _ (s : Bytes) (ta tb : List ℤ) (k : ℕ) where
       fit xs r e false t = Found.room r e (leb-false (length (catalogueText xs)) k t)
 
       go : (b : Bool) → roomy ta tb ≡ b → (v : Verdict (List Raw)) → verdict sdfile limit s ≡ v → Found (demand b 2 (fitting k v))
-      go false a v e = Found.tables (λ r. false-true (sym a ∙ roomy-agrees ta tb .1 r))
+      go false a v e = Found.tables (λ r. false≢true (sym a ∙ roomy-agrees ta tb .1 r))
       go true a (accepted xs) e = fit xs (roomy-agrees ta tb .0 a) e (leb (length (catalogueText xs)) k) refl
       go true a (refused n i c) e = Found.file (roomy-agrees ta tb .0 a) e
 

@@ -17,20 +17,16 @@ use Rattle.judge_file.specs.Place.{sdfile}
 use Rattle.judge_file.specs.Verdict.{Verdict, accepted, refused, verdict}
 use Rattle.judge_file.specs.WalkText.{afterLines}
 use Rattle.reader_walk.specs.Outcome.{whole, outcomeOf}
-use Rattle.reader_walk.specs.Walked.{Beside}
-use Rattle.reader_tables.specs.Filled.{cleared}
-use Rattle.reader_tables.specs.Cleared.{refused-filled}
+use Rattle.reader_walk.specs.Walked.{Beside, beside-same, beside-join}
 use Rattle.reader_cursor.specs.declared.Cursor.{Cursor}
 use Rattle.reader_cursor.specs.Walk.{fresh, past, Countable}
 use Rattle.reader_cursor.specs.After.{After, after-start, after-good, after-next, after-less, after-fits, good-more, good-whole}
 use Rattle.writer_lines.specs.Laid.{Laid, laid-none, laid-join}
-use Rattle.reader_answer.specs.Read.{zeroed, rowsIn}
 use Rattle.writer_record.specs.Write.{canonText, demand}
 use Rattle.writer_answer.specs.declared.Catalogue.{Catalogue}
 use Rattle.writer_catalogue.specs.declared.Wrote.{Wrote}
 use Rattle.writer_answer.specs.Catalogue.{catalogueText, fitting, fileFor, answerBy, roomBy}
 use Rattle.writer_catalogue.specs.Sizes.{text-none, text-join, text-last}
-use Rattle.writer_catalogue.specs.Measuring.{beside-same, beside-join}
 use Rattle.writer_catalogue.specs.Writing.{Next, WroteNext}
 
 -- ---- The file
@@ -239,13 +235,3 @@ module _ (s r : Bytes) (j : Catalogue) (ej : j ≡ answerBy (fileFor s (length r
         go : (v : Verdict (List Raw)) → answerBy v ≡ Catalogue.Refused e i c → r ≡ roomBy r v
         go (accepted xs) z = absurd (let z : _≡_ {A = ℕ} 0 1 = cc in omega arith)
         go (refused n k d) z = refl
-
--- ---- The work tables
-
-pub emptied : (cap : ℕ) (t u v : List ℤ) → Beside cap t u → v ≡ zeroed u 0 cap → v ≡ rowsIn cap t []
-unfolding zeroed rowsIn
-emptied cap t u v b e = e ∙ refused-filled cap t u (b .past)
-
-pub zeroed-is : (t u : List ℤ) (k : ℕ) → u ≡ cleared t 0 k → u ≡ zeroed t 0 k
-unfolding zeroed
-zeroed-is t u k e = e

@@ -1,4 +1,3 @@
-pub mod Reading
 pub mod Sizes
 pub mod Measuring
 pub mod Writing

@@ -16,7 +16,7 @@ use Rattle.judge_file.specs.Place.{sdfile}
 use Rattle.judge_file.specs.Verdict.{Verdict, accepted}
 use Rattle.judge_file.specs.WalkText.{afterLines}
 use Rattle.reader_walk.specs.Outcome.{Outcome, whole, refused, outcomeOf}
-use Rattle.reader_walk.specs.Walked.{Beside}
+use Rattle.reader_walk.specs.Walked.{Beside, beside-same, beside-join}
 use Rattle.reader_cursor.specs.declared.Cursor.{Cursor}
 use Rattle.reader_cursor.specs.Walk.{fresh, past, Countable}
 use Rattle.reader_cursor.specs.After.{After, after-start, after-good, after-next, after-less, after-fits, after-line, after-verdict}
@@ -53,12 +53,6 @@ concluded xs k = go (leb (length (catalogueText xs)) k) refl
         ap (λ (n : ℕ). concludeBy n (length xs) k) (up-over k (length (catalogueText xs)) h) ∙ sym (conclude-over (k + 1) (length xs) k (omega arith))
 
 -- ---- Record by record
-
-pub beside-same : (cap : ℕ) (t : List ℤ) → cap ≤ length t → Beside cap t t
-beside-same cap t h = record { room = h; size = refl; past = refl }
-
-pub beside-join : {cap : ℕ} {t u v : List ℤ} → Beside cap t u → Beside cap u v → Beside cap t v
-beside-join p q = record { room = p .room; size = q .size ∙ p .size; past = q .past ∙ p .past }
 
 -- between two records: the cursor stands after those read, whose text is so long
 pub record Measuring (s : Bytes) (ta₀ tb₀ ta tb : List ℤ) (k : ℕ) (c : Cursor) (needed : ℕ) : Type 0 where

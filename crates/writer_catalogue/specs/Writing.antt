@@ -14,12 +14,13 @@ use Rattle.rules.specs.Record.{Raw, atomPlaces, bondPlaces}
 use Rattle.rules.specs.Meaning.{Reading, meaning}
 use Rattle.judge_file.specs.Place.{sdfile}
 use Rattle.judge_file.specs.WalkText.{afterLines}
-use Rattle.reader_walk.specs.Outcome.{Outcome, whole, refused, outcomeOf}
+use Rattle.reader_walk.specs.Outcome.{whole, refused, outcomeOf}
 use Rattle.reader_walk.specs.Walked.{Beside}
 use Rattle.writer_lines.specs.Laid.{Laid}
 use Rattle.reader_answer.specs.declared.RecordRead.{RecordRead}
 use Rattle.reader_answer.specs.Read.{readAs}
 use Rattle.reader_answer.specs.Rows.{RowsPromise}
+use Rattle.reader_answer.specs.Told.{whole-raw, whole-lines}
 use Rattle.writer_record.specs.declared.Written.{Written}
 use Rattle.writer_record.specs.Write.{Given, canonText}
 use Rattle.writer_record.specs.Measure.{recordText, Ready}
@@ -27,7 +28,7 @@ use Rattle.writer_record.specs.Promise.{Accepted, Promise, accepted-one, accept
 use Rattle.writer_catalogue.specs.declared.Wrote.{Wrote}
 use Rattle.writer_catalogue.specs.declared.Again.{Again}
 use Rattle.writer_copy.specs.Bridge.{givenOf, Front}
-use Rattle.writer_catalogue.specs.Reading.{front, read-atoms, read-bonds, read-refused}
+use Rattle.writer_copy.specs.Reading.{front, read-atoms, read-bonds, read-refused}
 
 -- ---- What remains of the room
 
@@ -116,8 +117,8 @@ pub record Known (t : Bytes) (ta tb : List ℤ) : Type 0 where
 
 -- it was read, and its rows stand in the tables
 pub record ReadAgain (t : Bytes) (ta tb ta′ tb′ : List ℤ) (w : Again) : Type 0 where
-  pub left-atoms : Beside atomPlaces ta ta′
-  pub left-bonds : Beside bondPlaces tb tb′
+  pub atoms-beside : Beside atomPlaces ta ta′
+  pub bonds-beside : Beside bondPlaces tb tb′
   pub front : Front sdfile t ta′ tb′ (w .n) (w .m) (w .chiral) (w .length) (w .lines) (w .«header_end») (w .«items_start») (w .«items_end»)
 
 -- the text begins with a record whose canonical text has room
@@ -135,17 +136,14 @@ pub record WroteNext (t r₀ r : Bytes) (to : ℕ) (w : Wrote) : Type 0 where
   pub bytes : (x : Raw) (k : ℕ) → outcomeOf sdfile t ≡ whole x k → w .length ≡ afterLines t 0 k
   pub lines : (x : Raw) (k : ℕ) → outcomeOf sdfile t ≡ whole x k → w .lines ≡ k
 
-same-whole : {o : Outcome} {x y : Raw} {k j : ℕ} → o ≡ whole x k → o ≡ whole y j → (x ≡ y) × (k ≡ j)
-same-whole {o} {x} {y} {k} {j} p q = let e : whole x k ≡ whole y j = sym p ∙ q in (cc, cc)
-
 module _ (t : Bytes) (ta tb ta′ tb′ : List ℤ) (g : Known t ta tb) (rows : RowsPromise sdfile t ta tb ta′ tb′)
     (a : RecordRead) (er : a ≡ readAs sdfile (length ta) (length tb) t) where
   pub second-reads : (n m chiral len k h i j : ℕ) → a ≡ RecordRead.Read n m chiral len k h i j →
       ReadAgain t ta tb ta′ tb′ (record { n = n; m = m; chiral = chiral; length = len; lines = k; «header_end» = h; «items_start» = i; «items_end» = j })
   second-reads n m chiral len k h i j q =
       record {
-        left-atoms = read-atoms t ta tb ta′ tb′ (g .atoms) (g .bonds) rows;
-        left-bonds = read-bonds t ta tb ta′ tb′ (g .atoms) (g .bonds) rows;
+        atoms-beside = read-atoms t ta tb ta′ tb′ (g .atoms) (g .bonds) rows;
+        bonds-beside = read-bonds t ta tb ta′ tb′ (g .atoms) (g .bonds) rows;
         front = front t ta tb ta′ tb′ (g .atoms) (g .bonds) rows a er n m chiral len k h i j q;
       }
 
@@ -166,10 +164,10 @@ next-known t ta tb r to g = record { atoms = g .atoms; bonds = g .bonds; x = g .
 
 module _ (t : Bytes) (ta tb ta′ tb′ : List ℤ) (w : Again) (b : ReadAgain t ta tb ta′ tb′ w) where
   pub wrote-atoms : Beside atomPlaces ta ta′
-  wrote-atoms = b .left-atoms
+  wrote-atoms = b .atoms-beside
 
   pub wrote-bonds : Beside bondPlaces tb tb′
-  wrote-bonds = b .left-bonds
+  wrote-bonds = b .bonds-beside
 
   pub wrote-headers : w .«header_end» ≤ length t
   wrote-headers = b .front .headers-end
@@ -184,7 +182,7 @@ module _ (t : Bytes) (ta tb ta′ tb′ : List ℤ) (w : Again) (b : ReadAgain t
     pub wrote-handed : Next t ta tb r to → Handed (givenOf t ta′ tb′ (w .n) (w .m) (w .chiral) (w .«header_end») (w .«items_start») (w .«items_end»)) r to
     wrote-handed g =
         let it = b .front in
-        let e = ap (λ (y : Raw). length (canonText (meaning y))) (same-whole (it .is) (g .is) .0) in
+        let e = ap (λ (y : Raw). length (canonText (meaning y))) (whole-raw (sym (it .is) ∙ g .is)) in
         record { x = meaning (it .x); accepted = it .accepted; enough = omega (arith, g .enough) }
 
     pub wrote-next : (r′ : Bytes) (e : ℕ) → Put (givenOf t ta′ tb′ (w .n) (w .m) (w .chiral) (w .«header_end») (w .«items_start») (w .«items_end»)) r r′ to e →
@@ -192,9 +190,9 @@ module _ (t : Bytes) (ta tb ta′ tb′ : List ℤ) (w : Again) (b : ReadAgain t
     wrote-next r′ e p =
         let it = b .front in
         record {
-          laid = λ x u o. subst (λ (z : Raw). Laid r r′ to (canonText (meaning z)) e) (same-whole (it .is) o .0) (p .laid (meaning (it .x)) (it .accepted));
-          bytes = λ x u o. it .size ∙ ap (afterLines t 0) (same-whole (it .is) o .1);
-          lines = λ x u o. same-whole (it .is) o .1;
+          laid = λ x u o. subst (λ (z : Raw). Laid r r′ to (canonText (meaning z)) e) (whole-raw (sym (it .is) ∙ o)) (p .laid (meaning (it .x)) (it .accepted));
+          bytes = λ x u o. it .size ∙ ap (afterLines t 0) (whole-lines (sym (it .is) ∙ o));
+          lines = λ x u o. whole-lines (sym (it .is) ∙ o);
         }
 
 pub ruleset wrote-laws = (next-known, wrote-atoms, wrote-bonds, wrote-headers, wrote-items, wrote-items-end, wrote-handed, wrote-next)

@@ -14,7 +14,7 @@ ghost use Rattle.writer_lines.specs.Laid.{Laid};
 ghost use Rattle.reader_walk.specs.Outcome.{outcomeOf};
 ghost use Rattle.reader_walk.specs.Walked.{Beside};
 ghost use Rattle.judge_file.specs.Place.{sdfile};
-ghost use Rattle.reader_answer.specs.Read.{zeroed, rowsIn};
+ghost use Rattle.reader_answer.specs.Read.{rowsIn};
 ghost use Rattle.writer_answer.specs.Catalogue.{fileFor, answerBy, roomBy, upTo};
 ghost use Rattle.writer_record.specs.Measure.{partsSize};
 ghost use Rattle.writer_catalogue.specs.Sizes.{Measurable, measuredBy};
@@ -311,14 +311,6 @@ fn fill_room(s: &[u8], atoms: &mut [i32], bonds: &mut [i32], room: &mut [u8]) ->
     }
 }
 
-// No row is left.
-fn empty(table: &mut [i32], to: usize)
-    requires { ⌜ to ≤ length (now table) ⌝ }
-    ensures { λ r. ⌜ now (table .exit) ≡ zeroed (now (table .entry)) 0 to ⌝ }
-{
-    reader_tables::clear(table, 0, to);
-}
-
 // Both passes, and then the work tables are emptied.
 fn write_roomy(s: &[u8], atoms: &mut [i32], bonds: &mut [i32], room: &mut [u8]) -> Catalogue
     requires { ⌜ (atomPlaces ≤ length (now atoms)) × (bondPlaces ≤ length (now bonds)) ⌝ }
@@ -328,8 +320,8 @@ fn write_roomy(s: &[u8], atoms: &mut [i32], bonds: &mut [i32], room: &mut [u8]) 
     ensures { λ r. ⌜ now (bonds .exit) ≡ rowsIn bondPlaces (now (bonds .entry)) [] ⌝ }
 {
     let answer = fill_room(s, atoms, bonds, room);
-    empty(atoms, ATOMS);
-    empty(bonds, BONDS);
+    reader_clear::zero_rows(atoms, 0, ATOMS);
+    reader_clear::zero_rows(bonds, 0, BONDS);
     answer
 }
 

@@ -1,4 +1,5 @@
 pub mod Bridge
+pub mod Reading
 pub mod NeverRefused
 pub mod Most
 pub mod Copying

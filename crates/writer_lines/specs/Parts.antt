@@ -39,7 +39,7 @@ copying-start src r at h =
     let e : at + 0 ≡ at = omega arith in
     record { within = omega arith; room = h; laid = rw e (laid-none r at (omega arith)); size = refl }
 
-laid-one : (r : Bytes) (at b : ℕ) → at < length r → Laid r (set r at b) at (b ∷ []) (at + 1)
+pub laid-one : (r : Bytes) (at b : ℕ) → at < length r → Laid r (set r at b) at (b ∷ []) (at + 1)
 laid-one r at b h = record { size = length-set r at b; next = refl; fits = omega arith; same = refl }
 
 module _ (src r₀ r : Bytes) (at i : ℕ) (g : Copying src r₀ r at i) where

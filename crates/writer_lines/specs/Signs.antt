@@ -26,9 +26,6 @@ module _ (z : ℤ) (f : SFits w32 z) where
   pub zero-is : ofZ w32 z ≡ 0 → isZero z ≡ true
   zero-is e = ap isZero (is-number z 0 f e)
 
-  pub two-is : ofZ w32 z ≡ 2 → isTwo z ≡ true
-  two-is e = ap isTwo (is-number z 2 f e)
-
 pub zero-not : (z : ℤ) → (ofZ w32 z ≡ 0 → ⊥) → isZero z ≡ false
 zero-not (pos k) h = ne-eqb k 0 (λ e. h (ap (λ (j : ℕ). ofZ w32 (pos j)) e))
 zero-not (negsuc k) h = refl

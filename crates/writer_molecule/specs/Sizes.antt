@@ -11,17 +11,17 @@ use borrow.Author.Tests.{ltb-true, ltb-false}
 use Rattle.text.specs.Text.{Bytes, LF}
 use Rattle.text.specs.Written.{text, text-append}
 use Rattle.rules.specs.Forms.{Kind, Entry}
-use Rattle.rules.specs.Record.{Headers, Item, limit}
-use Rattle.rules.specs.Write.{moleculeLines, countsText, propertyText, endText}
-use Rattle.rules.specs.Canon.{atomRow, numberOf, isZero, entriesFrom, eights, propertiesOf, canon, Writable}
+use Rattle.rules.specs.Record.{limit}
+use Rattle.rules.specs.Write.{countsText, propertyText, endText}
+use Rattle.rules.specs.Canon.{atomRow, numberOf, isZero, entriesFrom, eights, propertiesOf, canon}
 use Rattle.writer_lines.specs.Laid.{Laid, Field, laid-join}
 use Rattle.rules.specs.Rows.{rowsOf, rows-length}
-use Rattle.writer_lines.specs.Lines.{atomLine, bondLine, WritableAtoms}
+use Rattle.writer_lines.specs.Lines.{atomLine, bondLine}
 use Rattle.writer_molecule.specs.Properties.{kindOf, entriesAt, linesText, propertiesText, Eight}
 use Rattle.writer_lines.specs.Walks.{atom-long, bond-long, lines-length}
 use Rattle.writer_molecule.specs.Listing.{lines-next, line-length, eight-few, eight-full}
 use Rattle.writer_lines.specs.Parts.{counts-length}
-use Rattle.writer_molecule.specs.Body.{bodyLines, molecule-lines, readingOf, body-any, bodyText, restText, restSize, bodySize}
+use Rattle.writer_molecule.specs.Body.{bodyLines, bodyText, restText, restSize, bodySize}
 
 -- ---- The lines of a kind
 
@@ -133,19 +133,5 @@ body-length n m chiral atoms bonds =
       rows-length 6 m bonds,
       rest-length n atoms,
     )
-
--- ---- For a caller that has a reading
-
-module _ (h : Headers) (is : List Item) (n m chiral : ℕ) (atoms bonds : List ℤ) where
-  pub writable-atoms : (limit : ℕ) → Writable limit (readingOf h is n m chiral atoms bonds) → WritableAtoms n atoms
-  unfolding WritableAtoms
-  writable-atoms limit w = w .atoms
-
-  pub molecule-text : text (moleculeLines (canon (readingOf h is n m chiral atoms bonds) .molecule)) ≡ text (h .first ∷ h .second ∷ h .third ∷ []) ++ bodyText n m chiral atoms bonds
-  unfolding text canon
-  molecule-text =
-      ap text (molecule-lines (canon (readingOf h is n m chiral atoms bonds) .molecule))
-      ∙ rw (body-any h is n m chiral atoms bonds)
-      (simp append-assoc)
 
 pub ruleset body-laws = (rest-parts, body-parts)

@@ -1,45 +1,34 @@
--- Laws of writing one line: bytes, lines and data headers laid into the room.
+-- Laws of writing one line: lines and data headers laid into the room.
 use Prim.Native.Nat.{ℕ, _+_, _-_, _≤_, _<_}
 use native.Mathlib.Omega.{arith}
 use mathlib.Core.Path.{_≡_, refl, sym, ap, _∙_, subst}
 use mathlib.Core.Bool.{Bool, true, false}
 use mathlib.Core.List.{[], _∷_, _++_, append-assoc}
-use lib.ListN.{length, take, drop, set, length-append, length-set}
+use lib.ListN.{length, take, drop, set, length-append}
 use Rattle.text.specs.Text.{Bytes, Line, LF, bytes}
 use Rattle.text.specs.Find.{isBlank}
 use Rattle.rules.specs.Write.{headerText}
-use Rattle.judge_line.specs.Got.{Got}
 use Rattle.judge_line.specs.GotLaws.{got-inj}
 use Rattle.line_judged.specs.Known.{Header, Named}
 use Rattle.writer_parts.specs.Step.{ended, Taken, taken, turnAs, placeOf}
-use Rattle.writer_parts.specs.NeverRefused.{Taking, never-closed, title-taken, value-taken, blank-taken}
+use Rattle.writer_parts.specs.NeverRefused.{never-closed, title-taken, value-taken, blank-taken}
 use Rattle.writer_parts.specs.Lengths.{title-length, name-length}
 use Rattle.writer_parts.specs.declared.Place.{Place}
-use Rattle.writer_lines.specs.Laid.{Laid, laid-join}
-use Rattle.writer_lines.specs.Parts.{Copying, copying-start, copying-next, copying-end, copying-size}
+use Rattle.writer_lines.specs.Laid.{Laid, Field, laid-join}
+use Rattle.writer_lines.specs.Parts.{laid-one}
 use Rattle.writer_parts_put.specs.Put.{Fitting, PutTo}
 use Rattle.writer_parts_put.specs.declared.Put.{Put}
 
--- ---- bytes
-
-pub copied : (src r₀ r : Bytes) (at i : ℕ) → Copying src r₀ r at i → length src ≤ i → Laid r₀ r at src (at + i)
-copied src r₀ r at i g h = copying-end src r₀ r at i g h .laid
-
-pub ruleset copied-laws = (copied, copying-start, copying-next, copying-size)
-
-laid-one : (r : Bytes) (at b : ℕ) → at < length r → Laid r (set r at b) at (b ∷ []) (at + 1)
-laid-one r at b h = record { size = length-set r at b; next = refl; fits = omega arith; same = refl }
-
 -- ---- a line and its end, a data header
 
-pub line-laid : (r₀ r : Bytes) (at : ℕ) (l : Line) (e : ℕ) → at + (length l + 1) ≤ length r₀ → Laid r₀ r at l e → Laid r₀ (set r e 10) at (ended l) (e + 1)
-line-laid r₀ r at l e h g = laid-join g (laid-one r e 10 (omega (arith, g .size, g .next)))
+pub line-laid : (r₀ r : Bytes) (at : ℕ) (l : Line) (e : ℕ) → at + (length l + 1) ≤ length r₀ → Field r₀ r at (length l) l e → Laid r₀ (set r e 10) at (ended l) (e + 1)
+line-laid r₀ r at l e h g = laid-join (g .laid) (laid-one r e 10 (omega (arith, g .laid .size, g .wide)))
 
 pub title-laid : (name : Bytes) {r₀ r₁ r₂ r₃ : Bytes} {at a b e : ℕ} →
-    Laid r₀ r₁ at (bytes ">  <") a → Laid r₁ r₂ a name b → Laid r₂ r₃ b (ended (bytes ">")) e → Laid r₀ r₃ at (ended (headerText name)) e
+    Field r₀ r₁ at 4 (bytes ">  <") a → Field r₁ r₂ a (length name) name b → Laid r₂ r₃ b (ended (bytes ">")) e → Laid r₀ r₃ at (ended (headerText name)) e
 unfolding headerText
 title-laid name {r₀} {r₃ = r₃} {at} {e = e} p q s =
-    subst (λ (x : Bytes). Laid r₀ r₃ at x e) same (laid-join p (laid-join q s))
+    subst (λ (x : Bytes). Laid r₀ r₃ at x e) same (laid-join (p .laid) (laid-join (q .laid) s))
   where
     same : bytes ">  <" ++ (name ++ ended (bytes ">")) ≡ ended (bytes ">  <" ++ (name ++ bytes ">"))
     same = simp append-assoc

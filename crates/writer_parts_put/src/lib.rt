@@ -14,25 +14,12 @@ struct Put {
     next: usize,
 }
 
-// These bytes.
-fn put_bytes(src: &[u8], room: &mut [u8], at: usize) -> usize
-    requires { ⌜ at + length (now src) ≤ length (now room) ⌝ }
-    ensures { λ r. ⌜ Laid (now (room .entry)) (now (room .exit)) at (now (src .entry)) r ⌝ }
-{
-    let mut i: usize = 0;
-    while i < src.len() {
-        room[at + i] = src[i];
-        i += 1;
-    }
-    at + i
-}
-
 // A line and its end.
 fn put_line(line: &[u8], room: &mut [u8], at: usize) -> usize
     requires { ⌜ at + (length (now line) + 1) ≤ length (now room) ⌝ }
     ensures { λ r. ⌜ Laid (now (room .entry)) (now (room .exit)) at (ended (now (line .entry))) r ⌝ }
 {
-    let e = put_bytes(line, room, at);
+    let e = writer_lines::put_bytes(room, at, line);
     room[e] = b'\n';
     e + 1
 }
@@ -43,8 +30,8 @@ fn put_title(line: &[u8], from: usize, to: usize, room: &mut [u8], at: usize) ->
     requires { ⌜ at + (to - from + 6) ≤ length (now room) ⌝ }
     ensures { λ r. ⌜ Laid (now (room .entry)) (now (room .exit)) at (ended (headerText (take (to - from) (drop from (now (line .entry)))))) r ⌝ }
 {
-    let a = put_bytes(b">  <", room, at);
-    let b = put_bytes(&line[from..to], room, a);
+    let a = writer_lines::put_bytes(room, at, b">  <");
+    let b = writer_lines::put_bytes(room, a, &line[from..to]);
     put_line(b">", room, b)
 }
 

@@ -3,7 +3,7 @@ use Prim.Native.Nat.{ℕ, _≤_, _<_}
 use native.Mathlib.Omega.{arith}
 use mathlib.Core.Path.{_≡_, refl, sym, ap, _∙_, subst}
 use mathlib.Core.Logic.{_↔_}
-use mathlib.Core.Bool.{Bool, true, false}
+use mathlib.Core.Bool.{Bool, true, false, false≢true}
 use mathlib.Core.List.{List, [], _∷_, _++_, map, append-nil}
 use lib.Dec.{leb}
 use lib.ListN.{length, drop}
@@ -176,8 +176,8 @@ module _ (g : Given) where
       where
         go : (t : Bool) → roomy (g .atoms) (g .bonds) ≡ t → (u : Bool) → holds ≡ u → (v : Verdict Headers) → headersVerdict (g .headers) ≡ v →
             (w : Verdict (List Item)) → itemsVerdict (g .items) ≡ w → Told (judgedBy t u v w)
-        go false a u b v p w q = Refusal.tables (λ r. false-true (sym a ∙ roomy-agrees g .1 r))
-        go true a false b v p w q = let r = roomy-agrees g .0 a in Refusal.writable r (λ h is x. false-true (sym b ∙ tables-agree g h is r .1 x))
+        go false a u b v p w q = Refusal.tables (λ r. false≢true (sym a ∙ roomy-agrees g .1 r))
+        go true a false b v p w q = let r = roomy-agrees g .0 a in Refusal.writable r (λ h is x. false≢true (sym b ∙ tables-agree g h is r .1 x))
         go true a true b (refused e line column) p w q =
             let r = roomy-agrees g .0 a in
             Refusal.headers r (λ h is. tables-agree g h is r .0 b) (refused-headers (g .headers) e line column .0 p)

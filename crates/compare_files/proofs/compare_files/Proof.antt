@@ -1,11 +1,11 @@
 use borrow.Author.Needs.{needs}
-use Rattle.compare_files.specs.Listing.{files-short, files-room, files-long}
+use Rattle.compare_files.specs.Listing.{files-short, long-rooms, files-long}
 use Rattle.compare_files.proofs.compare_files.Statement.{statement}
 use Rattle.compare_files.proofs.compare_files.Tie as tie
 use Rattle.compare_files.proofs.compare_files.Reads as reads
 use Rattle.compare_files.proofs.compare_files.Lts as lts
 use Rattle.compare_files.proofs.compare_judged.Reads as compare-judged-reads
-use Rattle.compare_files.proofs.empty.Reads as empty-reads
+use Rattle.reader_clear.proofs.zero_rows.Reads as zero-rows-reads
 use Rattle.compare_files.proofs.is_short.Reads as is-short-reads
 
 is-short-requires : tie.Need-is-short-requires
@@ -18,19 +18,19 @@ compare-judged-requires : tie.Need-compare-judged-requires
 compare-judged-requires c κs =
     let e = c .before .before .before .before .before in
     let s = c .before .before .before .before .before .before .before .before .before .args in
-    files-room (s .old .now) (s .new .now) (s .ta .now) (s .tb .now) (s .ua .now) (s .ub .now) (s .list .now) _ (e .before .is-short .ensures) (e .if1 .left)
+    long-rooms (s .ta .now) (s .tb .now) (s .ua .now) (s .ub .now) _ (e .before .is-short .ensures) (e .if1 .left)
 
-empty-requires : tie.Need-empty-requires
-empty-requires c κs = search needs
+zero-rows-requires : tie.Need-zero-rows-requires
+zero-rows-requires c κs = search needs
 
-empty-requires-2 : tie.Need-empty-requires-2
-empty-requires-2 c κs = search needs
+zero-rows-requires-2 : tie.Need-zero-rows-requires-2
+zero-rows-requires-2 c κs = search needs
 
-empty-requires-3 : tie.Need-empty-requires-3
-empty-requires-3 c κs = search needs
+zero-rows-requires-3 : tie.Need-zero-rows-requires-3
+zero-rows-requires-3 c κs = search needs
 
-empty-requires-4 : tie.Need-empty-requires-4
-empty-requires-4 c κs = search needs
+zero-rows-requires-4 : tie.Need-zero-rows-requires-4
+zero-rows-requires-4 c κs = search needs
 
 same-length : tie.Need-same-length
 same-length c = search needs
@@ -51,8 +51,8 @@ returns-2 : tie.Need-returns-2
 returns-2 c =
     let e = c .before .before .before .before .before .before .before .before .before .before .before .before .before .before .before .before .before .before .before .before .before .before .before in
     let j = c .before .before .before .before .before .before .before .before .before .before .before .before .before .before .before .before .before .compare-judged .ensures in
-    files-long _ _ _ _ _ _ _ _ (e .before .is-short .ensures) (e .if1 .left) _ _ _ _ _ _ _ _ _ _ (j .0) (j .1 .0) (j .1 .1 .0) (j .1 .1 .1 .0) (j .1 .1 .1 .1 .0) (j .1 .1 .1 .1 .1)
-    (c .before .before .before .before .before .before .before .before .before .before .empty .ensures) (c .before .before .before .before .before .before .before .empty2 .ensures) (c .before .before .before .before .empty3 .ensures) (c .before .empty4 .ensures)
+    files-long _ _ _ _ _ _ _ _ (e .before .is-short .ensures) (e .if1 .left) _ _ _ _ _ _ _ _ _ _ (j .0) (j .1 .0) (j .1 .1)
+    (c .before .before .before .before .before .before .before .before .before .before .zero-rows .ensures) (c .before .before .before .before .before .before .before .zero-rows2 .ensures) (c .before .before .before .before .zero-rows3 .ensures) (c .before .zero-rows4 .ensures)
 
 pub compare-files-spec : {M : Type 1} → statement M
 compare-files-spec =
@@ -61,10 +61,10 @@ compare-files-spec =
     is-short-requires
     returns
     compare-judged-requires
-    empty-requires
-    empty-requires-2
-    empty-requires-3
-    empty-requires-4
+    zero-rows-requires
+    zero-rows-requires-2
+    zero-rows-requires-3
+    zero-rows-requires-4
     same-length
     same-length-2
     same-length-3

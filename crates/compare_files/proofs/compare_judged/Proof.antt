@@ -1,5 +1,6 @@
 use borrow.Author.Needs.{needs}
-use Rattle.compare_files.specs.Listing.{judged-good, judged-bad, judged-kept, beside-self}
+use Rattle.compare_files.specs.Pair.{kept-same}
+use Rattle.compare_files.specs.Listing.{judged-good, judged-bad, judged-kept}
 use Rattle.compare_files.proofs.compare_judged.Statement.{statement}
 use Rattle.compare_files.proofs.compare_judged.Tie as tie
 use Rattle.compare_files.proofs.compare_judged.Reads as reads
@@ -16,7 +17,7 @@ enum-known-n c = search needs
 list-files-requires : tie.Need-list-files-requires
 list-files-requires c κs =
     let s = c .before .before .before .before .before .before .before .before .before .before .before in
-    judged-good _ _ _ (c .before .before .before .before .before .before .before .before .judge .ensures) _ _ _ _ _ _ (s .pre .0) (s .pre .1) (s .pre .2) (s .pre .3) (c .before .before .before .before .before .before .n .given .1)
+    judged-good _ _ _ (c .before .before .before .before .before .before .before .before .judge .ensures) _ _ _ (s .pre) (c .before .before .before .before .before .before .n .given .1)
 
 enum-known-no : tie.Need-enum-known-no
 enum-known-no c = search needs
@@ -47,7 +48,7 @@ returns-2 c =
       judged-bad _ _ _ j _ _ _ q (s .args .list .now),
       (
         judged-kept _ _ _ j _ _ _ q (s .args .list .now),
-        (beside-self _ _ (s .pre .0), (beside-self _ _ (s .pre .1), (beside-self _ _ (s .pre .2), beside-self _ _ (s .pre .3)))),
+        kept-same _ (s .pre),
       ),
     )
 

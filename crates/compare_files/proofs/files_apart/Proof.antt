@@ -2,7 +2,8 @@ use borrow.Author.Needs.{needs}
 use native.Mathlib.Omega.{arith}
 use Prim.Native.Nat.{_-_}
 use Rattle.compare_rules.specs.Log.{log, seen}
-use Rattle.compare_files.specs.Walking.{Walking, work, walking-laws, walking-long, walking-old-past, walking-new-past, walking-less, walking-next, walking-rest-old, walking-rest-new, walking-old-atoms, walking-old-bonds, walking-new-atoms, walking-new-bonds, walking-end}
+use Rattle.compare_files.specs.Compare.{work}
+use Rattle.compare_files.specs.Walking.{Walking, walking-laws, walking-long, walking-old-past, walking-new-past, walking-less, walking-next, walking-rest-old, walking-rest-new, walking-kept, walking-end}
 use Rattle.compare_files.proofs.files_apart.Statement.{statement}
 use Rattle.compare_files.proofs.files_apart.Tie as tie
 use Rattle.compare_files.proofs.files_apart.Reads as reads
@@ -77,7 +78,7 @@ loop-again c =
     let l = c .before .before .before .before .before .before .before .before .before .before .before .before .before .before .before .before .before .before .before .before .before in
     let t = c .before .before .before .before .before .before .before .before .before .before .before .before .before .before .before .before .before .before .before in
     let p = c .before .before .before .before .before .before .before .before .before .before .pair-apart .ensures in
-    walking-next _ _ _ _ _ _ _ _ _ _ _ _ _ _ _ (l .loop .inv) (t .if1 .taken) _ _ (p .0) _ _ (c .before .before .past .ensures) (c .before .past2 .ensures) _ _ _ _ (p .1 .0) (p .1 .1 .0) (p .1 .1 .1 .0) (p .1 .1 .1 .1)
+    walking-next _ _ _ _ _ _ _ _ _ _ _ _ _ _ _ (l .loop .inv) (t .if1 .taken) _ _ (p .0) _ _ (c .before .before .past .ensures) (c .before .past2 .ensures) _ _ _ _ (p .1)
 
 rest-records-requires : tie.Need-rest-records-requires Inv-loop μ-loop
 rest-records-requires c κs =
@@ -107,7 +108,7 @@ same-length-5 c =
     omega (arith, c .list3 .given, c .before .before .before .list2 .given, walking-long _ _ _ _ _ _ _ _ _ _ _ _ _ _ _ (l .loop .inv))
 
 returns : tie.Need-returns Inv-loop μ-loop
-returns c = (search walking-end, (search walking-old-atoms, (search walking-old-bonds, (search walking-new-atoms, search walking-new-bonds))))
+returns c = (search walking-end, search walking-kept)
 
 pub files-apart-spec : {M : Type 1} → statement M
 files-apart-spec =

@@ -1,6 +1,6 @@
 use native.Mathlib.Omega.{arith}
 use borrow.Author.Needs.{needs}
-use Rattle.compare_files.specs.Walking.{beside-join}
+use Rattle.compare_files.specs.Pair.{kept-join}
 use Rattle.compare_files.specs.Listing.{good-again, list-short, list-kept, list-done, list-written}
 use Rattle.compare_files.proofs.list_files.Statement.{statement}
 use Rattle.compare_files.proofs.list_files.Tie as tie
@@ -41,7 +41,7 @@ files-apart-requires-2 : tie.Need-files-apart-requires-2
 files-apart-requires-2 c κs =
     let s = c .before .before .before .before .before .before .before .before .before .before .before .before .before .before .before .before .before .before .before .before in
     let e = c .before .before .before .before .before .before .before .before .before .before .before .before .files-apart .ensures in
-    good-again _ _ _ _ _ _ _ _ _ _ _ _ (s .pre) (e .1 .0) (e .1 .1 .0) (e .1 .1 .1 .0) (e .1 .1 .1 .1)
+    good-again (s .pre) (e .1)
 
 same-length-5 : tie.Need-same-length-5
 same-length-5 c = search needs
@@ -66,10 +66,7 @@ returns-2 c =
       list-done _ _ _ _ _ (s .pre) (s .args .list .now) _ _ _ (omega (arith, s .good)) (e .0) (search needs) _ _ (f .0),
       (
         list-written _ _ _ _ _ (s .pre) (s .args .list .now) _ _ _ (omega (arith, s .good)) (e .0) (search needs) _ _ (f .0),
-        (
-          beside-join (e .1 .0) (f .1 .0),
-          (beside-join (e .1 .1 .0) (f .1 .1 .0), (beside-join (e .1 .1 .1 .0) (f .1 .1 .1 .0), beside-join (e .1 .1 .1 .1) (f .1 .1 .1 .1))),
-        ),
+        kept-join (e .1) (f .1),
       ),
     )
 

@@ -1,5 +1,5 @@
 use borrow.Author.Needs.{needs}
-use Rattle.compare_files.specs.Pair.{both-read, old-atoms-left, old-bonds-left, new-atoms-left, new-bonds-left}
+use Rattle.compare_files.specs.Pair.{both-read, both-kept}
 use Rattle.compare_files.proofs.pair_apart.Statement.{statement}
 use Rattle.compare_files.proofs.pair_apart.Tie as tie
 use Rattle.compare_files.proofs.pair_apart.Reads as reads
@@ -17,7 +17,7 @@ pair-read-requires c κs =
     let s = c .before .before .before .before .before .before .before .before .before .before .before .before .before .before .before .before .before in
     let x = c .before .before .before .before .before .before .before .before .before .before .before .before .read-rows .ensures in
     let y = c .before .before .before .before .before .before .before .read-rows2 .ensures in
-    both-read _ _ _ _ _ _ _ (s .pre) _ _ (x .1) _ _ (y .1) _ _ (x .0) (y .0)
+    both-read _ _ _ _ _ _ _ (s .pre) _ _ _ _ (x .1) (y .1) _ _ (x .0) (y .0)
 
 same-length : tie.Need-same-length
 same-length c = search needs
@@ -38,13 +38,8 @@ returns : tie.Need-returns
 returns c =
     let s = c .before .before .before .before .before .before .before .before .before .before .before .before .before .before .before .before .before .before .before in
     let x = c .before .before .before .before .before .before .before .before .before .before .before .before .before .before .read-rows .ensures in
-    let y = c .before .before .before .before .before .before .before .before .before .read-rows2 .ensures in (
-      search,
-      (
-        old-atoms-left _ _ _ _ _ _ _ (s .pre) _ _ (x .1),
-        (old-bonds-left _ _ _ _ _ _ _ (s .pre) _ _ (x .1), (new-atoms-left _ _ _ _ _ _ _ (s .pre) _ _ (y .1), new-bonds-left _ _ _ _ _ _ _ (s .pre) _ _ (y .1))),
-      ),
-    )
+    let y = c .before .before .before .before .before .before .before .before .before .read-rows2 .ensures in
+    (search, both-kept _ _ _ _ _ _ _ (s .pre) _ _ _ _ (x .1) (y .1))
 
 pub pair-apart-spec : {M : Type 1} → statement M
 pair-apart-spec =

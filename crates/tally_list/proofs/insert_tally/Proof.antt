@@ -1,4 +1,4 @@
--- `tally_list::insert_tally` meets its contract: a walk of its MIR, by hand. The loop is that of `shift_up`; after it the new tally is stored, and then the borrow is closed.
+-- `tally_list::insert_tally` meets its contract: a walk of its MIR, by hand. After the loop the new tally is stored, and then the borrow is closed.
 use mathlib.Core.Path.{_≡_, refl, sym, ap, _∙_, subst}
 use Prim.Native.Nat.{ℕ, suc, _+_, _-_, _*_, _≤_, _<_, _^_}
 use native.Mathlib.Omega.{arith}

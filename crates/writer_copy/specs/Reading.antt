@@ -1,4 +1,4 @@
--- Reading a record of the file: it can be written, and what it leaves of the work tables.
+-- Reading a record of a file into tables that have room: it can be written, and what it leaves of the tables.
 use Prim.Native.Nat.{ℕ, _≤_}
 use mathlib.Core.Path.{_≡_, refl, sym, _∙_}
 use mathlib.Core.List.{List}
