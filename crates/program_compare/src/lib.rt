@@ -13,6 +13,7 @@ use program_io::Text;
 use program_json_rows::ATOMS;
 use program_json_rows::BONDS;
 use program_verdict::Verdict;
+use say::Row;
 use source::BUFFER;
 use source::Met;
 use source::Shape;
@@ -40,26 +41,12 @@ struct Sum {
 }
 
 impl Sum {
-    fn new() -> Sum {
-        Sum {
-            out: Out::new(libc::STDOUT_FILENO),
-            differences: 0,
-            places: 0,
-            records: 0,
-        }
-    }
-
-    // The number of the next place.
-    fn number(self) -> u64 {
-        program_verdict::plus(self.records, 1)
-    }
-
     // One place more, with so many differences.
     fn with(self, out: Out, differences: u64) -> Sum {
         let mut sum = self;
         sum.out = out;
         sum.differences = program_verdict::plus(self.differences, differences);
-        sum.records = self.number();
+        sum.records = program_verdict::plus(self.records, 1);
         if 0 < differences {
             sum.places = program_verdict::plus(self.places, 1);
         }
@@ -91,31 +78,23 @@ fn is_fitting(x: Numbers, ta: usize, tb: usize) -> bool
     true
 }
 
-fn numbers_of(x: Shape) -> Numbers {
-    Numbers {
-        n: x.n,
-        m: x.m,
-        chiral: x.chiral,
-    }
-}
-
 // What differs between two records, so many passed over.
 fn list_apart(
     list: &mut [i64],
     skip: usize,
     position: usize,
-    s: &[u8],
-    x: Shape,
+    headers: &[u8],
+    a: Numbers,
     ta: &[i32],
     tb: &[i32],
-    u: &[u8],
-    y: Shape,
+    items: &[u8],
+    new_headers: &[u8],
+    b: Numbers,
     ua: &[i32],
     ub: &[i32],
+    new_items: &[u8],
 ) -> Count {
     let count = Count { skip, seen: 0 };
-    let a = numbers_of(x);
-    let b = numbers_of(y);
     if 9223372036854775807 < position {
         return count;
     }
@@ -125,16 +104,16 @@ fn list_apart(
                 list,
                 count,
                 position,
-                source::headers_of(s, x),
+                headers,
                 a,
                 ta,
                 tb,
-                source::items_of(s, x),
-                source::headers_of(u, y),
+                items,
+                new_headers,
                 b,
                 ua,
                 ub,
-                source::items_of(u, y),
+                new_items,
             );
         }
     }
@@ -151,8 +130,22 @@ fn rows_of(way: Way, seen: usize) -> usize {
     seen
 }
 
-// The differences of a pair, window after window. Turns are counted so that the loop ends, and no run uses them up.
-fn put_pair(
+// A record on one side only, 1 or 2.
+fn alone(record: u64, side: u64) -> Row {
+    Row {
+        record,
+        part: 10,
+        place: 0,
+        field: 0,
+        side,
+        left: 0,
+        right: 0,
+    }
+}
+
+// The differences at a place of both files, window after window; one of them may have no record there. Turns are counted so that the loop ends, and no run
+// uses them up.
+fn put_place(
     sum: Sum,
     room: &mut [u8; ROOM],
     list: &mut [i64; LIST],
@@ -167,8 +160,23 @@ fn put_pair(
     ua: &[i32; ATOMS],
     ub: &[i32; BONDS],
 ) -> Sum {
-    let position = sum.number() as usize;
+    let number = program_verdict::plus(sum.records, 1);
+    let headers = program_io::front(s, x.header_end);
+    let new_headers = program_io::front(u, y.header_end);
     let begun = sum.out;
+    if x.length == 0 {
+        let row = alone(number, 2);
+        let out = tell::put_plain(begun, room, patterns, way.json, row, new_headers);
+        return sum.with(out, 1);
+    }
+    if y.length == 0 {
+        let row = alone(number, 1);
+        let out = tell::put_plain(begun, room, patterns, way.json, row, headers);
+        return sum.with(out, 1);
+    }
+    let position = number as usize;
+    let items = source::items_of(s, x);
+    let new_items = source::items_of(u, y);
     let mut told = Told {
         out: begun,
         old: Spot::new(),
@@ -176,41 +184,66 @@ fn put_pair(
     };
     let mut skip: usize = 0;
     let mut turns = u64::MAX;
-    while turns > 0 {
-        turns -= 1;
-        let count = list_apart(list, skip, position, s, x, ta, tb, u, y, ua, ub);
+    loop {
+        let count = list_apart(
+            list,
+            skip,
+            position,
+            headers,
+            x.numbers,
+            ta,
+            tb,
+            items,
+            new_headers,
+            y.numbers,
+            ua,
+            ub,
+            new_items,
+        );
         let rows = rows_of(way, count.seen);
-        told = tell::put_rows(told, room, patterns, way.json, list, rows, s, x, u, y);
+        told = tell::put_rows(
+            told,
+            room,
+            patterns,
+            way.json,
+            list,
+            rows,
+            headers,
+            items,
+            new_headers,
+            new_items,
+        );
         if rows <= WINDOW {
-            return sum.with(told.out, lines::plus(skip, rows) as u64);
+            return sum.with(told.out, program_io::plus(skip, rows) as u64);
         }
-        skip = lines::plus(skip, WINDOW);
+        skip = program_io::plus(skip, WINDOW);
+        if turns < 1 {
+            return sum.with(told.out, skip as u64);
+        }
+        turns -= 1;
     }
-    sum.with(told.out, skip as u64)
 }
 
 // ---- Two files
 
-// What stands at one place of both files: a record in both, or in the first or the second only; or what ends the walk.
+// What stands at one place of both files: a record in one of them at least, or what ends the walk.
 enum Turn {
-    Both,
-    Left,
-    Right,
+    Place,
     Over,
     LeftFailed(Verdict),
     RightFailed(Verdict),
 }
 
-enum Found {
-    Done(Sum),
-    LeftFailed(Verdict),
-    RightFailed(Verdict),
+// How the walk ended, and what was found.
+struct Held {
+    sum: Sum,
+    turn: Turn,
 }
 
-// By what was met in the second file, and what to do where that has a record, or none.
-fn by_right(right: Met, record: Turn, end: Turn) -> Turn {
+// By what was met in the second file, and what to do where that has no record.
+fn by_right(right: Met, end: Turn) -> Turn {
     match right {
-        Met::Record => record,
+        Met::Record => Turn::Place,
         Met::End => end,
         Met::Short => Turn::RightFailed(Verdict::Changed),
         Met::Failed(v) => Turn::RightFailed(v),
@@ -219,26 +252,11 @@ fn by_right(right: Met, record: Turn, end: Turn) -> Turn {
 
 fn turn_of(left: Met, right: Met) -> Turn {
     match left {
-        Met::Record => by_right(right, Turn::Both, Turn::Left),
-        Met::End => by_right(right, Turn::Right, Turn::Over),
+        Met::Record => by_right(right, Turn::Place),
+        Met::End => by_right(right, Turn::Over),
         Met::Short => Turn::LeftFailed(Verdict::Changed),
         Met::Failed(v) => Turn::LeftFailed(v),
     }
-}
-
-// A record on one side only.
-fn put_alone(
-    sum: Sum,
-    room: &mut [u8; ROOM],
-    patterns: &[u8],
-    json: bool,
-    side: u64,
-    s: &[u8],
-    x: Shape,
-) -> Sum {
-    let begun = sum.out;
-    let out = tell::put_alone(begun, room, patterns, json, sum.number(), side, s, x);
-    sum.with(out, 1)
 }
 
 // The two files, opened.
@@ -248,26 +266,47 @@ struct Open {
     way: Way,
 }
 
-// The second reading of both, from their starts.
+fn begin(fd: i32) -> Source {
+    Source {
+        fd,
+        at: 0,
+        filled: 0,
+        ended: false,
+    }
+}
+
+// Whether the walk need not go on, after so many places where the files differ.
+fn is_enough(way: Way, places: u64) -> bool {
+    if way.first {
+        return places > 0;
+    }
+    false
+}
+
+// The second reading of both, from their starts. Turns are counted so that the loop ends, and no run uses them up.
 fn hold(
     open: Open,
     patterns: &[u8],
     left: &mut [u8; BUFFER],
     right: &mut [u8; BUFFER],
     room: &mut [u8; ROOM],
-) -> Found {
+) -> Held {
     let mut list = [0i64; LIST];
     let mut ta = [0i32; ATOMS];
     let mut tb = [0i32; BONDS];
     let mut ua = [0i32; ATOMS];
     let mut ub = [0i32; BONDS];
-    let mut a = Source::new(open.first);
-    let mut b = Source::new(open.second);
-    let mut sum = Sum::new();
+    let mut a = begin(open.first);
+    let mut b = begin(open.second);
+    let mut sum = Sum {
+        out: Out::new(libc::STDOUT_FILENO),
+        differences: 0,
+        places: 0,
+        records: 0,
+    };
     let mut turns = u64::MAX;
     let way = open.way;
-    while turns > 0 {
-        turns -= 1;
+    loop {
         let l = a.next(left, &mut ta, &mut tb);
         let r = b.next(right, &mut ua, &mut ub);
         a = l.source;
@@ -276,73 +315,64 @@ fn hold(
         let y = r.shape;
         let left_met = l.met;
         let right_met = r.met;
+        let turn = turn_of(left_met, right_met);
+        let Turn::Place = turn else {
+            return Held { sum, turn };
+        };
         let s = source::bytes_of(left, x);
         let u = source::bytes_of(right, y);
-        match turn_of(left_met, right_met) {
-            Turn::Both => {
-                sum = put_pair(
-                    sum,
-                    room,
-                    &mut list,
-                    way,
-                    patterns,
-                    s,
-                    x,
-                    &ta,
-                    &tb,
-                    u,
-                    y,
-                    &ua,
-                    &ub,
-                );
-            }
-            Turn::Left => {
-                sum = put_alone(sum, room, patterns, way.json, 1, s, x);
-            }
-            Turn::Right => {
-                sum = put_alone(sum, room, patterns, way.json, 2, u, y);
-            }
-            Turn::Over => {
-                return Found::Done(sum);
-            }
-            Turn::LeftFailed(v) => {
-                return Found::LeftFailed(v);
-            }
-            Turn::RightFailed(v) => {
-                return Found::RightFailed(v);
-            }
+        sum = put_place(
+            sum,
+            room,
+            &mut list,
+            way,
+            patterns,
+            s,
+            x,
+            &ta,
+            &tb,
+            u,
+            y,
+            &ua,
+            &ub,
+        );
+        if is_enough(way, sum.places) {
+            return Held {
+                sum,
+                turn: Turn::Over,
+            };
         }
-        if way.first {
-            if sum.places > 0 {
-                return Found::Done(sum);
-            }
+        if turns < 1 {
+            return Held {
+                sum,
+                turn: Turn::LeftFailed(Verdict::Endless),
+            };
         }
+        turns -= 1;
     }
-    Found::LeftFailed(Verdict::Endless)
 }
 
 // ---- What is said in the end
 
-fn plural(text: Text, n: u64, word: &[u8]) -> Text {
-    let counted = text.number(n).byte(b' ').word(word);
-    if n == 1 {
-        return counted;
+// What people are told besides.
+fn summary(sum: Sum) -> Row {
+    Row {
+        record: sum.records,
+        part: by_count(sum.differences),
+        place: sum.places,
+        field: sum.differences,
+        side: 0,
+        left: 0,
+        right: 0,
     }
-    counted.byte(b's')
 }
 
-// What people are told besides.
-fn summary(sum: Sum) -> Text {
-    if sum.differences == 0 {
-        return plural(
-            Text::new().word(b"no difference in "),
-            sum.records,
-            b"record",
-        ).byte(b'\n');
+// The pattern that sums up.
+fn by_count(differences: u64) -> u64 {
+    if differences == 0 {
+        return 12;
     }
-    let counted = plural(Text::new(), sum.differences, b"difference").word(b" in ");
-    let placed = counted.number(sum.places).word(b" of ");
-    plural(placed, sum.records, b"record").byte(b'\n')
+    13
 }
 
 // What programs read of it: the number of differences, or of the first record that differs.
@@ -357,19 +387,21 @@ fn announced(sum: Sum, way: Way) -> Text {
     line.number(sum.differences).byte(b'\n')
 }
 
-fn put_summary(sum: Sum, room: &mut [u8; ROOM], way: Way) -> Out {
+fn put_summary(sum: Sum, room: &mut [u8; ROOM], patterns: &[u8], way: Way) -> Out {
     let out = sum.out;
     if way.json {
-        return out.flush(room);
+        return out;
     }
     if way.first {
-        return out.flush(room);
+        return out;
     }
-    out.text(room, summary(sum)).flush(room)
+    let none = program_io::front(patterns, 0);
+    tell::put_plain(out, room, patterns, false, summary(sum), none)
 }
 
-fn conclude(sum: Sum, room: &mut [u8; ROOM], way: Way) {
-    let out = put_summary(sum, room, way);
+fn conclude(sum: Sum, room: &mut [u8; ROOM], patterns: &[u8], way: Way) {
+    let told = put_summary(sum, room, patterns, way);
+    let out = told.flush(room);
     if out.good {
         announced(sum, way).write(program_verdict::CHANNEL);
     } else {
@@ -378,18 +410,6 @@ fn conclude(sum: Sum, room: &mut [u8; ROOM], way: Way) {
 }
 
 // ---- What is asked
-
-// The first reading of a file. What has no place to go back to, as a pipe, is not read at all.
-fn judge(fd: i32, buf: &mut [u8; BUFFER], progress: bool) -> Verdict {
-    if libc::lseek(fd, 0, libc::SEEK_CUR) < 0 {
-        return Verdict::Once;
-    }
-    let v = program_verdict::judge(fd, true, buf, progress);
-    if libc::lseek(fd, 0, libc::SEEK_SET) < 0 {
-        return Verdict::Once;
-    }
-    v
-}
 
 // A file's verdict, told; whether it is accepted.
 fn is_accepted(name: &[u8], v: Verdict) -> bool {
@@ -410,22 +430,36 @@ fn hold_accepted(
     let mut room = [0u8; ROOM];
     let way = open.way;
     let patterns = tell::patterns_of(&PATTERNS, way);
-    match hold(open, patterns, left, right, &mut room) {
-        Found::Done(sum) => conclude(sum, &mut room, way),
-        Found::LeftFailed(v) => program_verdict::tell(first, v),
-        Found::RightFailed(v) => program_verdict::tell(second, v),
+    let held = hold(open, patterns, left, right, &mut room);
+    let turn = held.turn;
+    match turn {
+        Turn::LeftFailed(v) => program_verdict::tell(first, v),
+        Turn::RightFailed(v) => program_verdict::tell(second, v),
+        _ => conclude(held.sum, &mut room, patterns, way),
+    }
+}
+
+fn hold_judged(
+    first: &[u8],
+    second: &[u8],
+    open: Open,
+    left: &mut [u8; BUFFER],
+    right: &mut [u8; BUFFER],
+) {
+    let way = open.way;
+    let old = program_verdict::judge_first(open.first, true, left, way.progress);
+    if is_accepted(first, old) {
+        let new = program_verdict::judge_first(open.second, true, right, way.progress);
+        if is_accepted(second, new) {
+            hold_accepted(first, second, open, left, right);
+        }
     }
 }
 
 fn hold_open(first: &[u8], second: &[u8], open: Open) {
     let mut left = [0u8; BUFFER];
     let mut right = [0u8; BUFFER];
-    let way = open.way;
-    if is_accepted(first, judge(open.first, &mut left, way.progress)) {
-        if is_accepted(second, judge(open.second, &mut right, way.progress)) {
-            hold_accepted(first, second, open, &mut left, &mut right);
-        }
-    }
+    hold_judged(first, second, open, &mut left, &mut right);
 }
 
 fn hold_files(first: &[u8], second: &[u8], way: Way) {
@@ -449,24 +483,19 @@ fn hold_files(first: &[u8], second: &[u8], way: Way) {
     libc::close(a);
 }
 
-fn hold_with(first: &[u8], i: usize, way: Way) {
-    let mut name = io::buffer();
-    let n = os::arg(i, &mut name);
-    if os::errno() == 0 {
-        hold_files(first, &name[..n], way);
-    } else {
-        program_verdict::tell(b"file name", Verdict::Unreadable);
-    }
-}
-
 fn hold_named(i: usize, j: usize, way: Way) {
-    let mut name = io::buffer();
-    let n = os::arg(i, &mut name);
+    let mut first = io::buffer();
+    let n = os::arg(i, &mut first);
     if os::errno() == 0 {
-        hold_with(&name[..n], j, way);
-    } else {
-        program_verdict::tell(b"file name", Verdict::Unreadable);
+        let mut second = io::buffer();
+        let m = os::arg(j, &mut second);
+        if os::errno() == 0 {
+            let old = program_io::front(&first, n);
+            hold_files(old, program_io::front(&second, m), way);
+            return;
+        }
     }
+    program_verdict::tell(b"file name", Verdict::Unreadable);
 }
 
 // Perhaps `--json`, then the names of two files: what differs between them.

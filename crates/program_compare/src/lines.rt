@@ -41,17 +41,8 @@ struct Span {
 fn span_of(line: &[u8]) -> Span {
     match line_text::item_line(line) {
         ItemRead::Title { from, to } => Span { from, to },
-        ItemRead::Close => Span { from: 0, to: 0 },
-        ItemRead::Bad { no: _, column: _ } => Span { from: 0, to: 0 },
+        _ => Span { from: 0, to: 0 },
     }
-}
-
-// A sum that stays at the largest number.
-pub fn plus(a: usize, b: usize) -> usize {
-    if usize::MAX - a < b {
-        return usize::MAX;
-    }
-    a + b
 }
 
 impl Spot {
@@ -69,52 +60,32 @@ impl Spot {
         }
     }
 
-    // On the data header from `start` to `end`.
-    fn header(self, s: &[u8], end: usize, next: usize) -> Spot {
-        let start = self.next;
-        let name = span_of(program_json::part(s, start, end));
-        Spot {
-            item: program_verdict::plus(self.item, 1),
-            line: 0,
-            start,
-            end,
-            next,
-            inside: true,
-            name_from: plus(start, name.from),
-            name_to: plus(start, name.to),
-        }
-    }
-
-    // On a value line, or on the blank line after the values.
-    fn inner(self, s: &[u8], end: usize, next: usize) -> Spot {
+    // One line on: a data header, a value line, or the blank line after the values; behind the last line, on none.
+    fn step(self, s: &[u8]) -> Spot {
         let mut spot = self;
+        let LineAt::Line { end, next } = text::line_at(s, self.next) else {
+            spot.item = u64::MAX;
+            return spot;
+        };
+        let line = program_json::part(s, self.next, end);
         spot.start = self.next;
         spot.end = end;
         spot.next = next;
-        if text::is_blank(program_json::part(s, self.next, end)) {
-            spot.inside = false;
-        } else {
-            spot.line = program_verdict::plus(self.line, 1);
-        }
-        spot
-    }
-
-    // On no line, behind the last.
-    fn over(self) -> Spot {
-        let mut spot = self;
-        spot.item = u64::MAX;
-        spot
-    }
-
-    // One line on.
-    fn step(self, s: &[u8]) -> Spot {
-        let LineAt::Line { end, next } = text::line_at(s, self.next) else {
-            return self.over();
-        };
         if self.inside {
-            return self.inner(s, end, next);
+            if text::is_blank(line) {
+                spot.inside = false;
+            } else {
+                spot.line = program_verdict::plus(self.line, 1);
+            }
+            return spot;
         }
-        self.header(s, end, next)
+        let name = span_of(line);
+        spot.item = program_verdict::plus(self.item, 1);
+        spot.line = 0;
+        spot.inside = true;
+        spot.name_from = program_io::plus(self.next, name.from);
+        spot.name_to = program_io::plus(self.next, name.to);
+        spot
     }
 
     // Whether it stands at this line, or behind it.

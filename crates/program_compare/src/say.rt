@@ -1,5 +1,4 @@
 // A difference as it stands in the list, and its figures in words.
-use field_symbols::SYMBOLS;
 use program_io::Text;
 
 // One difference, as it stands in the list.
@@ -11,13 +10,6 @@ pub struct Row {
     pub side: u64,
     pub left: i64,
     pub right: i64,
-}
-
-fn natural(v: i64) -> u64 {
-    if v < 0 {
-        return 0;
-    }
-    v as u64
 }
 
 // A number of the list; 0 where it has none there.
@@ -33,11 +25,11 @@ fn number_at(list: &[i64], at: usize, k: usize) -> i64 {
 // The row at a place of the list.
 pub fn row_at(list: &[i64], at: usize) -> Row {
     Row {
-        record: natural(number_at(list, at, 0)),
-        part: natural(number_at(list, at, 1)),
-        place: natural(number_at(list, at, 2)),
-        field: natural(number_at(list, at, 3)),
-        side: natural(number_at(list, at, 4)),
+        record: size_of(number_at(list, at, 0)),
+        part: size_of(number_at(list, at, 1)),
+        place: size_of(number_at(list, at, 2)),
+        field: size_of(number_at(list, at, 3)),
+        side: size_of(number_at(list, at, 4)),
         left: number_at(list, at, 5),
         right: number_at(list, at, 6),
     }
@@ -51,11 +43,11 @@ fn size_of(v: i64) -> u64 {
     v as u64
 }
 
-fn with_sign(text: Text, v: i64) -> Text {
+fn sign(v: i64) -> Text {
     if v < 0 {
-        return text.byte(b'-');
+        return Text::new().byte(b'-');
     }
-    text
+    Text::new()
 }
 
 fn digit(n: u64) -> u8 {
@@ -65,42 +57,29 @@ fn digit(n: u64) -> u8 {
 // Ten-thousandths as a decimal number with four decimals.
 fn decimal(v: i64) -> Text {
     let size = size_of(v);
-    let whole = with_sign(Text::new(), v).number(size / 10000).byte(b'.');
+    let whole = sign(v).number(size / 10000).byte(b'.');
     let two = whole.byte(digit(size / 1000)).byte(digit(size / 100));
     two.byte(digit(size / 10)).byte(digit(size))
 }
 
 fn integer(v: i64) -> Text {
-    with_sign(Text::new(), v).number(size_of(v))
+    sign(v).number(size_of(v))
 }
 
-// The symbol of an atom behind a text.
-fn symbol(text: Text, k: u64) -> Text {
-    let mut letters = [b' '; 3];
-    if k == 0 {
-        return text;
-    }
-    if k > SYMBOLS as u64 {
-        return text;
-    }
-    field_symbols_put::put_symbol(&mut letters, 0, k as u32);
-    let one = text.byte(letters[0]);
-    if letters[1] == b' ' {
-        return one;
-    }
-    one.byte(letters[1])
-}
-
-// A figure as people read it, or as JSON, where coordinates are whole numbers of ten-thousandths.
+// A figure as people read it, or as JSON, where coordinates are whole numbers of ten-thousandths, and null stands for a text that is not there.
 pub fn figure(row: Row, json: bool, v: i64) -> Text {
+    if row.part > 6 {
+        return Text::new().word(b"null");
+    }
     if row.part != 5 {
         return integer(v);
     }
     if row.field == 4 {
         if json {
-            return symbol(Text::new().byte(b'"'), natural(v)).byte(b'"');
+            let quoted = program_formula::symbol(Text::new().byte(b'"'), size_of(v));
+            return quoted.byte(b'"');
         }
-        return symbol(Text::new(), natural(v));
+        return program_formula::symbol(Text::new(), size_of(v));
     }
     if row.field < 4 {
         if json {

@@ -1,4 +1,5 @@
 // A file at its second reading: its records one after the other, each as it stands in the buffer and in the tables.
+use compare_record::Numbers;
 use program_io::Filled;
 use program_json_rows::ATOMS;
 use program_json_rows::BONDS;
@@ -10,20 +11,18 @@ pub const BUFFER: usize = 1048577;
 
 // The bytes from `at` to before `filled` stand in the buffer; nothing follows them once it has ended.
 pub struct Source {
-    fd: i32,
-    at: usize,
-    filled: usize,
-    ended: bool,
+    pub fd: i32,
+    pub at: usize,
+    pub filled: usize,
+    pub ended: bool,
 }
 
-// Where a record stands in its buffer, and its numbers.
+// Where a record stands in its buffer, and its numbers. What is no record has no bytes.
 pub struct Shape {
     at: usize,
-    length: usize,
-    pub n: u32,
-    pub m: u32,
-    pub chiral: u32,
-    header_end: usize,
+    pub length: usize,
+    pub numbers: Numbers,
+    pub header_end: usize,
     items_start: usize,
     items_end: usize,
 }
@@ -45,22 +44,6 @@ pub struct Next {
 }
 
 impl Source {
-    pub fn new(fd: i32) -> Source {
-        Source {
-            fd,
-            at: 0,
-            filled: 0,
-            ended: false,
-        }
-    }
-
-    // Behind so many bytes.
-    fn past(self, taken: usize) -> Source {
-        let mut next = self;
-        next.at = crate::lines::plus(self.at, taken);
-        next
-    }
-
     // No record.
     fn without(self, met: Met) -> Next {
         Next {
@@ -68,9 +51,11 @@ impl Source {
             shape: Shape {
                 at: 0,
                 length: 0,
-                n: 0,
-                m: 0,
-                chiral: 0,
+                numbers: Numbers {
+                    n: 0,
+                    m: 0,
+                    chiral: 0,
+                },
                 header_end: 0,
                 items_start: 0,
                 items_end: 0,
@@ -91,20 +76,22 @@ impl Source {
                 header_end,
                 items_start,
                 items_end,
-            } => Next {
-                met: Met::Record,
-                shape: Shape {
-                    at: self.at,
-                    length,
-                    n,
-                    m,
-                    chiral,
-                    header_end,
-                    items_start,
-                    items_end,
-                },
-                source: self.past(length),
-            },
+            } => {
+                let mut source = self;
+                source.at = program_io::plus(self.at, length);
+                Next {
+                    met: Met::Record,
+                    shape: Shape {
+                        at: self.at,
+                        length,
+                        numbers: Numbers { n, m, chiral },
+                        header_end,
+                        items_start,
+                        items_end,
+                    },
+                    source,
+                }
+            }
             RecordRead::Refused {
                 no,
                 line: _,
@@ -129,29 +116,8 @@ impl Source {
         self.after(reader_record::read_rows(true, s, atoms, bonds))
     }
 
-    // With the rest moved to the front and more read behind it. What is short in a buffer that was just filled has changed.
-    fn read_on(
-        self,
-        buf: &mut [u8; BUFFER],
-        atoms: &mut [i32; ATOMS],
-        bonds: &mut [i32; BONDS],
-    ) -> Next {
-        let kept = program_io::keep(buf, self.at, self.filled);
-        match program_io::fill(self.fd, buf, kept) {
-            Filled::Bytes(n) => {
-                let more = Source {
-                    fd: self.fd,
-                    at: 0,
-                    filled: n,
-                    ended: n < BUFFER,
-                };
-                settled(more.read(program_io::front(buf, n), atoms, bonds))
-            }
-            Filled::Failed => self.without(Met::Failed(Verdict::Unreadable)),
-        }
-    }
-
-    // The next record of the file.
+    // The next record of the file. Where it is short the rest is moved to the front and more read behind it; what is short in a buffer that was just filled
+    // has changed.
     pub fn next(
         self,
         buf: &mut [u8; BUFFER],
@@ -161,31 +127,28 @@ impl Source {
         let s = program_json::part(buf, self.at, self.filled);
         let next = self.read(s, atoms, bonds);
         let met = next.met;
-        match met {
-            Met::Short => self.read_on(buf, atoms, bonds),
-            _ => next,
+        let Met::Short = met else {
+            return next;
+        };
+        let kept = program_io::keep(buf, self.at, self.filled);
+        match program_io::fill(self.fd, buf, kept) {
+            Filled::Bytes(n) => {
+                let more = Source {
+                    fd: self.fd,
+                    at: 0,
+                    filled: n,
+                    ended: n < BUFFER,
+                };
+                more.read(program_io::front(buf, n), atoms, bonds)
+            }
+            Filled::Failed => self.without(Met::Failed(Verdict::Unreadable)),
         }
-    }
-}
-
-fn settled(next: Next) -> Next {
-    let met = next.met;
-    match met {
-        Met::Short => {
-            let source = next.source;
-            source.without(Met::Failed(Verdict::Changed))
-        }
-        _ => next,
     }
 }
 
 // The bytes of a record in its buffer.
 pub fn bytes_of(buf: &[u8], shape: Shape) -> &[u8] {
     program_io::front(program_io::tail(buf, shape.at), shape.length)
-}
-
-pub fn headers_of(s: &[u8], shape: Shape) -> &[u8] {
-    program_io::front(s, shape.header_end)
 }
 
 pub fn items_of(s: &[u8], shape: Shape) -> &[u8] {

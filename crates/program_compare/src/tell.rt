@@ -3,9 +3,8 @@ use crate::lines;
 use crate::lines::Spot;
 use crate::say;
 use crate::say::Row;
-use crate::source;
-use crate::source::Shape;
 use program_io::Out;
+use program_io::Text;
 
 // Output is gathered in room of so many bytes.
 pub const ROOM: usize = 65536;
@@ -27,25 +26,25 @@ pub struct Way {
 // ---- Where the texts stand
 
 // On to the line of a difference, where the items have one.
-fn sought(spot: Spot, row: Row, other: u64, s: &[u8], shape: Shape) -> Spot {
+fn sought(spot: Spot, row: Row, other: u64, items: &[u8]) -> Spot {
     if row.part < 7 {
         return spot;
     }
     if row.side == other {
         return spot;
     }
-    spot.seek(source::items_of(s, shape), row.place, row.field)
+    spot.seek(items, row.place, row.field)
 }
 
 // The text at the place of a difference.
-fn text_of(row: Row, s: &[u8], shape: Shape, spot: Spot) -> &[u8] {
+fn text_of<'a>(row: Row, headers: &'a [u8], items: &'a [u8], spot: Spot) -> &'a [u8] {
     if row.part == 1 {
-        return lines::line_of(source::headers_of(s, shape), row.place);
+        return lines::line_of(headers, row.place);
     }
     if row.part == 7 {
-        return spot.name_in(source::items_of(s, shape));
+        return spot.name_in(items);
     }
-    spot.text_in(source::items_of(s, shape))
+    spot.text_in(items)
 }
 
 // ---- Patterns
@@ -55,8 +54,9 @@ const ROW: usize = 66;
 
 const NAME: usize = 16;
 
-// For people, for programs, for the first record that differs: a pattern for each part, and one for a value line that stands on one side only.
-pub const PATTERNS: [u8; 2178] = *b"\
+// For people, for programs, for the first record that differs: a pattern for each part, and one for a value line that stands on one side only; for people two
+// more that sum up.
+pub const PATTERNS: [u8; 2310] = *b"\
     record RT, header line P: O -> W\n                                 \
     record RT, atoms: O -> W\n                                         \
     record RT, bonds: O -> W\n                                         \
@@ -68,6 +68,8 @@ pub const PATTERNS: [u8; 2178] = *b"\
     record RT, item P N: only in the S file\n                          \
     record RT: only in the S file\n                                    \
     record RT, item P N, line L, only in the S file: V\n               \
+    no difference in R recordX\n                                       \
+    L differenceY in P of R recordX\n                                  \
     {\"record\":R,\"part\":\"header\",\"line\":P,\"old\":O,\"new\":W}\n            \
     {\"record\":R,\"part\":\"atoms\",\"old\":O,\"new\":W}\n                      \
     {\"record\":R,\"part\":\"bonds\",\"old\":O,\"new\":W}\n                      \
@@ -92,8 +94,8 @@ pub const PATTERNS: [u8; 2178] = *b"\
     record RT differs\n                                                \
 ";
 
-// Names of an atom's numbers and of a bond's.
-const ATOM_FIELDS: [u8; 256] = *b"\
+// Names of an atom's numbers and of a bond's, and of the two files.
+const NAMES: [u8; 416] = *b"\
     x\n              \
     y\n              \
     z\n              \
@@ -110,37 +112,27 @@ const ATOM_FIELDS: [u8; 256] = *b"\
     map\n            \
     inversion\n      \
     exact\n          \
-";
-
-const BOND_FIELDS: [u8; 96] = *b"\
     first\n          \
     second\n         \
     type\n           \
     stereo\n         \
     topology\n       \
     centre\n         \
+    old\n            \
+    new\n            \
+    first\n          \
+    second\n         \
 ";
 
-// The patterns that are asked for, of which there are eleven.
+// The patterns that are asked for.
 pub fn patterns_of(table: &[u8], way: Way) -> &[u8] {
     if way.first {
-        return program_io::tail(table, 22 * ROW);
+        return program_io::tail(table, 24 * ROW);
     }
     if way.json {
-        return program_io::tail(table, 11 * ROW);
+        return program_io::tail(table, 13 * ROW);
     }
     table
-}
-
-// Name k, from 1 on.
-fn name_in(table: &[u8], k: u64) -> &[u8] {
-    if k == 0 {
-        return program_io::front(table, 0);
-    }
-    if k > 16 {
-        return program_io::front(table, 0);
-    }
-    lines::line_of(program_io::tail(table, NAME * (k - 1) as usize), 1)
 }
 
 // The place of a difference's pattern.
@@ -153,23 +145,10 @@ fn place_of(row: Row) -> usize {
     if row.part == 0 {
         return 0;
     }
-    if row.part > 10 {
+    if row.part > 13 {
         return 0;
     }
     ROW * (row.part - 1) as usize
-}
-
-fn put_number(out: Out, room: &mut [u8], n: u64) -> Out {
-    let mut digits = [0u8; 20];
-    let k = io::decimal(n, &mut digits);
-    out.bytes(room, &digits[..k])
-}
-
-fn put_field(out: Out, room: &mut [u8], row: Row) -> Out {
-    if row.part == 5 {
-        return out.bytes(room, name_in(&ATOM_FIELDS, row.field));
-    }
-    out.bytes(room, name_in(&BOND_FIELDS, row.field))
 }
 
 // The title of a record, which is its first header line, behind its number.
@@ -189,7 +168,20 @@ fn put_side(out: Out, room: &mut [u8], side: u64, old: &[u8], new: &[u8]) -> Out
     out.bytes(room, old)
 }
 
-// A figure, or a text; for programs null where that stands on the other side only.
+// Whether no text stands at the place of a difference: figures differ, or for programs the text stands on the other side only.
+fn is_short(json: bool, row: Row, other: u64) -> bool {
+    if row.part > 1 {
+        if row.part < 7 {
+            return true;
+        }
+    }
+    if json {
+        return row.side == other;
+    }
+    false
+}
+
+// A figure, or a text.
 fn put_value(
     out: Out,
     room: &mut [u8],
@@ -199,24 +191,13 @@ fn put_value(
     other: u64,
     line: &[u8],
 ) -> Out {
-    if is_figure(row) {
+    if is_short(json, row, other) {
         return out.text(room, say::figure(row, json, v));
     }
     if json {
-        if row.side == other {
-            return out.bytes(room, b"null");
-        }
         return program_json::put_string(out, room, line);
     }
     out.bytes(room, line)
-}
-
-// Whether figures differ, and not texts.
-fn is_figure(row: Row) -> bool {
-    if row.part < 2 {
-        return false;
-    }
-    row.part < 7
 }
 
 fn is_mark(b: u8) -> bool {
@@ -224,6 +205,51 @@ fn is_mark(b: u8) -> bool {
         return false;
     }
     b <= b'Z'
+}
+
+// Name k, from 1 on.
+fn word(k: u64) -> Text {
+    if k == 0 {
+        return Text::new();
+    }
+    if k > 26 {
+        return Text::new();
+    }
+    let names = program_io::tail(&NAMES, NAME * (k - 1) as usize);
+    Text::new().word(lines::line_of(names, 1))
+}
+
+// The name that a letter stands for: of a number of an atom or a bond, or of a file.
+fn name_of(b: u8, row: Row) -> u64 {
+    if b == b'F' {
+        if row.part == 5 {
+            return row.field;
+        }
+        return program_verdict::plus(row.field, 16);
+    }
+    if b == b'S' {
+        return program_verdict::plus(row.side, 22);
+    }
+    program_verdict::plus(row.side, 24)
+}
+
+fn plural(n: u64) -> Text {
+    if n == 1 {
+        return Text::new();
+    }
+    Text::new().byte(b's')
+}
+
+// A number or a name.
+fn short(b: u8, row: Row) -> Text {
+    match b {
+        b'R' => Text::new().number(row.record),
+        b'P' => Text::new().number(row.place),
+        b'L' => Text::new().number(row.field),
+        b'X' => plural(row.record),
+        b'Y' => plural(row.field),
+        _ => word(name_of(b, row)),
+    }
 }
 
 // What stands for a capital letter of a pattern.
@@ -240,17 +266,12 @@ fn put_piece(
     new: &[u8],
 ) -> Out {
     match b {
-        b'R' => put_number(out, room, row.record),
         b'T' => put_title(out, room, headers),
-        b'P' => put_number(out, room, row.place),
-        b'L' => put_number(out, room, row.field),
-        b'F' => put_field(out, room, row),
         b'N' => put_side(out, room, row.side, name, new_name),
-        b'S' => put_side(out, room, row.side, b"old", b"new"),
-        b'M' => put_side(out, room, row.side, b"first", b"second"),
         b'V' => put_side(out, room, row.side, old, new),
         b'O' => put_value(out, room, json, row, row.left, 2, old),
-        _ => put_value(out, room, json, row, row.right, 1, new),
+        b'W' => put_value(out, room, json, row, row.right, 1, new),
+        _ => out.text(room, short(b, row)),
     }
 }
 
@@ -272,40 +293,62 @@ fn put_line(
     let mut i: usize = 0;
     while i < pattern.len() {
         let b = pattern[i];
-        if b == b'\n' {
-            return next.byte(room, b);
-        }
         if is_mark(b) {
             next = put_piece(next, room, b, json, row, headers, name, new_name, old, new);
         } else {
             next = next.byte(room, b);
+        }
+        if b == b'\n' {
+            return next;
         }
         i += 1;
     }
     next
 }
 
+// A line that needs no texts but the record's header lines.
+pub fn put_plain(
+    out: Out,
+    room: &mut [u8; ROOM],
+    patterns: &[u8],
+    json: bool,
+    row: Row,
+    headers: &[u8],
+) -> Out {
+    let none = program_io::front(headers, 0);
+    put_line(
+        out,
+        room,
+        patterns,
+        json,
+        row,
+        headers,
+        none,
+        none,
+        none,
+        none,
+    )
+}
+
 // ---- Differences
 
-// A difference of a pair of records s and u.
-fn put_row(
+// A difference of a pair of records, by the header lines and the items of both.
+fn put_row<'a, 'b>(
     told: Told,
     room: &mut [u8; ROOM],
     patterns: &[u8],
     json: bool,
     row: Row,
-    s: &[u8],
-    x: Shape,
-    u: &[u8],
-    y: Shape,
+    headers: &'a [u8],
+    items: &'a [u8],
+    new_headers: &'b [u8],
+    new_items: &'b [u8],
 ) -> Told {
     let out = told.out;
-    let old = sought(told.old, row, 2, s, x);
-    let new = sought(told.new, row, 1, u, y);
-    let name = old.name_in(source::items_of(s, x));
-    let new_name = new.name_in(source::items_of(u, y));
-    let left = text_of(row, s, x, old);
-    let right = text_of(row, u, y, new);
+    let old = sought(told.old, row, 2, items);
+    let new = sought(told.new, row, 1, new_items);
+    let left = text_of(row, headers, items, old);
+    let right = text_of(row, new_headers, new_items, new);
     Told {
         out: put_line(
             out,
@@ -313,9 +356,9 @@ fn put_row(
             patterns,
             json,
             row,
-            source::headers_of(s, x),
-            name,
-            new_name,
+            headers,
+            old.name_in(items),
+            new.name_in(new_items),
             left,
             right,
         ),
@@ -325,17 +368,17 @@ fn put_row(
 }
 
 // The first rows of a list, so many.
-pub fn put_rows(
+pub fn put_rows<'a, 'b>(
     told: Told,
     room: &mut [u8; ROOM],
     patterns: &[u8],
     json: bool,
     list: &[i64],
     count: usize,
-    s: &[u8],
-    x: Shape,
-    u: &[u8],
-    y: Shape,
+    headers: &'a [u8],
+    items: &'a [u8],
+    new_headers: &'b [u8],
+    new_items: &'b [u8],
 ) -> Told {
     let mut next = told;
     let mut left = count;
@@ -350,47 +393,13 @@ pub fn put_rows(
             patterns,
             json,
             say::row_at(list, at),
-            s,
-            x,
-            u,
-            y,
+            headers,
+            items,
+            new_headers,
+            new_items,
         );
-        at = lines::plus(at, 7);
+        at = program_io::plus(at, 7);
         left -= 1;
     }
     next
-}
-
-// A record on one side only.
-pub fn put_alone(
-    out: Out,
-    room: &mut [u8; ROOM],
-    patterns: &[u8],
-    json: bool,
-    record: u64,
-    side: u64,
-    s: &[u8],
-    x: Shape,
-) -> Out {
-    let row = Row {
-        record,
-        part: 10,
-        place: 0,
-        field: 0,
-        side,
-        left: 0,
-        right: 0,
-    };
-    put_line(
-        out,
-        room,
-        patterns,
-        json,
-        row,
-        source::headers_of(s, x),
-        b"",
-        b"",
-        b"",
-        b"",
-    )
 }

@@ -1,6 +1,6 @@
 // A record's formula against its atoms, as a line of JSON.
+use field_symbols::SYMBOLS;
 use formula_drawn::FOUND;
-use formula_text::ELEMENTS;
 use program_io::Out;
 use program_io::Text;
 
@@ -12,21 +12,21 @@ fn of_record(record: usize, word: &[u8]) -> Text {
         .word(word)
 }
 
-// The symbol of an element, in quotes.
-fn with_symbol(text: Text, element: u32) -> Text {
+// The symbol of this number behind a text; nothing where no symbol has it.
+pub fn symbol(text: Text, k: u64) -> Text {
     let mut letters = [b' '; 3];
-    if element == 0 {
+    if k == 0 {
         return text;
     }
-    if element > ELEMENTS {
+    if k > SYMBOLS as u64 {
         return text;
     }
-    field_symbols_put::put_symbol(&mut letters, 0, element);
-    let one = text.byte(b'"').byte(letters[0]);
+    field_symbols_put::put_symbol(&mut letters, 0, k as u32);
+    let one = text.byte(letters[0]);
     if letters[1] == b' ' {
-        return one.byte(b'"');
+        return one;
     }
-    one.byte(letters[1]).byte(b'"')
+    one.byte(letters[1])
 }
 
 // An element that differs: its number, its symbol, how many are written, how many are drawn; a comma before it but for the first.
@@ -36,8 +36,9 @@ fn difference(first: bool, element: u32, written: u32, drawn: u32) -> Text {
     } else {
         Text::new().byte(b',')
     };
-    let named = with_symbol(start.byte(b'[').number(element as u64).byte(b','), element);
-    named
+    let numbered = start.byte(b'[').number(element as u64);
+    symbol(numbered.byte(b',').byte(b'"'), element as u64)
+        .byte(b'"')
         .byte(b',')
         .number(written as u64)
         .byte(b',')

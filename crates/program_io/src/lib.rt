@@ -35,6 +35,21 @@ pub fn tail(buf: &[u8], from: usize) -> &[u8] {
     &buf[..0]
 }
 
+// A sum that stays at the largest number.
+pub fn plus(a: usize, b: usize) -> usize {
+    if usize::MAX - a < b {
+        return usize::MAX;
+    }
+    a + b
+}
+
+pub fn least(a: usize, b: usize) -> usize {
+    if a < b {
+        return a;
+    }
+    b
+}
+
 // A failed read, told from one that a signal interrupted.
 fn why_failed() -> Got {
     if os::errno() == libc::EINTR {
@@ -167,6 +182,13 @@ impl Text {
     pub fn number(self, n: u64) -> Text {
         let mut digits = [0u8; 20];
         let k = io::decimal(n, &mut digits);
+        self.word(&digits[..k])
+    }
+
+    // A byte in two hexadecimal digits.
+    pub fn hex(self, b: u8) -> Text {
+        let mut digits = [0u8; 16];
+        let k = io::hex(b as u64, 2, &mut digits);
         self.word(&digits[..k])
     }
 

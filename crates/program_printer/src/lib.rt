@@ -190,11 +190,12 @@ fn write_canon(way: Way, fd: i32, buf: &mut [u8; BUFFER], records: usize) -> Ver
     write_within(way, fd, buf, &mut room, records)
 }
 
-// From the start again, once the first reading has accepted so many records.
-fn write_again(way: Way, item: &[u8], fd: i32, buf: &mut [u8; BUFFER], records: usize) -> Verdict {
-    if libc::lseek(fd, 0, libc::SEEK_SET) < 0 {
-        return Verdict::Once;
-    }
+// Both readings.
+fn write_judged(way: Way, item: &[u8], fd: i32, buf: &mut [u8; BUFFER]) -> Verdict {
+    let v = program_verdict::judge_first(fd, way.sd, buf, way.progress);
+    let Verdict::Accepted { records } = v else {
+        return v;
+    };
     let task = way.task;
     match task {
         Task::Canon => write_canon(way, fd, buf, records),
@@ -202,19 +203,8 @@ fn write_again(way: Way, item: &[u8], fd: i32, buf: &mut [u8; BUFFER], records: 
     }
 }
 
-fn write_judged(way: Way, item: &[u8], fd: i32, buf: &mut [u8; BUFFER]) -> Verdict {
-    let v = program_verdict::judge(fd, way.sd, buf, way.progress);
-    match v {
-        Verdict::Accepted { records } => write_again(way, item, fd, buf, records),
-        _ => v,
-    }
-}
-
-// An open file: judged, then written. What has no place to go back to, as a pipe, is not read at all.
+// An open file: judged, then written.
 fn write_open(way: Way, item: &[u8], fd: i32) -> Verdict {
-    if libc::lseek(fd, 0, libc::SEEK_CUR) < 0 {
-        return Verdict::Once;
-    }
     let mut buf = [0u8; BUFFER];
     write_judged(way, item, fd, &mut buf)
 }
@@ -254,7 +244,7 @@ pub fn run(task: Task, sd: bool, item: &[u8], from: usize) {
     let progress = program_io::is_argument(from, b"--progress");
     let way = Way { task, sd, progress };
     if progress {
-        write_arguments(way, item, record::plus(from, 1));
+        write_arguments(way, item, program_io::plus(from, 1));
     } else {
         write_arguments(way, item, from);
     }

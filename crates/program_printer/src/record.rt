@@ -18,65 +18,19 @@ use rules::LIMIT;
 use text::LineAt;
 use writer_copy::Copied;
 
-// What is to be done with what stands in the buffer.
-enum Next {
-    Read,
-    Fetch,
-    Copy,
-    Split,
-    Compare,
-    // More has to be read first.
-    Fill,
-    // Nothing is left.
-    End,
-}
-
 // Where the first record of the bytes ends.
 pub enum Ends {
     At { length: usize, lines: usize },
     Beyond,
 }
 
-// A sum that stays at the largest number.
-pub fn plus(a: usize, b: usize) -> usize {
-    if usize::MAX - a < b {
-        return usize::MAX;
-    }
-    a + b
-}
-
-fn by_task(task: Task) -> Next {
-    match task {
-        Task::Readings => Next::Read,
-        Task::Item => Next::Fetch,
-        Task::Canon => Next::Copy,
-        Task::Pieces => Next::Split,
-        Task::Formula => Next::Compare,
-    }
-}
-
-// A molfile is all of its bytes, so its end has to be there before it is read.
-fn next_of(pass: Pass, left: usize) -> Next {
-    let task = pass.task;
-    if pass.ended {
-        if left == 0 {
-            return Next::End;
-        }
-        return by_task(task);
-    }
-    if pass.sd {
-        return by_task(task);
-    }
-    Next::Fill
-}
-
 // The pass behind a record of so many bytes and lines, with its output.
 fn behind(pass: Pass, length: usize, lines: usize, out: Out) -> Stepped {
     if out.good {
         let mut next = pass;
-        next.at = plus(pass.at, length);
-        next.records = plus(pass.records, 1);
-        next.lines = plus(pass.lines, lines);
+        next.at = program_io::plus(pass.at, length);
+        next.records = program_io::plus(pass.records, 1);
+        next.lines = program_io::plus(pass.lines, lines);
         next.out = out;
         return Stepped::Next(next);
     }
@@ -93,8 +47,8 @@ fn refused(no: u8) -> Stepped {
 
 fn place_of(pass: Pass) -> Place {
     Place {
-        record: plus(pass.records, 1),
-        line: plus(pass.lines, 1),
+        record: program_io::plus(pass.records, 1),
+        line: program_io::plus(pass.lines, 1),
     }
 }
 
@@ -136,13 +90,7 @@ fn front_of(place: Place, got: RecordRead) -> Front {
     }
 }
 
-// The record at the front of s, read into the tables. What is promised of them is not asked for here.
-fn read_front(pass: Pass, s: &[u8], atoms: &mut [i32; ATOMS], bonds: &mut [i32; BONDS]) -> Front {
-    let got = reader_record::read_rows(pass.sd, s, atoms, bonds);
-    front_of(place_of(pass), got)
-}
-
-// The record at the front of s, read and written as JSON.
+// The record at the front of s, read and written as JSON. What is promised of the tables is not asked for here.
 fn put_reading(
     pass: Pass,
     s: &[u8],
@@ -150,7 +98,8 @@ fn put_reading(
     atoms: &mut [i32; ATOMS],
     bonds: &mut [i32; BONDS],
 ) -> Stepped {
-    match read_front(pass, s, atoms, bonds) {
+    let got = reader_record::read_rows(pass.sd, s, atoms, bonds);
+    match front_of(place_of(pass), got) {
         Front::Whole { r, lines } => {
             let out = program_json::put_record(pass.out, room, s, r, atoms, bonds);
             behind(pass, r.length, lines, out)
@@ -183,7 +132,7 @@ pub fn first_end(s: &[u8]) -> Ends {
         let LineAt::Line { end, next } = text::line_at(s, at) else {
             return Ends::Beyond;
         };
-        lines = plus(lines, 1);
+        lines = program_io::plus(lines, 1);
         if is_last(program_json::part(s, at, end), lines) {
             return Ends::At {
                 length: next,
@@ -258,7 +207,7 @@ fn put_split(
         &mut sizes,
     ) {
         RecordSplit::Pieces { atoms: n, count } => {
-            let number = plus(pass.records, 1);
+            let number = program_io::plus(pass.records, 1);
             let begun = program_pieces::put_pieces(pass.out, room, number, &heads, &sizes, count);
             let out = program_pieces::put_labels(begun, room, &labels, n);
             behind(pass, length, lines, out)
@@ -306,25 +255,7 @@ fn after_copy(pass: Pass, room: &[u8], copied: Copied) -> Stepped {
     }
 }
 
-// The record at the front of s in its canonical form, into what remains of the room behind `used`.
-fn copy(
-    sd: bool,
-    s: &[u8],
-    room: &mut [u8],
-    used: usize,
-    atoms: &mut [i32; ATOMS],
-    bonds: &mut [i32; BONDS],
-) -> Copied {
-    if room.len() < used {
-        return Copied::Refused {
-            no: 20,
-            line: 0,
-            column: 0,
-        };
-    }
-    writer_copy::copy_rows(sd, s, atoms, bonds, &mut room[used..])
-}
-
+// The record at the front of s in its canonical form, into what remains of the room.
 fn put_copy(
     pass: Pass,
     s: &[u8],
@@ -332,7 +263,11 @@ fn put_copy(
     atoms: &mut [i32; ATOMS],
     bonds: &mut [i32; BONDS],
 ) -> Stepped {
-    let copied = copy(pass.sd, s, room, pass.out.used, atoms, bonds);
+    let used = pass.out.used;
+    if room.len() < used {
+        return make_room(pass, room);
+    }
+    let copied = writer_copy::copy_rows(pass.sd, s, atoms, bonds, &mut room[used..]);
     after_copy(pass, room, copied)
 }
 
@@ -342,25 +277,28 @@ fn told_apart(pass: Pass, agrees: bool) -> Pass {
         return pass;
     }
     let mut next = pass;
-    next.apart = plus(pass.apart, 1);
+    next.apart = program_io::plus(pass.apart, 1);
     next
 }
 
-// The formula of a record that is wholly there. It was accepted, so what is refused is the formula.
-fn put_compared(
+// The formula of the record at the front of s. It was accepted, so what is refused is the formula.
+fn put_formula(
     pass: Pass,
-    record: &[u8],
-    lines: usize,
+    s: &[u8],
     room: &mut [u8],
     atoms: &mut [i32; ATOMS],
     bonds: &mut [i32; BONDS],
 ) -> Stepped {
+    let Ends::At { length, lines } = first_end(s) else {
+        return Stepped::Short;
+    };
+    let record = program_io::front(s, length);
     let mut found = [0u32; FOUND];
-    let number = plus(pass.records, 1);
+    let number = program_io::plus(pass.records, 1);
     match formula_record::compare_formula(record, atoms, bonds, &mut found) {
         Compared::Differ { count } => {
             let out = program_formula::put_differences(pass.out, room, number, count, &found);
-            behind(told_apart(pass, count == 0), record.len(), lines, out)
+            behind(told_apart(pass, count == 0), length, lines, out)
         }
         Compared::Refused {
             no,
@@ -371,35 +309,13 @@ fn put_compared(
                 Stepped::Failed(Verdict::Changed)
             } else {
                 let out = program_formula::put_refused(pass.out, room, number, no);
-                behind(told_apart(pass, false), record.len(), lines, out)
+                behind(told_apart(pass, false), length, lines, out)
             }
         }
     }
 }
 
-fn put_formula(
-    pass: Pass,
-    s: &[u8],
-    room: &mut [u8],
-    atoms: &mut [i32; ATOMS],
-    bonds: &mut [i32; BONDS],
-) -> Stepped {
-    match first_end(s) {
-        Ends::At { length, lines } => {
-            put_compared(
-                pass,
-                program_io::front(s, length),
-                lines,
-                room,
-                atoms,
-                bonds,
-            )
-        }
-        Ends::Beyond => Stepped::Short,
-    }
-}
-
-// The record at the front of s, where one may stand.
+// The record at the front of s, where one may stand. A molfile is all of its bytes, so its end has to be there before it is read.
 pub fn put_next(
     pass: Pass,
     item: &[u8],
@@ -408,13 +324,21 @@ pub fn put_next(
     atoms: &mut [i32; ATOMS],
     bonds: &mut [i32; BONDS],
 ) -> Stepped {
-    match next_of(pass, s.len()) {
-        Next::Read => put_reading(pass, s, room, atoms, bonds),
-        Next::Fetch => put_item(pass, item, s, room),
-        Next::Copy => put_copy(pass, s, room, atoms, bonds),
-        Next::Split => put_split(pass, s, room, atoms, bonds),
-        Next::Compare => put_formula(pass, s, room, atoms, bonds),
-        Next::Fill => Stepped::Short,
-        Next::End => Stepped::Done,
+    if pass.ended {
+        if s.len() == 0 {
+            return Stepped::Done;
+        }
+    } else {
+        if !pass.sd {
+            return Stepped::Short;
+        }
+    }
+    let task = pass.task;
+    match task {
+        Task::Readings => put_reading(pass, s, room, atoms, bonds),
+        Task::Item => put_item(pass, item, s, room),
+        Task::Canon => put_copy(pass, s, room, atoms, bonds),
+        Task::Pieces => put_split(pass, s, room, atoms, bonds),
+        Task::Formula => put_formula(pass, s, room, atoms, bonds),
     }
 }

@@ -1,108 +1,52 @@
 // A scanner log of any length, replayed through one buffer: a JSON line for each count and each skipped event, then the lots and the sums.
 mod lines;
+mod reading;
 
-use lines::SIZE;
+pub use lines::key_of;
 use lines::put_count;
 use lines::put_lots;
 use lines::put_skip;
 use lines::put_sums;
-use program_io::Filled;
 use program_io::Out;
 use program_verdict::Verdict;
+pub use reading::Reading;
+pub use reading::SIZE;
 use store_lots::KEYS;
 use store_lots::LOTS;
 use store_replay::Replay;
 use store_replay::Step;
 
-// No event has more bytes.
-const LONGEST: usize = 15;
-
-// The replay stands at a place of the buffer, of which so many bytes are filled; whether nothing follows them; sums and output so far.
+// The reading, with sums and output so far.
 struct Pass {
-    state: Replay,
-    filled: usize,
-    ended: bool,
+    reading: Reading,
     received: u64,
     issued: u64,
     out: Out,
 }
 
-enum Turn {
-    Next(Pass),
-    End(Pass),
-    Refused { no: u8, event: usize, pass: Pass },
-    Unreadable,
-}
-
-// A sum that stays at the largest number: no log that can be kept anywhere is so long.
-fn plus(sum: u64, quantity: u16) -> u64 {
-    let more = quantity as u64;
-    if u64::MAX - sum < more {
-        return u64::MAX;
-    }
-    sum + more
-}
-
 impl Pass {
-    fn new() -> Pass {
-        Pass {
-            state: Replay::new(),
-            filled: 0,
-            ended: false,
-            received: 0,
-            issued: 0,
-            out: Out::new(libc::STDOUT_FILENO),
-        }
-    }
-
-    // The whole of the next event is in the buffer, or all that there is of it.
-    fn has_event(self) -> bool {
-        if self.ended {
-            return true;
-        }
-        let state = self.state;
-        program_io::has_more(self.filled, state.at, LONGEST)
-    }
-
     fn past(self, next: Replay, received: u16, issued: u16) -> Pass {
-        let out = self.out;
-        Pass {
-            state: next,
-            filled: self.filled,
-            ended: self.ended,
-            received: plus(self.received, received),
-            issued: plus(self.issued, issued),
-            out,
-        }
+        let reading = self.reading;
+        let mut pass = self;
+        pass.reading = reading.past(next);
+        pass.received = program_verdict::plus(self.received, received as u64);
+        pass.issued = program_verdict::plus(self.issued, issued as u64);
+        pass
     }
 
     fn wrote(self, next: Replay, out: Out) -> Pass {
-        Pass {
-            state: next,
-            filled: self.filled,
-            ended: self.ended,
-            received: self.received,
-            issued: self.issued,
-            out,
-        }
+        let reading = self.reading;
+        let mut pass = self;
+        pass.reading = reading.past(next);
+        pass.out = out;
+        pass
     }
 
-    // The rest of the buffer stands at its front, with more behind it.
-    fn refilled(self, filled: usize, ended: bool) -> Pass {
-        let state = self.state;
-        let out = self.out;
-        Pass {
-            state: Replay {
-                at: 0,
-                events: state.events,
-                lots: state.lots,
-            },
-            filled,
-            ended,
-            received: self.received,
-            issued: self.issued,
-            out,
-        }
+    fn over(self, no: u8, event: usize) -> Pass {
+        let reading = self.reading;
+        let mut pass = self;
+        pass.reading = reading.over(no, event);
+        pass
     }
 }
 
@@ -118,12 +62,13 @@ fn take_event(
     keys: &mut [u32; KEYS],
     papers: &mut [u32; LOTS],
     pass: Pass,
-) -> Turn {
-    let state = pass.state;
+) -> Pass {
+    let reading = pass.reading;
+    let state = reading.state;
     match state.next(log, keys, papers) {
-        Step::Received { quantity, next } => Turn::Next(pass.past(next, quantity, 0)),
-        Step::Issued { quantity, next } => Turn::Next(pass.past(next, 0, quantity)),
-        Step::Day { next } => Turn::Next(pass.past(next, 0, 0)),
+        Step::Received { quantity, next } => pass.past(next, quantity, 0),
+        Step::Issued { quantity, next } => pass.past(next, 0, quantity),
+        Step::Day { next } => pass.past(next, 0, 0),
         Step::Counted {
             event,
             lot: _,
@@ -133,56 +78,42 @@ fn take_event(
             next,
         } => {
             let key = key_at(log, state.at);
-            Turn::Next(pass.wrote(next, put_count(pass.out, room, event, key, paper, shelf)))
+            pass.wrote(next, put_count(pass.out, room, event, key, paper, shelf))
         }
         Step::Skipped { no, event, next } => {
             let key = key_at(log, state.at);
-            Turn::Next(pass.wrote(next, put_skip(pass.out, room, event, key, no)))
+            pass.wrote(next, put_skip(pass.out, room, event, key, no))
         }
-        Step::Refused { no, event } => Turn::Refused { no, event, pass },
-        Step::End => Turn::End(pass),
+        Step::Refused { no, event } => pass.over(no, event),
+        Step::End => pass.over(0, 0),
     }
 }
 
-// The rest moved to the front, and more read behind it.
-fn refill(fd: i32, buf: &mut [u8; SIZE], pass: Pass) -> Turn {
-    let state = pass.state;
-    let kept = program_io::keep(buf, state.at, pass.filled);
-    match program_io::fill(fd, buf, kept) {
-        Filled::Bytes(n) => Turn::Next(pass.refilled(n, n < SIZE)),
-        Filled::Failed => Turn::Unreadable,
-    }
-}
-
+// The next event, or more of the log.
 fn take_turn(
-    fd: i32,
     buf: &mut [u8; SIZE],
     room: &mut [u8; SIZE],
     keys: &mut [u32; KEYS],
     papers: &mut [u32; LOTS],
     pass: Pass,
-) -> Turn {
-    if pass.has_event() {
-        let log = program_io::front(buf, pass.filled);
-        return take_event(log, room, keys, papers, pass);
+) -> Pass {
+    let reading = pass.reading;
+    if reading.has_event() {
+        return take_event(reading.log(buf), room, keys, papers, pass);
     }
-    refill(fd, buf, pass)
+    let mut next = pass;
+    next.reading = reading.refill(buf);
+    next
 }
 
 // The end of a replay: lots and sums, and all that is gathered is written; whether all went well.
 fn finish(room: &mut [u8; SIZE], keys: &[u32; KEYS], papers: &[u32; LOTS], pass: Pass) -> bool {
-    let state = pass.state;
+    let reading = pass.reading;
+    let state = reading.state;
     let listed = put_lots(pass.out, room, keys, papers, state.lots);
     let summed = put_sums(listed, room, papers, state, pass.received, pass.issued);
     let done = summed.flush(room);
     done.good
-}
-
-fn verdict(good: bool, said: Verdict) -> Verdict {
-    if good {
-        return said;
-    }
-    Verdict::Unwritten
 }
 
 // An open log. Turns are counted so that the loop ends, and no run uses them up.
@@ -193,31 +124,24 @@ fn replay(
     keys: &mut [u32; KEYS],
     papers: &mut [u32; LOTS],
 ) -> Verdict {
-    let mut pass = Pass::new();
+    let mut pass = Pass {
+        reading: Reading::new(fd),
+        received: 0,
+        issued: 0,
+        out: Out::new(libc::STDOUT_FILENO),
+    };
     let mut turns = u64::MAX;
     while turns > 0 {
-        match take_turn(fd, buf, room, keys, papers, pass) {
-            Turn::Next(p) => {
-                pass = p;
-            }
-            Turn::End(p) => {
-                let state = p.state;
-                let done = Verdict::Accepted {
-                    records: state.events,
-                };
-                return verdict(finish(room, keys, papers, p), done);
-            }
-            Turn::Refused { no, event, pass: p } => {
-                let refused = Verdict::Refused {
-                    no,
-                    line: event,
-                    column: 0,
-                };
-                return verdict(finish(room, keys, papers, p), refused);
-            }
-            Turn::Unreadable => {
+        pass = take_turn(buf, room, keys, papers, pass);
+        let reading = pass.reading;
+        if !reading.on {
+            if reading.failed {
                 return Verdict::Unreadable;
             }
+            if finish(room, keys, papers, pass) {
+                return reading.verdict();
+            }
+            return Verdict::Unwritten;
         }
         turns -= 1;
     }

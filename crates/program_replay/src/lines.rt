@@ -1,13 +1,11 @@
 // The lines of a replay, as JSON. A line is put at a plain place of the room once the room has enough left for any line;
 // the functions that put its parts answer the place behind them.
+use crate::SIZE;
 use program_io::Out;
 use store_lots::KEYS;
 use store_lots::LOTS;
 use store_replay::Replay;
 ghost use Prim.Native.Nat.{_<_};
-
-// The room for output.
-pub const SIZE: usize = 65536;
 
 // No line is longer.
 const LINE: usize = 256;
@@ -24,15 +22,6 @@ fn is_plain(b: u8) -> bool {
         return false;
     }
     b < 127
-}
-
-fn hex(digit: u8) -> u8
-    requires { ⌜ digit < 16 ⌝ }
-{
-    if digit < 10 {
-        return b'0' + digit;
-    }
-    b'a' - 10 + digit
 }
 
 fn put_byte(room: &mut [u8; SIZE], at: usize, b: u8) -> usize {
@@ -69,8 +58,9 @@ fn put_inner(room: &mut [u8; SIZE], at: usize, b: u8) -> usize {
         return put_byte(room, at, b);
     }
     let begun = put_bytes(room, at, b"\\u00");
-    let high = put_byte(room, begun, hex(b / 16));
-    put_byte(room, high, hex(b % 16))
+    let mut digits = [0u8; 16];
+    let k = io::hex(b as u64, 2, &mut digits);
+    put_bytes(room, begun, &digits[..k])
 }
 
 // A name, and the bytes of a string after it.
@@ -143,7 +133,7 @@ fn low(w: u32) -> u8 {
 }
 
 // The twelve bytes of a key from its three words, the low one of each first.
-fn key_of(a: u32, b: u32, c: u32) -> [u8; 12] {
+pub fn key_of(a: u32, b: u32, c: u32) -> [u8; 12] {
     [
         low(a),
         low(a / 256),

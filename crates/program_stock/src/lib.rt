@@ -17,7 +17,6 @@ use store_lots::LOTS;
 use walk::BUFFER;
 use walk::Pass;
 use walk::Task;
-use walk::Walked;
 
 // The arguments: what is written, the two names, the pad byte as a number, the log; then each file, and its name as it was typed.
 const MODE: usize = 2;
@@ -29,7 +28,7 @@ const LOG: usize = 6;
 // No command line has so many files.
 const MANY: u64 = 1048576;
 
-// The argument that is the path of a file; files count from 1.
+// The argument that is the path of a file, before its name; files count from 1.
 fn path_argument(file: u64) -> usize {
     if file < MANY {
         return 5 + 2 * (file as usize);
@@ -48,61 +47,11 @@ fn begin(way: Way, task: Task, lots: usize, out: Out) -> Pass {
         at: 0,
         filled: 0,
         ended: false,
+        state: 0,
     }
 }
 
 // ---- Files
-
-fn next_file(pass: Pass) -> Pass {
-    let join = pass.join;
-    let mut next = pass;
-    next.join = join.file();
-    next
-}
-
-// The first reading of an open file. What has no place to go back to, as a pipe, is not read at all.
-fn judge(fd: i32, buf: &mut [u8; BUFFER]) -> Verdict {
-    if libc::lseek(fd, 0, libc::SEEK_CUR) < 0 {
-        return Verdict::Once;
-    }
-    let v = program_verdict::judge(fd, true, buf, false);
-    if libc::lseek(fd, 0, libc::SEEK_SET) < 0 {
-        return Verdict::Once;
-    }
-    v
-}
-
-// A file that was accepted with so many records has them at the second reading, too.
-fn settled(v: Verdict, records: usize) -> Verdict {
-    let Verdict::Accepted { records: found } = v else {
-        return v;
-    };
-    if found == records {
-        return v;
-    }
-    Verdict::Changed
-}
-
-// An open file: judged, then walked.
-fn walk_open(
-    pass: Pass,
-    buf: &mut [u8; BUFFER],
-    keys: &[u32; KEYS],
-    marks: &mut [u64; MARKS],
-    room: &mut [u8; ROOM],
-) -> Walked {
-    let verdict = judge(pass.fd, buf);
-    let Verdict::Accepted { records } = verdict else {
-        return Walked { pass, verdict };
-    };
-    let walked = walk::walk(pass, buf, keys, marks, room);
-    let behind = walked.pass;
-    let again = walked.verdict;
-    Walked {
-        pass: behind,
-        verdict: settled(again, records),
-    }
-}
 
 // What is said of a file once: with the reading that counts its records; a later one says what failed.
 fn tell(task: Task, path: &[u8], verdict: Verdict) {
@@ -121,7 +70,7 @@ fn tell(task: Task, path: &[u8], verdict: Verdict) {
     }
 }
 
-// A file by its argument. Of a refused one nothing is counted, and it keeps its number.
+// A file by its argument: judged, then walked. Of a refused one nothing is counted, and it keeps its number.
 fn walk_argument(
     i: usize,
     before: Pass,
@@ -130,7 +79,9 @@ fn walk_argument(
     marks: &mut [u64; MARKS],
     room: &mut [u8; ROOM],
 ) -> Pass {
-    let mut pass = next_file(before);
+    let join = before.join;
+    let mut pass = before;
+    pass.join = join.file();
     let task = pass.task;
     let mut path = io::buffer();
     let n = os::arg(i, &mut path);
@@ -138,17 +89,23 @@ fn walk_argument(
         tell(task, b"file name", Verdict::Unreadable);
         return pass;
     }
-    let fd = os::open_read(&path[..n]);
+    let name = program_io::front(&path, n);
+    let fd = os::open_read(name);
     if fd < 0 {
-        tell(task, &path[..n], Verdict::Unreadable);
+        tell(task, name, Verdict::Unreadable);
         return pass;
     }
     pass.fd = fd;
-    let walked = walk_open(pass, buf, keys, marks, room);
-    let verdict = walked.verdict;
-    tell(task, &path[..n], verdict);
+    let verdict = program_verdict::judge_first(fd, true, buf, false);
+    let Verdict::Accepted { records } = verdict else {
+        tell(task, name, verdict);
+        libc::close(fd);
+        return pass;
+    };
+    let walked = walk::walk(pass, buf, keys, marks, room);
+    tell(task, name, walked.verdict(records));
     libc::close(fd);
-    walked.pass
+    walked
 }
 
 fn all_files(
@@ -201,7 +158,7 @@ fn put_lots(
         }
         let row = lines::row_of(i, keys, papers, counts, marks);
         out = lines::put_row(out, room, way, row);
-        if row.is_apart() {
+        if row.line > 0 {
             apart = true;
         }
         paper = program_verdict::plus(paper, row.paper());
@@ -268,7 +225,7 @@ fn announce(good: bool, settled: bool) {
 
 // The totals last, and all that is gathered is written.
 fn finish(out: Out, room: &mut [u8; ROOM], way: Way, totals: [u64; 6], settled: bool) {
-    let told = lines::put_totals(out, room, way, totals);
+    let told = lines::put_row(out, room, way, lines::totals(totals));
     let done = told.flush(room);
     announce(done.good, settled);
 }
@@ -319,18 +276,8 @@ fn join_log(way: Way, fd: i32, path: &[u8]) {
     let replayed = log::read_log(fd, &mut keys, &mut papers, &mut counts);
     let verdict = replayed.verdict;
     program_verdict::tell(path, verdict);
-    match verdict {
-        Verdict::Accepted { records: _ } => {
-            join_files(way, replayed.lots, &keys, &papers, &counts);
-        }
-        Verdict::Refused {
-            no: _,
-            line: _,
-            column: _,
-        } => {
-            join_files(way, replayed.lots, &keys, &papers, &counts);
-        }
-        _ => {}
+    if program_verdict::is_judged(verdict) {
+        join_files(way, replayed.lots, &keys, &papers, &counts);
     }
 }
 

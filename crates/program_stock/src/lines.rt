@@ -1,5 +1,5 @@
-// What is written of the join: JSON, one object a line, or a table for people. Lines are made by patterns, in which a capital letter stands for what is
-// filled in there.
+// What is written of the join: JSON, one object a line, or a table for people. Lines are made by patterns, in which a capital letter or a digit stands for
+// what is filled in there. All but the names of files is short and made by value, so few functions hold the lent room.
 use program_io::Out;
 use program_io::Text;
 use stock_counts::COUNTS;
@@ -7,7 +7,6 @@ use stock_join::Join;
 use stock_join::MARKS;
 use stock_key::Fault;
 use stock_key::KeyRead;
-use store_event::Key;
 use store_lots::KEYS;
 use store_lots::LOTS;
 ghost use Prim.Native.Nat.{_<_};
@@ -21,9 +20,10 @@ pub struct Way {
     pub pad: u8,
 }
 
-// What a line is made of. A lot: its key, the shelf's figure and one at its last count with the paper then, its first record, and as numbers its paper and
-// its records. A record: its place, and its key. The totals: six numbers.
+// What a line is made of, and by which pattern. A lot: its key, the shelf's figure and one at its last count with the paper then, its first record, and as
+// numbers its paper and its records. A record: its place, and its key. The totals: six numbers.
 pub struct Row {
+    pub line: usize,
     key: [u8; 12],
     counted: u32,
     then: u32,
@@ -36,29 +36,20 @@ fn wide(n: u32) -> u64 {
     n as u64
 }
 
-fn low(w: u32) -> u8 {
-    (w % 256) as u8
-}
-
-// The twelve bytes of a key, the low one of each word first.
-fn bytes_of(key: Key) -> [u8; 12] {
-    let a = key.supplier;
-    let b = key.first;
-    let c = key.second;
-    [
-        low(a),
-        low(a / 256),
-        low(a / 65536),
-        low(a / 16777216),
-        low(b),
-        low(b / 256),
-        low(b / 65536),
-        low(b / 16777216),
-        low(c),
-        low(c / 256),
-        low(c / 65536),
-        low(c / 16777216),
-    ]
+// The pattern of a lot: 0 where it is as it should be, or else by whether its last count differs from paper, and whether it has no record.
+fn lot_line(counted: u32, then: u32, records: u64) -> usize {
+    if counted > 0 {
+        if counted - 1 != then {
+            if records == 0 {
+                return 3;
+            }
+            return 2;
+        }
+    }
+    if records == 0 {
+        return 1;
+    }
+    0
 }
 
 pub fn row_of(
@@ -70,18 +61,17 @@ pub fn row_of(
 ) -> Row
     requires { ⌜ i < 512 ⌝ }
 {
-    let key = Key {
-        supplier: keys[i],
-        first: keys[512 + i],
-        second: keys[1024 + i],
-    };
+    let counted = counts[i];
+    let then = counts[512 + i];
+    let records = marks[i];
     Row {
-        key: bytes_of(key),
-        counted: counts[i],
-        then: counts[512 + i],
+        line: lot_line(counted, then, records),
+        key: program_replay::key_of(keys[i], keys[512 + i], keys[1024 + i]),
+        counted,
+        then,
         file: marks[512 + i],
         number: marks[1024 + i],
-        numbers: [wide(papers[i]), marks[i], 0, 0, 0, 0],
+        numbers: [wide(papers[i]), records, 0, 0, 0, 0],
     }
 }
 
@@ -89,206 +79,155 @@ impl Row {
     pub fn paper(self) -> u64 {
         self.numbers[0]
     }
+}
 
-    // The last count differs from paper.
-    fn differs(self) -> bool {
-        if self.counted == 0 {
+fn record_at(place: Join, line: usize, key: [u8; 12]) -> Row {
+    Row {
+        line,
+        key,
+        counted: 0,
+        then: 0,
+        file: place.file,
+        number: place.number,
+        numbers: [0; 6],
+    }
+}
+
+fn reason_of(why: Fault) -> usize
+    ensures { λ r. ⌜ r < 3 ⌝ }
+{
+    match why {
+        Fault::Missing => 0,
+        Fault::TooLong => 1,
+        Fault::Padded => 2,
+    }
+}
+
+// A record that is listed: its lot was never received, or it has no key.
+pub fn listed(place: Join, read: KeyRead) -> Row {
+    let none = [0u8; 12];
+    match read {
+        KeyRead::Key { key } => {
+            let bytes = program_replay::key_of(key.supplier, key.first, key.second);
+            record_at(place, NEVER, bytes)
+        }
+        KeyRead::NoSupplier { why } => record_at(place, KEYLESS + reason_of(why), none),
+        KeyRead::NoLot { why } => record_at(place, KEYLESS + 3 + reason_of(why), none),
+        _ => record_at(place, KEYLESS, none),
+    }
+}
+
+// The last line: lots and their paper, records, those received, never received and without a key.
+pub fn totals(numbers: [u64; 6]) -> Row {
+    Row {
+        line: TOTALS,
+        key: [0; 12],
+        counted: 0,
+        then: 0,
+        file: 0,
+        number: 0,
+        numbers,
+    }
+}
+
+// ---- Patterns
+
+// Behind the four lines of a lot: a record whose lot was never received; the totals; a record without a key, by the six reasons why it has none.
+const NEVER: usize = 4;
+
+const TOTALS: usize = 5;
+
+const KEYLESS: usize = 6;
+
+// Rows of so many bytes, each a text that ends in LF: first for people, then for programs, where there is one line of a lot.
+const WIDTH: usize = 98;
+
+const PATTERNS: [u8; 2058] = *b"\
+    S     LPCDR\n                                                                                      \
+    S     LPCDR  no record\n                                                                           \
+    S     LPCDR  count differs\n                                                                       \
+    S     LPCDR  count differs, no record\n                                                            \
+    F, record N: S L was never received\n                                                              \
+    lots: 0; paper: 1; records: 2, received: 3, never received: 4, without a key: 5\n                  \
+    F, record N: no key: supplier missing\n                                                            \
+    F, record N: no key: supplier too long\n                                                           \
+    F, record N: no key: supplier ends in the pad byte\n                                               \
+    F, record N: no key: lot missing\n                                                                 \
+    F, record N: no key: lot too long\n                                                                \
+    F, record N: no key: lot ends in the pad byte\n                                                    \
+    {\"supplier\":\"S\",\"lot\":\"L\",\"paper\":0,\"counted\":I,\"difference\":J,\"records\":1,\"file\":QFQ,\"record\":N}\n\
+    {\"file\":QFQ,\"record\":N,\"supplier\":\"S\",\"lot\":\"L\",\"never_received\":true}\n                           \
+    {\"lots\":0,\"paper\":1,\"records\":2,\"received\":3,\"never_received\":4,\"no_key\":5}\n                      \
+    {\"file\":QFQ,\"record\":N,\"no_key\":\"supplier missing\"}\n                                              \
+    {\"file\":QFQ,\"record\":N,\"no_key\":\"supplier too long\"}\n                                             \
+    {\"file\":QFQ,\"record\":N,\"no_key\":\"supplier ends in the pad byte\"}\n                                 \
+    {\"file\":QFQ,\"record\":N,\"no_key\":\"lot missing\"}\n                                                   \
+    {\"file\":QFQ,\"record\":N,\"no_key\":\"lot too long\"}\n                                                  \
+    {\"file\":QFQ,\"record\":N,\"no_key\":\"lot ends in the pad byte\"}\n                                      \
+";
+
+// Where a line's pattern begins.
+fn place_of(json: bool, line: usize) -> usize {
+    if 11 < line {
+        return 0;
+    }
+    if json {
+        if line < NEVER {
+            return 12 * WIDTH;
+        }
+        return WIDTH * (line + 9);
+    }
+    WIDTH * line
+}
+
+fn is_mark(b: u8) -> bool {
+    if b < b'A' {
+        if b < b'0' {
             return false;
         }
-        self.counted - 1 != self.then
+        return b <= b'9';
     }
-
-    // A lot that is not as it should be: its last count differs, or it has no record.
-    pub fn is_apart(self) -> bool {
-        if self.numbers[1] == 0 {
-            return true;
-        }
-        self.differs()
-    }
+    b <= b'Z'
 }
 
-// ---- Bytes
+// ---- Keys
 
-fn hex(digit: u8) -> u8
-    requires { ⌜ digit < 16 ⌝ }
-{
-    if digit < 10 {
-        return b'0' + digit;
+// A byte that is not printable, by its number.
+fn numbered(text: Text, json: bool, b: u8) -> Text {
+    if json {
+        return text.word(b"\\u00").hex(b);
     }
-    b'a' - 10 + digit
+    text.word(b"\\x").hex(b)
 }
 
-// A byte that stands for itself.
-fn is_plain(json: bool, b: u8) -> bool {
+// One byte more of a text, in JSON of a string.
+fn with_byte(text: Text, json: bool, b: u8) -> Text {
     if b < 32 {
-        return false;
+        return numbered(text, json, b);
     }
     if 126 < b {
-        return false;
+        return numbered(text, json, b);
     }
     if json {
         if b == b'"' {
-            return false;
-        }
-        return b != b'\\';
-    }
-    true
-}
-
-// A byte by its number, behind these words.
-fn numbered(words: &[u8], b: u8) -> Text {
-    Text::new().word(words).byte(hex(b / 16)).byte(hex(b % 16))
-}
-
-// Any other byte: in a JSON string, or for people by its number.
-fn escaped(json: bool, b: u8) -> Text {
-    if json {
-        if b == b'"' {
-            return Text::new().word(b"\\\"");
+            return text.byte(b'\\').byte(b);
         }
         if b == b'\\' {
-            return Text::new().word(b"\\\\");
+            return text.byte(b'\\').byte(b);
         }
-        return numbered(b"\\u00", b);
     }
-    numbered(b"\\x", b)
+    text.byte(b)
 }
 
-fn put_byte(out: Out, room: &mut [u8], json: bool, b: u8) -> Out {
-    if is_plain(json, b) {
-        return out.byte(room, b);
-    }
-    out.text(room, escaped(json, b))
-}
-
-fn put_bytes(out: Out, room: &mut [u8], json: bool, s: &[u8]) -> Out {
-    let mut next = out;
+fn shown(json: bool, s: &[u8]) -> Text {
+    let mut text = Text::new();
     let mut i: usize = 0;
     while i < s.len() {
-        next = put_byte(next, room, json, s[i]);
+        text = with_byte(text, json, s[i]);
         i += 1;
     }
-    next
+    text
 }
-
-// The argument that is the name of a file; files count from 1.
-fn name_argument(file: u64) -> usize {
-    if file < 1048576 {
-        return 6 + 2 * (file as usize);
-    }
-    0
-}
-
-// The name of a file, as it was typed; a JSON string, or null where there is no file.
-fn put_file(out: Out, room: &mut [u8], json: bool, file: u64) -> Out {
-    if file == 0 {
-        return out.bytes(room, b"null");
-    }
-    let mut name = io::buffer();
-    let n = os::arg(name_argument(file), &mut name);
-    let typed = program_io::front(&name, n);
-    if json {
-        let opened = out.byte(room, b'"');
-        return put_bytes(opened, room, true, typed).byte(room, b'"');
-    }
-    out.bytes(room, typed)
-}
-
-// ---- Figures
-
-// A word of so many bytes ends in the column so many further.
-fn spaces(text: Text, size: usize, width: usize) -> Text {
-    let mut next = text;
-    let mut at = size;
-    while at < width {
-        next = next.byte(b' ');
-        at += 1;
-    }
-    next
-}
-
-fn cell(n: u64, width: usize) -> Text {
-    let mut digits = [0u8; 20];
-    let k = io::decimal(n, &mut digits);
-    spaces(Text::new(), k, width).word(&digits[..k])
-}
-
-fn minus_cell(n: u64, width: usize) -> Text {
-    let mut digits = [0u8; 20];
-    let k = io::decimal(n, &mut digits);
-    spaces(Text::new(), k, width).byte(b'-').word(&digits[..k])
-}
-
-// The shelf's figure at the last count; where there was none, this.
-fn put_count(out: Out, room: &mut [u8], row: Row, none: &[u8], width: usize) -> Out {
-    if row.counted == 0 {
-        return out.bytes(room, none);
-    }
-    out.text(room, cell(wide(row.counted - 1), width))
-}
-
-// Paper minus shelf at the last count, in so many columns, or those without a sign.
-fn put_difference(
-    out: Out,
-    room: &mut [u8],
-    row: Row,
-    none: &[u8],
-    width: usize,
-    unsigned: usize,
-) -> Out {
-    if row.counted == 0 {
-        return out.bytes(room, none);
-    }
-    let shelf = row.counted - 1;
-    if row.then < shelf {
-        return out.text(room, minus_cell(wide(shelf - row.then), unsigned));
-    }
-    out.text(room, cell(wide(row.then - shelf), width))
-}
-
-// What is wrong with a lot, at the end of its line.
-fn marked(row: Row) -> Text {
-    let none = Text::new();
-    if row.numbers[1] == 0 {
-        if row.differs() {
-            return none.word(b"  count differs, no record");
-        }
-        return none.word(b"  no record");
-    }
-    if row.differs() {
-        return none.word(b"  count differs");
-    }
-    none
-}
-
-// Why a record has no key.
-fn reason(k: u64) -> Text {
-    let which = part_of(k);
-    if k % 3 == 0 {
-        return which.word(b" missing");
-    }
-    if k % 3 == 1 {
-        return which.word(b" too long");
-    }
-    which.word(b" ends in the pad byte")
-}
-
-fn part_of(k: u64) -> Text {
-    if k < 3 {
-        return Text::new().word(b"supplier");
-    }
-    Text::new().word(b"lot")
-}
-
-// The number of a record, or null where there is none.
-fn put_record(out: Out, room: &mut [u8], row: Row) -> Out {
-    if row.file == 0 {
-        return out.bytes(room, b"null");
-    }
-    out.text(room, Text::new().number(row.number))
-}
-
-// ---- Lines
 
 // How many bytes of a part of a key are its text: those before the pad bytes at its end.
 fn text_length(part: &[u8], pad: u8) -> usize {
@@ -302,10 +241,66 @@ fn text_length(part: &[u8], pad: u8) -> usize {
     n
 }
 
-// A part of a key without the pad.
-fn put_text(out: Out, room: &mut [u8], way: Way, part: &[u8]) -> Out {
-    let text = program_io::front(part, text_length(part, way.pad));
-    put_bytes(out, room, way.json, text)
+// Supplier or lot: of a lot in the store all bytes, of a record the text.
+fn key_part(way: Way, line: usize, part: &[u8]) -> Text {
+    if line == NEVER {
+        return shown(
+            way.json,
+            program_io::front(part, text_length(part, way.pad)),
+        );
+    }
+    shown(way.json, part)
+}
+
+// ---- Figures
+
+// What stands before a word of so many bytes that ends in this column.
+fn spaces(size: usize, width: usize) -> Text {
+    let mut text = Text::new();
+    let mut at = size;
+    while at < width {
+        text = text.byte(b' ');
+        at += 1;
+    }
+    text
+}
+
+fn cell(minus: bool, n: u64, width: usize) -> Text {
+    let mut digits = [0u8; 20];
+    let k = io::decimal(n, &mut digits);
+    if minus {
+        let before = spaces(program_io::plus(k, 1), width);
+        return before.byte(b'-').word(&digits[..k]);
+    }
+    spaces(k, width).word(&digits[..k])
+}
+
+// What stands for a figure where there is none: in JSON, where columns have no width, null.
+fn no_figure(width: usize) -> Text {
+    if width == 0 {
+        return Text::new().word(b"null");
+    }
+    spaces(1, width).byte(b'-')
+}
+
+// The shelf's figure at the last count.
+fn count(row: Row, width: usize) -> Text {
+    if row.counted == 0 {
+        return no_figure(width);
+    }
+    cell(false, wide(row.counted - 1), width)
+}
+
+// Paper minus shelf at the last count.
+fn difference(row: Row, width: usize) -> Text {
+    if row.counted == 0 {
+        return no_figure(width);
+    }
+    let shelf = row.counted - 1;
+    if row.then < shelf {
+        return cell(true, wide(shelf - row.then), width);
+    }
+    cell(false, wide(row.then - shelf), width)
 }
 
 // One of the six numbers, by its digit.
@@ -317,43 +312,75 @@ fn number_at(row: Row, digit: u8) -> u64 {
     0
 }
 
-// A figure: in a column of the table, or null where there is none; a digit stands for one of the numbers.
-fn put_figure(out: Out, room: &mut [u8], b: u8, row: Row) -> Out {
+// A figure, in a column of the table or without one; a digit stands for one of the numbers.
+fn figure(b: u8, row: Row) -> Text {
     match b {
-        b'P' => out.text(room, cell(row.numbers[0], 9)),
-        b'R' => out.text(room, cell(row.numbers[1], 8)),
-        b'C' => put_count(out, room, row, b"       -", 8),
-        b'D' => put_difference(out, room, row, b"          -", 11, 10),
-        b'I' => put_count(out, room, row, b"null", 0),
-        b'J' => put_difference(out, room, row, b"null", 0, 0),
-        b'N' => put_record(out, room, row),
-        _ => out.text(room, Text::new().number(number_at(row, b))),
+        b'P' => cell(false, row.numbers[0], 9),
+        b'R' => cell(false, row.numbers[1], 8),
+        b'C' => count(row, 8),
+        b'D' => difference(row, 11),
+        b'I' => count(row, 0),
+        b'J' => difference(row, 0),
+        _ => Text::new().number(number_at(row, b)),
     }
 }
 
-// What stands for a capital letter: supplier and lot with all their bytes, or their texts; the file; what is wrong with a lot; why a record has no key.
-fn put_piece(out: Out, room: &mut [u8], b: u8, way: Way, row: Row) -> Out {
+// ---- Lines
+
+// The number of a record, or null where there is none.
+fn record_number(row: Row) -> Text {
+    if row.file == 0 {
+        return Text::new().word(b"null");
+    }
+    Text::new().number(row.number)
+}
+
+// What stands before and behind the name of a file in JSON.
+fn quote(file: u64) -> Text {
+    if file == 0 {
+        return Text::new();
+    }
+    Text::new().byte(b'"')
+}
+
+// What stands for a mark: supplier and lot; the number of a record; a quote; a figure.
+fn piece(b: u8, way: Way, row: Row) -> Text {
     let key = row.key;
     match b {
-        b'S' => put_bytes(out, room, way.json, program_io::front(&key, 4)),
-        b'L' => put_bytes(out, room, way.json, program_io::tail(&key, 4)),
-        b'T' => put_text(out, room, way, program_io::front(&key, 4)),
-        b'U' => put_text(out, room, way, program_io::tail(&key, 4)),
-        b'F' => put_file(out, room, way.json, row.file),
-        b'M' => out.text(room, marked(row)),
-        b'W' => out.text(room, reason(row.numbers[0])),
-        _ => put_figure(out, room, b, row),
+        b'S' => key_part(way, row.line, program_io::front(&key, 4)),
+        b'L' => key_part(way, row.line, program_io::tail(&key, 4)),
+        b'N' => record_number(row),
+        b'Q' => quote(row.file),
+        _ => figure(b, row),
     }
 }
 
-fn is_mark(b: u8) -> bool {
-    if b < b'A' {
-        if b < b'0' {
-            return false;
-        }
-        return b <= b'9';
+// A byte of a name: as it was typed, in JSON of a string.
+fn named(json: bool, b: u8) -> Text {
+    if json {
+        return with_byte(Text::new(), true, b);
     }
-    b <= b'Z'
+    Text::new().byte(b)
+}
+
+fn put_name(out: Out, room: &mut [u8; ROOM], json: bool, name: &[u8]) -> Out {
+    let mut next = out;
+    let mut i: usize = 0;
+    while i < name.len() {
+        next = next.text(room, named(json, name[i]));
+        i += 1;
+    }
+    next
+}
+
+// The name of a file, or null where there is none.
+fn put_file(out: Out, room: &mut [u8; ROOM], json: bool, file: u64) -> Out {
+    if file == 0 {
+        return out.bytes(room, b"null");
+    }
+    let mut name = io::buffer();
+    let n = os::arg(program_io::plus(crate::path_argument(file), 1), &mut name);
+    put_name(out, room, json, program_io::front(&name, n))
 }
 
 fn put_line(out: Out, room: &mut [u8; ROOM], pattern: &[u8], way: Way, row: Row) -> Out {
@@ -361,27 +388,31 @@ fn put_line(out: Out, room: &mut [u8; ROOM], pattern: &[u8], way: Way, row: Row)
     let mut i: usize = 0;
     while i < pattern.len() {
         let b = pattern[i];
-        if is_mark(b) {
-            next = put_piece(next, room, b, way, row);
+        if b == b'F' {
+            next = put_file(next, room, way.json, row.file);
         } else {
-            next = next.byte(room, b);
+            if is_mark(b) {
+                next = next.text(room, piece(b, way, row));
+            } else {
+                next = next.byte(room, b);
+            }
+        }
+        if b == b'\n' {
+            return next;
         }
         i += 1;
     }
     next
 }
 
+// A line by its pattern.
 pub fn put_row(out: Out, room: &mut [u8; ROOM], way: Way, row: Row) -> Out {
-    if way.json {
-        let lot =
-            b"{\"supplier\":\"S\",\"lot\":\"L\",\"paper\":0,\"counted\":I,\"difference\":J,\"records\":1,\"file\":F,\"record\":N}\n";
-        return put_line(out, room, lot, way, row);
-    }
-    put_line(out, room, b"S     LPCDRM\n", way, row)
+    let pattern = program_io::tail(&PATTERNS, place_of(way.json, row.line));
+    put_line(out, room, pattern, way, row)
 }
 
 // The names of the table's columns.
-pub fn put_heading(out: Out, room: &mut [u8], json: bool) -> Out {
+pub fn put_heading(out: Out, room: &mut [u8; ROOM], json: bool) -> Out {
     if json {
         return out;
     }
@@ -389,85 +420,4 @@ pub fn put_heading(out: Out, room: &mut [u8], json: bool) -> Out {
         room,
         b"supplier lot         paper counted difference records\n",
     )
-}
-
-// A record that has no key.
-fn put_keyless(out: Out, room: &mut [u8; ROOM], way: Way, row: Row) -> Out {
-    if way.json {
-        let keyless = b"{\"file\":F,\"record\":N,\"no_key\":\"W\"}\n";
-        return put_line(out, room, keyless, way, row);
-    }
-    put_line(out, room, b"F, record N: no key: W\n", way, row)
-}
-
-// A record whose lot was never received.
-fn put_never(out: Out, room: &mut [u8; ROOM], way: Way, row: Row) -> Out {
-    if way.json {
-        let never =
-            b"{\"file\":F,\"record\":N,\"supplier\":\"T\",\"lot\":\"U\",\"never_received\":true}\n";
-        return put_line(out, room, never, way, row);
-    }
-    put_line(
-        out,
-        room,
-        b"F, record N: T U was never received\n",
-        way,
-        row,
-    )
-}
-
-fn fault_of(why: Fault) -> u64
-    ensures { λ r. ⌜ r < 3 ⌝ }
-{
-    match why {
-        Fault::Missing => 0,
-        Fault::TooLong => 1,
-        Fault::Padded => 2,
-    }
-}
-
-// A record in its place, with the reason why it has no key.
-fn record_at(place: Join, key: [u8; 12], reason: u64) -> Row {
-    Row {
-        key,
-        counted: 0,
-        then: 0,
-        file: place.file,
-        number: place.number,
-        numbers: [reason, 0, 0, 0, 0, 0],
-    }
-}
-
-// A record whose lot was never received, or that has no key.
-pub fn put_listed(out: Out, room: &mut [u8; ROOM], way: Way, place: Join, read: KeyRead) -> Out {
-    let none = [0u8; 12];
-    match read {
-        KeyRead::Key { key } => put_never(out, room, way, record_at(place, bytes_of(key), 0)),
-        KeyRead::NoSupplier { why } => {
-            put_keyless(out, room, way, record_at(place, none, fault_of(why)))
-        }
-        KeyRead::NoLot { why } => {
-            put_keyless(out, room, way, record_at(place, none, 3 + fault_of(why)))
-        }
-        _ => out,
-    }
-}
-
-// The last line: lots and their paper, records, those received, never received and without a key.
-pub fn put_totals(out: Out, room: &mut [u8; ROOM], way: Way, totals: [u64; 6]) -> Out {
-    let row = Row {
-        key: [0; 12],
-        counted: 0,
-        then: 0,
-        file: 0,
-        number: 0,
-        numbers: totals,
-    };
-    if way.json {
-        let line =
-            b"{\"lots\":0,\"paper\":1,\"records\":2,\"received\":3,\"never_received\":4,\"no_key\":5}\n";
-        return put_line(out, room, line, way, row);
-    }
-    let line = b"lots: 0; paper: 1; records: 2, received: 3, never received: 4, without a key: 5\n";
-    put_line(out, room, line, way, row)
 }

@@ -29,7 +29,8 @@ pub enum Task {
     Keyless,
 }
 
-// The bytes from `at` to before `filled` stand in the buffer; the join so far, the lots of the store, and the output.
+// The bytes from `at` to before `filled` stand in the buffer; the join so far, the lots of the store, and the output; and whether the walk goes on, or how it
+// ended.
 pub struct Pass {
     pub fd: i32,
     pub way: Way,
@@ -40,20 +41,49 @@ pub struct Pass {
     pub at: usize,
     pub filled: usize,
     pub ended: bool,
+    pub state: u8,
 }
 
-// What a turn came to.
-enum Turn {
-    Next(Pass),
-    Done(Pass),
-    // The record at `at` is not wholly in the buffer.
-    Short,
-    Failed(Verdict),
-}
+// The states of a walk: it goes on; the record at `at` is not wholly in the buffer; every record is done; or what went wrong.
+const ON: u8 = 0;
 
-pub struct Walked {
-    pub pass: Pass,
-    pub verdict: Verdict,
+const SHORT: u8 = 1;
+
+const DONE: u8 = 2;
+
+const CHANGED: u8 = 3;
+
+const UNWRITTEN: u8 = 4;
+
+const UNREADABLE: u8 = 5;
+
+impl Pass {
+    fn in_state(self, state: u8) -> Pass {
+        let mut next = self;
+        next.state = state;
+        next
+    }
+
+    // The verdict on a file that was accepted with so many records, which it has at the second reading, too.
+    pub fn verdict(self, records: usize) -> Verdict {
+        if self.state == CHANGED {
+            return Verdict::Changed;
+        }
+        if self.state == UNWRITTEN {
+            return Verdict::Unwritten;
+        }
+        if self.state == UNREADABLE {
+            return Verdict::Unreadable;
+        }
+        if self.state == ON {
+            return Verdict::Endless;
+        }
+        let join = self.join;
+        if join.number as usize == records {
+            return Verdict::Accepted { records };
+        }
+        Verdict::Changed
+    }
 }
 
 // Whether a record of this fate is listed.
@@ -88,77 +118,55 @@ fn read_key(pad: u8, record: &[u8]) -> KeyRead {
     stock_key::key_of(record, of_supplier, program_io::front(&lot, m), pad)
 }
 
-// The pass behind a record of so many bytes.
-fn behind(pass: Pass, length: usize, join: Join, out: Out) -> Turn {
-    if out.good {
-        let mut next = pass;
-        next.at = program_verdict::plus(pass.at as u64, length as u64) as usize;
-        next.join = join;
-        next.out = out;
-        return Turn::Next(next);
-    }
-    Turn::Failed(Verdict::Unwritten)
-}
-
-// A record that is wholly there. It was accepted, so it has a key, or a reason why it has none.
-fn take_record(
-    pass: Pass,
-    record: &[u8],
-    keys: &[u32; KEYS],
-    marks: &mut [u64; MARKS],
-    room: &mut [u8; ROOM],
-) -> Turn {
-    let way = pass.way;
-    let read = read_key(way.pad, record);
-    let fate = stock_join::fate_of(read, keys, pass.lots);
-    let before = pass.join;
-    let join = before.next(fate, marks);
-    if join.number == before.number {
-        return Turn::Failed(Verdict::Changed);
-    }
-    let task = pass.task;
-    let out = pass.out;
-    if is_listed(task, fate) {
-        let told = lines::put_listed(out, room, way, join, read);
-        return behind(pass, record.len(), join, told);
-    }
-    behind(pass, record.len(), join, out)
-}
-
-// The record at the front of s, where one may stand.
+// The record at the front of s, if it is wholly there. It was accepted, so it has a key, or a reason why it has none.
 fn take_front(
     pass: Pass,
     s: &[u8],
     keys: &[u32; KEYS],
     marks: &mut [u64; MARKS],
     room: &mut [u8; ROOM],
-) -> Turn {
-    if s.len() == 0 {
-        if pass.ended {
-            return Turn::Done(pass);
-        }
-        return Turn::Short;
+) -> Pass {
+    let Ends::At { length, lines: _ } = program_printer::first_end(s) else {
+        return pass.in_state(SHORT);
+    };
+    let way = pass.way;
+    let read = read_key(way.pad, program_io::front(s, length));
+    let fate = stock_join::fate_of(read, keys, pass.lots);
+    let before = pass.join;
+    let join = before.next(fate, marks);
+    if join.number == before.number {
+        return pass.in_state(CHANGED);
     }
-    match program_printer::first_end(s) {
-        Ends::At { length, lines: _ } => {
-            take_record(pass, program_io::front(s, length), keys, marks, room)
-        }
-        Ends::Beyond => Turn::Short,
+    let task = pass.task;
+    let mut out = pass.out;
+    if is_listed(task, fate) {
+        out = lines::put_row(out, room, way, lines::listed(join, read));
     }
+    if out.good {
+        let mut next = pass;
+        next.at = program_io::plus(pass.at, length);
+        next.join = join;
+        next.out = out;
+        return next;
+    }
+    pass.in_state(UNWRITTEN)
 }
 
 // Where the record is not wholly there, the rest is moved to the front, and more read behind it. One that ends neither in a full buffer nor in the file has
 // changed.
-fn read_on(buf: &mut [u8; BUFFER], pass: Pass, turn: Turn) -> Turn {
-    let Turn::Short = turn else {
-        return turn;
-    };
+fn read_on(buf: &mut [u8; BUFFER], pass: Pass) -> Pass {
+    if pass.state != SHORT {
+        return pass;
+    }
     if pass.ended {
-        return Turn::Failed(Verdict::Changed);
+        if pass.filled <= pass.at {
+            return pass.in_state(DONE);
+        }
+        return pass.in_state(CHANGED);
     }
     if pass.at == 0 {
         if BUFFER <= pass.filled {
-            return Turn::Failed(Verdict::Changed);
+            return pass.in_state(CHANGED);
         }
     }
     let kept = program_io::keep(buf, pass.at, pass.filled);
@@ -168,9 +176,10 @@ fn read_on(buf: &mut [u8; BUFFER], pass: Pass, turn: Turn) -> Turn {
             next.at = 0;
             next.filled = n;
             next.ended = n < BUFFER;
-            Turn::Next(next)
+            next.state = ON;
+            next
         }
-        Filled::Failed => Turn::Failed(Verdict::Unreadable),
+        Filled::Failed => pass.in_state(UNREADABLE),
     }
 }
 
@@ -181,42 +190,21 @@ pub fn walk(
     keys: &[u32; KEYS],
     marks: &mut [u64; MARKS],
     room: &mut [u8; ROOM],
-) -> Walked {
+) -> Pass {
     let mut pass = start;
     pass.at = 0;
     pass.filled = 0;
     pass.ended = false;
+    pass.state = ON;
     let mut turns = u64::MAX;
     while turns > 0 {
         let s = program_json::part(buf, pass.at, pass.filled);
-        let turn = take_front(pass, s, keys, marks, room);
-        match read_on(buf, pass, turn) {
-            Turn::Next(p) => {
-                pass = p;
-            }
-            Turn::Done(p) => {
-                let join = p.join;
-                return Walked {
-                    pass: p,
-                    verdict: Verdict::Accepted {
-                        records: join.number as usize,
-                    },
-                };
-            }
-            Turn::Short => {
-                return Walked {
-                    pass,
-                    verdict: Verdict::Changed,
-                };
-            }
-            Turn::Failed(v) => {
-                return Walked { pass, verdict: v };
-            }
+        pass = take_front(pass, s, keys, marks, room);
+        pass = read_on(buf, pass);
+        if pass.state != ON {
+            return pass;
         }
         turns -= 1;
     }
-    Walked {
-        pass,
-        verdict: Verdict::Endless,
-    }
+    pass
 }

@@ -52,21 +52,6 @@ const ROOM: usize = 1048576;
 
 const BUFFER: usize = ROOM + 1;
 
-// A sum that stays at the largest number.
-fn plus(a: usize, b: usize) -> usize {
-    if usize::MAX - a < b {
-        return usize::MAX;
-    }
-    a + b
-}
-
-fn least(a: usize, b: usize) -> usize {
-    if a < b {
-        return a;
-    }
-    b
-}
-
 fn empty() -> Book {
     Book {
         names: [0u8; NAMES],
@@ -112,7 +97,7 @@ fn count_part(s: &[u8], before: usize, place: Place) -> Place {
             counter,
             kept: place.kept,
             no,
-            record: plus(before, record),
+            record: program_io::plus(before, record),
             book,
         },
     }
@@ -148,7 +133,7 @@ fn next(place: Place) -> Turn {
 
 // The buffer holds n bytes: its whole records are judged and counted.
 fn take_part(buf: &mut [u8], n: usize, place: Place) -> Turn {
-    let part = program_io::front(buf, least(n, ROOM));
+    let part = program_io::front(buf, program_io::least(n, ROOM));
     let before = place.counter;
     match before.take(part, n <= ROOM, ROOM) {
         Fed::More { counter, used } => {
@@ -234,7 +219,7 @@ fn count_open(fd: i32, was: Book) -> Settled {
 
 // The month with a file of this verdict.
 fn with_file(month: Month, settled: Settled) -> Month {
-    let files = plus(month.files, 1);
+    let files = program_io::plus(month.files, 1);
     let verdict = settled.verdict;
     let book = settled.book;
     match verdict {
@@ -245,7 +230,7 @@ fn with_file(month: Month, settled: Settled) -> Month {
         },
         _ => Month {
             files,
-            refused: plus(month.refused, 1),
+            refused: program_io::plus(month.refused, 1),
             book,
         },
     }
@@ -254,8 +239,8 @@ fn with_file(month: Month, settled: Settled) -> Month {
 fn unread(month: Month) -> Month {
     let book = month.book;
     Month {
-        files: plus(month.files, 1),
-        refused: plus(month.refused, 1),
+        files: program_io::plus(month.files, 1),
+        refused: program_io::plus(month.refused, 1),
         book,
     }
 }
@@ -303,7 +288,7 @@ fn count_arguments(from: usize) -> Month {
 // The files that the arguments from `from` on name, perhaps after `--json`; then the report.
 pub fn run(from: usize) {
     if program_io::is_argument(from, b"--json") {
-        lines::write_json(count_arguments(plus(from, 1)));
+        lines::write_json(count_arguments(program_io::plus(from, 1)));
     } else {
         lines::write_report(count_arguments(from));
     }

@@ -7,6 +7,7 @@ use reader_check::Answer;
 use reader_feed::Counter;
 use reader_feed::Fed;
 pub use say::CHANNEL;
+pub use say::is_judged;
 pub use say::report;
 pub use say::tell;
 ghost use Prim.Native.Nat.{_<_};
@@ -51,13 +52,6 @@ enum Told {
 // One line of progress for so many bytes.
 const STRIDE: u64 = 16777216;
 
-fn least(a: usize, b: usize) -> usize {
-    if a < b {
-        return a;
-    }
-    b
-}
-
 // A sum that stays at the largest number.
 pub fn plus(a: u64, b: u64) -> u64 {
     if u64::MAX - a < b {
@@ -95,7 +89,7 @@ fn judge_part(buf: &mut [u8], n: usize, place: Place) -> Turn
     requires { ⌜ 0 < length (now buf) ⌝ }
 {
     let room = buf.len() - 1;
-    let part = program_io::front(buf, least(n, room));
+    let part = program_io::front(buf, program_io::least(n, room));
     match tell_part(place.counter, part, n <= room, room) {
         Told::More { counter, used } => Turn::Next(Place {
             counter,
@@ -192,4 +186,16 @@ pub fn judge(fd: i32, sd: bool, buf: &mut [u8], progress: bool) -> Verdict {
         return judge_records(fd, buf, progress);
     }
     judge_molfile(fd, buf)
+}
+
+// The first of two readings of an open file, after which it stands at its start again. What has no place to go back to, as a pipe, is not read at all.
+pub fn judge_first(fd: i32, sd: bool, buf: &mut [u8], progress: bool) -> Verdict {
+    if libc::lseek(fd, 0, libc::SEEK_CUR) < 0 {
+        return Verdict::Once;
+    }
+    let v = judge(fd, sd, buf, progress);
+    if libc::lseek(fd, 0, libc::SEEK_SET) < 0 {
+        return Verdict::Once;
+    }
+    v
 }

@@ -90,7 +90,7 @@ fn complain(name: &[u8], v: Verdict) {
 }
 
 // Whether a file was read to a verdict on its bytes.
-fn is_judged(v: Verdict) -> bool {
+pub fn is_judged(v: Verdict) -> bool {
     match v {
         Verdict::Accepted { records: _ } => true,
         Verdict::Refused {

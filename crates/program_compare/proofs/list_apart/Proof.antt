@@ -2,18 +2,6 @@ use borrow.Author.Needs.{needs}
 use Rattle.program_compare.specs.Fitting.{fit-small, fit-atoms, fit-bonds}
 use Rattle.program_compare.proofs.list_apart.Statement.{statement}
 use Rattle.program_compare.proofs.list_apart.Tie as tie
-use Rattle.program_compare.proofs.list_apart.Reads as reads
-use Rattle.compare_record.proofs.records_apart.Reads as records-apart-reads
-use Rattle.program_compare.proofs.is_fitting.Reads as is-fitting-reads
-use Rattle.program_compare.proofs.numbers_of.Reads as numbers-of-reads
-use Rattle.program_compare.proofs.source.headers_of.Reads as headers-of-reads
-use Rattle.program_compare.proofs.source.items_of.Reads as items-of-reads
-
-numbers-of-requires : tie.Need-numbers-of-requires
-numbers-of-requires c κs = search needs
-
-numbers-of-requires-2 : tie.Need-numbers-of-requires-2
-numbers-of-requires-2 c κs = search needs
 
 returns : tie.Need-returns
 returns c = search needs
@@ -24,22 +12,10 @@ is-fitting-requires c κs = search needs
 is-fitting-requires-2 : tie.Need-is-fitting-requires-2
 is-fitting-requires-2 c κs = search needs
 
-headers-of-requires : tie.Need-headers-of-requires
-headers-of-requires c κs = search needs
-
-items-of-requires : tie.Need-items-of-requires
-items-of-requires c κs = search needs
-
-headers-of-requires-2 : tie.Need-headers-of-requires-2
-headers-of-requires-2 c κs = search needs
-
-items-of-requires-2 : tie.Need-items-of-requires-2
-items-of-requires-2 c κs = search needs
-
 records-apart-requires : tie.Need-records-apart-requires
 records-apart-requires c κs =
-    let x = c .before .before .before .before .before .before .before .before .is-fitting .ensures in
-    let y = c .before .before .before .before .before .before .is-fitting2 .ensures in (
+    let x = c .before .before .before .before .is-fitting .ensures in
+    let y = c .before .before .is-fitting2 .ensures in (
       (search needs, fit-small _ _ _ _ x (search needs), fit-small _ _ _ _ y (search needs)),
       (fit-atoms _ _ _ _ x (search needs), fit-bonds _ _ _ _ x (search needs), fit-atoms _ _ _ _ y (search needs), fit-bonds _ _ _ _ y (search needs)),
     )
@@ -60,15 +36,9 @@ pub list-apart-spec : {M : Type 1} → statement M
 list-apart-spec =
     tie.close
     (tie.spec
-    numbers-of-requires
-    numbers-of-requires-2
     returns
     is-fitting-requires
     is-fitting-requires-2
-    headers-of-requires
-    items-of-requires
-    headers-of-requires-2
-    items-of-requires-2
     records-apart-requires
     same-length
     returns-2

@@ -24,9 +24,6 @@ row-of-requires c κs = search needs
 put-row-requires : tie.Need-put-row-requires Inv-loop μ-loop
 put-row-requires c κs = search needs
 
-is-apart-requires : tie.Need-is-apart-requires Inv-loop μ-loop
-is-apart-requires c κs = search needs
-
 paper-requires : tie.Need-paper-requires Inv-loop μ-loop
 paper-requires c κs = search needs
 
@@ -56,7 +53,6 @@ put-lots-spec =
     returns
     row-of-requires
     put-row-requires
-    is-apart-requires
     paper-requires
     plus-requires
     add-i

@@ -1,15 +1,8 @@
 use borrow.Author.Needs.{needs}
-use lib.ListN.{length}
 use Prim.Native.Nat.{_-_}
+use lib.ListN.{length}
 use Rattle.program_compare.proofs.tell.put_line.Statement.{statement}
 use Rattle.program_compare.proofs.tell.put_line.Tie as tie
-use Rattle.program_compare.proofs.tell.put_line.Reads as reads
-use Rattle.program_compare.proofs.tell.put_line.Lts as lts
-use Rattle.program_compare.proofs.tell.is_mark.Reads as is-mark-reads
-use Rattle.program_compare.proofs.tell.place_of.Reads as place-of-reads
-use Rattle.program_compare.proofs.tell.put_piece.Reads as put-piece-reads
-use Rattle.program_io.proofs.Out.byte.Reads as byte-reads
-use Rattle.program_io.proofs.tail.Reads as tail-reads
 
 abbrev Inv-loop : tie.InvT-loop
 Inv-loop room₀ patterns json row headers name new-name old new pattern next₀ i₀ room next i = Unit {0}
@@ -29,20 +22,17 @@ loop-holds c = search needs
 shared-slice-read-b : tie.Need-shared-slice-read-b Inv-loop μ-loop
 shared-slice-read-b c = search needs
 
-byte-requires : tie.Need-byte-requires Inv-loop μ-loop
-byte-requires c κs = search needs
-
-returns : tie.Need-returns Inv-loop μ-loop
-returns c = search needs
-
 is-mark-requires : tie.Need-is-mark-requires Inv-loop μ-loop
 is-mark-requires c κs = search needs
 
 put-piece-requires : tie.Need-put-piece-requires Inv-loop μ-loop
 put-piece-requires c κs = search needs
 
-byte-requires-2 : tie.Need-byte-requires-2 Inv-loop μ-loop
-byte-requires-2 c κs = search needs
+byte-requires : tie.Need-byte-requires Inv-loop μ-loop
+byte-requires c κs = search needs
+
+returns : tie.Need-returns Inv-loop μ-loop
+returns c = search needs
 
 add-i : tie.Need-add-i Inv-loop μ-loop
 add-i c = search needs
@@ -66,11 +56,10 @@ put-line-spec =
     tail-requires
     loop-holds
     shared-slice-read-b
-    byte-requires
-    returns
     is-mark-requires
     put-piece-requires
-    byte-requires-2
+    byte-requires
+    returns
     add-i
     loop-less
     loop-again

@@ -1,17 +1,12 @@
 use borrow.Author.Needs.{needs}
 use Rattle.program_compare.proofs.tell.put_rows.Statement.{statement}
 use Rattle.program_compare.proofs.tell.put_rows.Tie as tie
-use Rattle.program_compare.proofs.tell.put_rows.Reads as reads
-use Rattle.program_compare.proofs.tell.put_rows.Lts as lts
-use Rattle.program_compare.proofs.lines.plus.Reads as plus-reads
-use Rattle.program_compare.proofs.say.row_at.Reads as row-at-reads
-use Rattle.program_compare.proofs.tell.put_row.Reads as put-row-reads
 
 abbrev Inv-loop : tie.InvT-loop
-Inv-loop room₀ patterns json list count s x u y next₀ left₀ at₀ room next left at = Unit {0}
+Inv-loop room₀ patterns json list count headers items new-headers new-items next₀ left₀ at₀ room next left at = Unit {0}
 
 abbrev μ-loop : tie.MeasureT-loop
-μ-loop room₀ patterns json list count s x u y next₀ left₀ at₀ room next left at = left
+μ-loop room₀ patterns json list count headers items new-headers new-items next₀ left₀ at₀ room next left at = left
 
 loop-holds : tie.Need-loop-holds Inv-loop μ-loop
 loop-holds c = search needs

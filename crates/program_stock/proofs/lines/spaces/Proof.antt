@@ -4,10 +4,13 @@ use Rattle.program_stock.proofs.lines.spaces.Statement.{statement}
 use Rattle.program_stock.proofs.lines.spaces.Tie as tie
 
 abbrev Inv-loop : tie.InvT-loop
-Inv-loop size width next₀ at₀ next at = Unit {0}
+Inv-loop size width text₀ at₀ text at = Unit {0}
 
 abbrev μ-loop : tie.MeasureT-loop
-μ-loop size width next₀ at₀ next at = width - at
+μ-loop size width text₀ at₀ text at = width - at
+
+new-requires : tie.Need-new-requires Inv-loop μ-loop
+new-requires c κs = search needs
 
 loop-holds : tie.Need-loop-holds Inv-loop μ-loop
 loop-holds c = search needs
@@ -30,4 +33,13 @@ returns c = search needs
 pub spaces-spec : {M : Type 1} → statement M
 spaces-spec =
     tie.close
-    (tie.spec Inv-loop μ-loop loop-holds byte-requires add-at loop-less loop-again returns)
+    (tie.spec
+    Inv-loop
+    μ-loop
+    new-requires
+    loop-holds
+    byte-requires
+    add-at
+    loop-less
+    loop-again
+    returns)

@@ -1,9 +1,6 @@
 use borrow.Author.Needs.{needs}
 use Rattle.program_compare.proofs.lines.Spot.seek.Statement.{statement}
 use Rattle.program_compare.proofs.lines.Spot.seek.Tie as tie
-use Rattle.program_compare.proofs.lines.Spot.seek.Reads as reads
-use Rattle.program_compare.proofs.lines.Spot.is_at.Reads as is-at-reads
-use Rattle.program_compare.proofs.lines.Spot.step.Reads as step-reads
 
 abbrev Inv-loop : tie.InvT-loop
 Inv-loop s item line spot₀ turns₀ spot turns = Unit {0}
