@@ -21,7 +21,7 @@ use Rattle.reader_answer.specs.Told.{whole-raw, whole-lines}
 use Rattle.writer_record.specs.Write.{Given, handed}
 use Rattle.writer_record.specs.Promise.{Accepted}
 use Rattle.writer_copy.specs.Bridge.{givenOf, Front}
-use Rattle.writer_copy.specs.Reading.{front, read-refused}
+use Rattle.writer_copy.specs.WorkTables.{front, read-refused}
 use Rattle.compare_rules.specs.declared.Count.{Count}
 use Rattle.compare_rules.specs.Differences.{recordsApart}
 use Rattle.compare_rules.specs.Log.{Log, log, noted}

@@ -7,7 +7,7 @@ ghost use Rattle.rules.specs.Rows.{rowsOf};
 ghost use Rattle.compare_rules.specs.Along.{along};
 ghost use Rattle.compare_rules.specs.Differences.{figures, row};
 ghost use Rattle.compare_rules.specs.Log.{log, up, putAt, noted, Small};
-ghost use Rattle.compare_tables.specs.Going.{rowOf, tableOf};
+ghost use Rattle.compare_tables.specs.SideBySide.{rowOf, tableOf};
 ghost use Rattle.compare_tables.specs.Smaller.{Smaller};
 use compare_rules::Count;
 use compare_rules::Place;

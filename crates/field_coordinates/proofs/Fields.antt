@@ -14,7 +14,7 @@ use Rattle.text.specs.Agree.{columns-length, columns-step, columns-over, column
 use Rattle.field_numbers.specs.Number.{decimalAfter}
 use Rattle.field_numbers.specs.Read.{isDigit, allDigits, someDigits, afterSpaces, signed}
 use Rattle.field_numbers.specs.Agree.{some-digits}
-use Rattle.field_numbers.specs.Parts.{sizeIn}
+use Rattle.field_numbers.specs.SignSize.{sizeIn}
 use Rattle.field_numbers.specs.declared.Size.{Size}
 use Rattle.field_coordinates.specs.declared.CoordinateRead.{CoordinateRead}
 use Rattle.field_coordinates.specs.declared.CoordinateRead.the-variants.{Is, Malformed}

@@ -19,7 +19,7 @@ use Rattle.text.specs.Agree.{columns-length, columns-step, columns-over, column
 use Rattle.field_numbers.specs.Number.{Digits, Integer, decimalAfter}
 use Rattle.field_numbers.specs.Read.{is, isDigit, allDigits, someDigits, afterSpaces, beforeSpaces, signed, digitsRead, afterBlank, integerIn, ranged, numberIn, signedRanged, signedIn}
 use Rattle.field_numbers.specs.Agree.{integer-read, led, before-ink, spaces-shed, shed-append, shed-front, trailed}
-use Rattle.field_numbers.specs.Parts.{sizeAfter, sizeIn, withSign, sizedFrom, sizedIn, integerOf, LineEnd, ShortNumber}
+use Rattle.field_numbers.specs.SignSize.{sizeAfter, sizeIn, withSign, sizedFrom, sizedIn, integerOf, LineEnd, ShortNumber}
 use Rattle.field_numbers.specs.declared.NumberRead.{NumberRead}
 use Rattle.field_numbers.specs.declared.SignedRead.{SignedRead}
 use Rattle.field_numbers.specs.declared.Size.{Size}

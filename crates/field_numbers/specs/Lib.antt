@@ -3,6 +3,6 @@ pub mod Read
 pub mod Agree
 pub mod Write
 pub mod Written
-pub mod Parts
+pub mod SignSize
 pub mod Signs
 pub mod Samples

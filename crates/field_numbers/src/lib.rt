@@ -4,7 +4,7 @@ ghost use Prim.Native.Nat.{_+_, _-_, _≤_, _<_};
 ghost use lib.ListN.{length};
 ghost use Rattle.text.specs.Columns.{columnsFor};
 ghost use Rattle.field_numbers.specs.Read.{afterSpaces, signed};
-ghost use Rattle.field_numbers.specs.Parts.{sizeIn};
+ghost use Rattle.field_numbers.specs.SignSize.{sizeIn};
 
 // A number of a range without negatives, as columns hold it.
 pub enum NumberRead {

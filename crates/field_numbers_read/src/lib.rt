@@ -6,7 +6,7 @@ ghost use lib.IntN.{pos};
 ghost use lib.ListN.{length};
 ghost use Rattle.text.specs.Columns.{columns, columnsFor};
 ghost use Rattle.field_numbers.specs.Read.{beforeSpaces, is, signed, ranged, numberIn, signedRanged, signedIn};
-ghost use Rattle.field_numbers.specs.Parts.{sizeIn, withSign, sizedFrom, sizedIn, LineEnd, ShortNumber};
+ghost use Rattle.field_numbers.specs.SignSize.{sizeIn, withSign, sizedFrom, sizedIn, LineEnd, ShortNumber};
 use field_numbers::NumberRead;
 use field_numbers::SignedRead;
 use field_numbers::Size;

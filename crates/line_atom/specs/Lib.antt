@@ -1,3 +1,3 @@
 pub mod Answer
-pub mod Parts
+pub mod AtomParts
 pub mod Usual

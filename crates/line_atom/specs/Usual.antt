@@ -15,7 +15,7 @@ use Rattle.judge_line.specs.Field.{spacesFrom}
 use Rattle.judge_line.specs.Judge.{atomOf}
 use Rattle.line_fields.specs.Zeros.{zero-number, zero-narrow}
 use Rattle.line_atom.specs.Answer.{placeGot, placeOf, codesOf, exactOf, atomFrom, atomIs}
-use Rattle.line_atom.specs.Parts.{atom-parts}
+use Rattle.line_atom.specs.AtomParts.{atom-parts}
 use Rattle.line_atom.specs.declared.AtomPlace.{AtomPlace}
 use Rattle.line_atom.specs.declared.PlaceRead.{PlaceRead}
 use Rattle.line_atom.specs.declared.AtomCodes.{AtomCodes}

@@ -11,7 +11,7 @@ use borrow.Author.Tests.{eq-eqb, ne-eqb, le-leb, lt-leb}
 use Rattle.text.specs.Text.{Line}
 use Rattle.text.specs.Find.{isBlank}
 use Rattle.judge_line.specs.Judge.{HeaderRead, named, none, nameOn, opened}
-use Rattle.line_text.specs.Parts.{nameEnds}
+use Rattle.line_text.specs.HeaderParts.{nameEnds}
 use Rattle.line_text.specs.Answer.{nameIn}
 use Rattle.line_text.specs.declared.NameRead.{NameRead}
 

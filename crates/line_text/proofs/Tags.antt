@@ -15,7 +15,7 @@ use Rattle.text.specs.Agree.{columns-after}
 use Rattle.text.specs.Laws.{and-true, eqb-turn, tail-is, true-false, false-true}
 use Rattle.judge_line.specs.Got.{got, bad, need}
 use Rattle.judge_line.specs.Judge.{begins, contains, reserved, firstHeaderOf}
-use Rattle.line_text.specs.Parts.{spaceless, tagged}
+use Rattle.line_text.specs.HeaderParts.{spaceless, tagged}
 
 -- ---- the text at the start of a line
 

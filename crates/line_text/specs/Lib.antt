@@ -1,3 +1,3 @@
 pub mod Answer
-pub mod Parts
+pub mod HeaderParts
 pub mod Within

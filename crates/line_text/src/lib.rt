@@ -10,7 +10,7 @@ ghost use Rattle.text.specs.Find.{isBlank};
 ghost use Rattle.field_numbers.specs.Read.{afterSpaces};
 ghost use Rattle.judge_line.specs.Judge.{begins, firstHeaderOf, isClose, nameOn, opened, headerOf, titleGot, itemOf, notHeader, valueOf};
 ghost use Rattle.line_text.specs.Answer.{headerGot, nameGot, nameIn, itemGot, itemIn, valueGot};
-ghost use Rattle.line_text.specs.Parts.{spaceless, tagged, nameEnds};
+ghost use Rattle.line_text.specs.HeaderParts.{spaceless, tagged, nameEnds};
 
 // What the first header line is found to be.
 pub enum HeaderJudged {

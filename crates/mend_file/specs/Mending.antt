@@ -20,7 +20,7 @@ use Rattle.judge_file.specs.Place.{first, second, third, counts, atoms, bonds, 
 use Rattle.judge_file.specs.Verdict.{accepted, refused, endSDfile, verdict}
 use Rattle.reader_places.specs.declared.Place.{Place}
 use Rattle.reader_places.specs.declared.Place.the-variants as P
-use Rattle.reader_state.specs.Went.{moved}
+use Rattle.reader_state.specs.LineRead.{moved}
 use Rattle.reader_walk.specs.Stands.{placeOf}
 use Rattle.mend_rules.specs.Mend.{Action, keep, put, lose, itemLine, allBlank, some, actionAt, emptied, went, fell, left}
 use Rattle.mend_rules.specs.Named.{Fix, fix, line-put, blank-dropped, lf-added, lineEnd, none, fixesFrom}

@@ -19,10 +19,10 @@ use Rattle.judge_file.specs.Place as J
 use Rattle.judge_file.specs.Place.{first, second, third, counts, atoms, bonds, properties, over, items, values, Turn, next}
 use Rattle.judge_file.specs.WalkText.{afterLines}
 use Rattle.reader_state.specs.declared.Reader.{Reader}
-use Rattle.reader_state.specs.Went as W
-use Rattle.reader_state.specs.Went.{Went, wentOf, tableAt}
+use Rattle.reader_state.specs.LineRead as W
+use Rattle.reader_state.specs.LineRead.{Went, wentOf, tableAt}
 use Rattle.reader_line.specs.declared.Notes.{Notes}
-use Rattle.reader_line.specs.Took.{headedAt, endedAt, atomMore, bondMore}
+use Rattle.reader_line.specs.LineTaken.{headedAt, endedAt, atomMore, bondMore}
 use Rattle.reader_pairs.specs.Keys.{keyOf, SmallEnds}
 use Rattle.reader_walk.specs.Stands as S
 use Rattle.reader_walk.specs.Stands.{atomsIn, bondsIn, moleculeLines, Marks}

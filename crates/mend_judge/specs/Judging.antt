@@ -19,9 +19,9 @@ use Rattle.judge_file.specs.Place as J
 use Rattle.judge_file.specs.Place.{first}
 use Rattle.reader_state.specs.declared.Reader.{Reader}
 use Rattle.reader_state.specs.declared.Step.{Step}
-use Rattle.reader_state.specs.Parts.{begun}
-use Rattle.reader_state.specs.Went as W
-use Rattle.reader_state.specs.Went.{Went, stepGot, wentOf, tableAt, Kept, Sane}
+use Rattle.reader_state.specs.StateParts.{begun}
+use Rattle.reader_state.specs.LineRead as W
+use Rattle.reader_state.specs.LineRead.{Went, stepGot, wentOf, tableAt, Kept, Sane}
 use Rattle.reader_pairs.specs.Keys.{pairKey, keyOf, AllSmall, taken-keys}
 use Rattle.reader_walk.specs.Walking.{counted-sane}
 use Rattle.mend_rules.specs.Mend.{some, leftBy, left}

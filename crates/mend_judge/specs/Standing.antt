@@ -11,8 +11,8 @@ use Rattle.line_property.specs.Listed.{places}
 use Rattle.judge_file.specs.Place as J
 use Rattle.reader_places.specs.declared.Place.the-variants as P
 use Rattle.reader_state.specs.declared.Reader.{Reader}
-use Rattle.reader_state.specs.Went.{moved}
-use Rattle.reader_state.specs.Parts.{begun}
+use Rattle.reader_state.specs.LineRead.{moved}
+use Rattle.reader_state.specs.StateParts.{begun}
 use Rattle.reader_pairs.specs.Keys.{keysOf, AllSmall}
 use Rattle.reader_walk.specs.Stands.{placeOf, bondsIn, Counted}
 use Rattle.mend_rules.specs.Mend.{some, went, fell, left}

@@ -17,7 +17,7 @@ use Rattle.reader_walk.specs.Outcome.{Outcome, refused, ofOne, outcomeOf}
 use Rattle.reader_walk.specs.Walked.{walkedBy, walkOf}
 use Rattle.reader_answer.specs.declared.RecordRead.{RecordRead}
 use Rattle.reader_answer.specs.Read.{answered, readAs, atomsAs, bondsAs, readOf, atomsAfter, bondsAfter}
-use Rattle.reader_answer.specs.Reading.{enough}
+use Rattle.reader_answer.specs.TablesRead.{enough}
 use Rattle.reader_answer.specs.Stretch.{Stretch, stretch-cut, stretch-front}
 use Rattle.reader_answer.specs.Promise.{Reply, Begins, Told}
 use Rattle.reader_answer.specs.Told.{replyOf, told-reply, begins-told, begins-outcome, told-begins, told-order}

@@ -1,5 +1,5 @@
 pub mod Read
-pub mod Reading
+pub mod TablesRead
 pub mod Stretch
 pub mod Promise
 pub mod Told

@@ -24,8 +24,8 @@ use Rattle.reader_walk.specs.Walked.{walkedBy, walkOf}
 use Rattle.reader_walk.specs.Promise.{same-refusal}
 use Rattle.reader_answer.specs.declared.RecordRead.{RecordRead}
 use Rattle.reader_answer.specs.Read.{rowsIn, answered, atomsBy, bondsBy, readAs, atomsAs, bondsAs, readOf, atomsAfter, bondsAfter, RowsLeft}
-use Rattle.reader_answer.specs.Reading.{enough, atoms-enough, bonds-enough, short-atoms, short-bonds, atoms-short, atoms-beside, bonds-beside, bonds-short}
-use Rattle.reader_answer.specs.Reading.{kind-mol, kind-sd, kind-none, atoms-mol, atoms-sd, atoms-none, bonds-mol, bonds-sd, bonds-none}
+use Rattle.reader_answer.specs.TablesRead.{enough, atoms-enough, bonds-enough, short-atoms, short-bonds, atoms-short, atoms-beside, bonds-beside, bonds-short}
+use Rattle.reader_answer.specs.TablesRead.{kind-mol, kind-sd, kind-none, atoms-mol, atoms-sd, atoms-none, bonds-mol, bonds-sd, bonds-none}
 use Rattle.reader_answer.specs.Rows.{cleared-left}
 use Rattle.reader_answer.specs.Promise.{Reply, numbersOf, Begins, Told, Refusal, Roomy, Reads, Untouched, kindNumber, ReadPromise}
 use Rattle.reader_answer.specs.Told.{itemLines, linesOf, replyOf, told-reply, begins-told, begins-outcome, whole-lines, outcome-begins, outcome-refused}

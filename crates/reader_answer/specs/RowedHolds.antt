@@ -28,7 +28,7 @@ use Rattle.reader_walk.specs.Asked.{rowsAsked, asked-start, asked-is, asked-who
 use Rattle.reader_answer.specs.declared.Counted.{Counted}
 use Rattle.reader_answer.specs.declared.RecordRead.{RecordRead}
 use Rattle.reader_answer.specs.Read.{answered, atomsBy, bondsBy, byKind, readAs, atomsAs, bondsAs, readOf, atomsAfter, bondsAfter}
-use Rattle.reader_answer.specs.Reading.{by-none}
+use Rattle.reader_answer.specs.TablesRead.{by-none}
 use Rattle.reader_answer.specs.Promise.{Reply, numbersOf, Begins, Roomy, Reads, Untouched, kindNumber, ReadPromise}
 use Rattle.reader_answer.specs.Promised.{by-room, kind-of, reads, same-read, reads-one}
 use Rattle.reader_answer.specs.Told.{linesOf, begins-outcome, outcome-begins}

@@ -21,7 +21,7 @@ use Rattle.reader_tables.specs.Cleared.{cleared-filled, length-filled, filled-p
 use Rattle.judge_file.specs.Place.{FileKind, molfile, sdfile}
 use Rattle.reader_end.specs.declared.Walked.{Walked}
 use Rattle.reader_walk.specs.Outcome.{Outcome, whole, refused, outcomeOf}
-use Rattle.reader_line.specs.Took.{countsBack}
+use Rattle.reader_line.specs.LineTaken.{countsBack}
 use Rattle.reader_walk.specs.Stands.{kindOf}
 use Rattle.reader_walk.specs.Asked.{rowsAsked}
 use Rattle.reader_walk.specs.Walked.{walkedBy, walkOf, HeldBy, Held, Beside, Left}

@@ -3,4 +3,4 @@ pub mod Walk
 -- The law of the walk
 pub mod After
 -- Laws for the proofs
-pub mod Going
+pub mod FileWalk

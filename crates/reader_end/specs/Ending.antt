@@ -7,7 +7,7 @@ use borrow.Author.Tests.{eq-eqb, ne-eqb}
 use Rattle.line_counts_bonds.specs.declared.Counts.{Counts}
 use Rattle.reader_state.specs.declared.Reader.{Reader}
 use Rattle.reader_places.specs.declared.Finish.{Finish}
-use Rattle.reader_state.specs.Parts.{finished}
+use Rattle.reader_state.specs.StateParts.{finished}
 use Rattle.reader_line.specs.declared.Notes.{Notes}
 use Rattle.reader_end.specs.declared.Walked.{Walked}
 

@@ -1,7 +1,7 @@
 // How the walk over a record's lines ends, and what it then answers.
 ghost use mathlib.Core.Path.{_≡_};
 ghost use Prim.Native.Nat.{_≤_, _<_};
-ghost use Rattle.reader_state.specs.Parts.{finished};
+ghost use Rattle.reader_state.specs.StateParts.{finished};
 ghost use Rattle.reader_end.specs.Ending.{lastOf, endWalked};
 use line_counts_bonds::Counts;
 use reader_line::Notes;

@@ -6,7 +6,7 @@ pub mod Says
 pub mod TooLong
 pub mod Calls
 pub mod Asks
-pub mod Goes
+pub mod OneCall
 pub mod Promise
 pub mod Filled
 pub mod Samples

@@ -15,7 +15,7 @@ use Rattle.reader_feed.specs.Says.{Told, accepted, refused, too-long, co
 use Rattle.reader_feed.specs.TooLong.{TooLong, says-too-long}
 use Rattle.reader_feed.specs.Calls as Calls
 use Rattle.reader_feed.specs.Calls.{numbersOf, as-told, Feeds}
-use Rattle.reader_feed.specs.Goes.{Small, says, Goes, call-goes}
+use Rattle.reader_feed.specs.OneCall.{Small, says, Goes, call-goes}
 
 -- ---- What is to be written, in the words of the rules
 

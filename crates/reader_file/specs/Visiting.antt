@@ -23,7 +23,7 @@ use Rattle.reader_cursor.specs.Walk.{fresh, past}
 use Rattle.reader_cursor.specs.After.{After, after-start, after-good, after-verdict, after-all}
 use Rattle.reader_answer.specs.declared.RecordRead.{RecordRead}
 use Rattle.reader_answer.specs.Read.{rowsIn, answered, atomsBy, bondsBy, readOf, atomsAfter, bondsAfter}
-use Rattle.reader_answer.specs.Reading as R
+use Rattle.reader_answer.specs.TablesRead as R
 use Rattle.reader_answer.specs.Promise.{Begins}
 use Rattle.reader_answer.specs.Told.{linesOf, replyOf, begins-told, begins-outcome, outcome-begins, begins-one, told-begins}
 use Rattle.reader_answer.specs.Promised.{readBack, begins-said, same-read}

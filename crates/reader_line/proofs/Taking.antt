@@ -16,10 +16,10 @@ use Rattle.line_property.specs.Listed.{places}
 use Rattle.reader_tables.specs.Row.{rawRow, SmallAtom}
 use Rattle.reader_state.specs.declared.Reader.{Reader}
 use Rattle.reader_state.specs.declared.Step.{Step}
-use Rattle.reader_state.specs.Went.{Went, stepGot, wentOf, Kept}
+use Rattle.reader_state.specs.LineRead.{Went, stepGot, wentOf, Kept}
 use Rattle.reader_line.specs.declared.Notes.{Notes}
 use Rattle.reader_line.specs.declared.Taken.{Taken}
-use Rattle.reader_line.specs.Took.{headedAt, endedAt, atomMore, takenBy, atomsBy, Ready, Took}
+use Rattle.reader_line.specs.LineTaken.{headedAt, endedAt, atomMore, takenBy, atomsBy, Ready, Took}
 
 module _ (r : Reader) (m : Notes) (next : ℕ) (t : List ℕ) (ta : List ℤ) (l : Line) (x : Step) (t′ : List ℕ) (e : stepGot l x ≡ wentOf r t l) (k : Kept r t l t′)
     (z : length t′ ≡ 3 * places) where

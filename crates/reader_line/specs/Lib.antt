@@ -1,1 +1,1 @@
-pub mod Took
+pub mod LineTaken

@@ -6,7 +6,7 @@ ghost use lib.Seq.{sets};
 ghost use Rattle.rules.specs.Meaning.{bondNumbers};
 ghost use Rattle.rules.specs.Record.{limit};
 ghost use Rattle.line_counts_bonds.specs.Answer.{bondIs};
-ghost use Rattle.reader_line.specs.Took.{noNotes, headedAt, endedAt, atomMore, bondMore, Ready, Took, Keeping};
+ghost use Rattle.reader_line.specs.LineTaken.{noNotes, headedAt, endedAt, atomMore, bondMore, Ready, Took, Keeping};
 use line_counts_bonds::Bond;
 use reader_pairs::KEYS;
 use reader_state::Reader;

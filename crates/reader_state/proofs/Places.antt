@@ -41,8 +41,8 @@ use Rattle.reader_state.specs.declared.Reader.{Reader}
 use Rattle.reader_state.specs.declared.Step.{Step}
 use Rattle.reader_places.specs.declared.LineJudged.{LineJudged}
 use Rattle.reader_places.specs.Places.{bondsOwed, atomsOwed, afterEnd, longestIn, lineGot}
-use Rattle.reader_state.specs.Went.{emptiedBy, Went, on, headed, atom, bond, ended, title, value, blank, done, moved, counted, afterProperty, enteredBy, headerIn, lineIn, wentOf, Kept, Owing, Sane}
-use Rattle.reader_state.specs.Parts.{titleIn, KeptAt}
+use Rattle.reader_state.specs.LineRead.{emptiedBy, Went, on, headed, atom, bond, ended, title, value, blank, done, moved, counted, afterProperty, enteredBy, headerIn, lineIn, wentOf, Kept, Owing, Sane}
+use Rattle.reader_state.specs.StateParts.{titleIn, KeptAt}
 
 -- ---- a step that is no title
 

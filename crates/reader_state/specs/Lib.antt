@@ -1,2 +1,2 @@
-pub mod Went
-pub mod Parts
+pub mod LineRead
+pub mod StateParts

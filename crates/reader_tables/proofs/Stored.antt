@@ -14,7 +14,7 @@ use Rattle.line_fields.specs.Steps.{hop}
 use Rattle.line_atom.specs.Answer.{atomIs}
 use Rattle.line_atom.specs.declared.Atom.{Atom}
 use Rattle.reader_tables.specs.Row.{rawRow}
-use Rattle.reader_tables.specs.Parts.{placeRow, codesRow, restRow}
+use Rattle.reader_tables.specs.RowParts.{placeRow, codesRow, restRow}
 
 -- a signed number as a local holds it
 abbrev pub held : ℤ → ℤ

@@ -1,5 +1,5 @@
 pub mod Row
-pub mod Parts
+pub mod RowParts
 pub mod Small
 pub mod Held
 pub mod Mean

@@ -10,7 +10,7 @@ ghost use Rattle.rules.specs.Record.{limit};
 ghost use Rattle.rules.specs.Meaning.{bondNumbers};
 ghost use Rattle.line_property.specs.Listed.{places};
 ghost use Rattle.reader_tables.specs.Row.{rawRow, SmallAtom, SmallBond};
-ghost use Rattle.reader_tables.specs.Parts.{placeRow, codesRow, restRow, SmallCodes};
+ghost use Rattle.reader_tables.specs.RowParts.{placeRow, codesRow, restRow, SmallCodes};
 ghost use Rattle.reader_tables.specs.Filled.{cleared};
 ghost use Rattle.reader_tables.specs.Mean.{anyAfter, numberKept, chargeBy, radicalBy, massBy, codeIn, Kept, codesIn, supersededIn, meantRow, meant};
 use line_atom::Atom;

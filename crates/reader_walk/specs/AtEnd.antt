@@ -21,14 +21,14 @@ use Rattle.judge_file.specs.WalkText.{afterLines}
 use Rattle.reader_state.specs.declared.Reader.{Reader}
 use Rattle.reader_places.specs.declared.Finish.{Finish}
 use Rattle.reader_places.specs.declared.Place.{Place}
-use Rattle.reader_state.specs.Parts.{finished}
+use Rattle.reader_state.specs.StateParts.{finished}
 use Rattle.reader_places.specs.Places.{finishedAt}
 use Rattle.reader_line.specs.declared.Notes.{Notes}
 use Rattle.reader_end.specs.declared.Walked.{Walked}
 use Rattle.reader_end.specs.Ending.{lastOf, endWalked}
 use Rattle.reader_walk.specs.Outcome.{Outcome, outcomeOf, endAt, recordFrom}
 use Rattle.reader_walk.specs.Asked.{askedFrom, rowsAsked, end-bonds}
-use Rattle.reader_line.specs.Took.{countsBack}
+use Rattle.reader_line.specs.LineTaken.{countsBack}
 use Rattle.reader_walk.specs.Stands.{kindOf, placeOf, Rows, Counted, Marks, atomsIn, bondsIn, moleculeLines}
 use Rattle.reader_walk.specs.Walked.{walkedBy, walkOf, HeldBy, Left, RowsMarked}
 use Rattle.reader_walk.specs.Walking.{Walking, read-asked, rows-by}

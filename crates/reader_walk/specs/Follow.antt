@@ -39,12 +39,12 @@ use Rattle.judge_file.specs.WalkText.{afterLines}
 use Rattle.reader_places.specs.declared.Place.{Place}
 use Rattle.reader_places.specs.declared.Place.the-variants as P
 use Rattle.reader_state.specs.declared.Reader.{Reader}
-use Rattle.reader_state.specs.Went as W
-use Rattle.reader_state.specs.Went.{Went, moved, counted, headerIn, lineIn, wentOf, tableAt, emptiedBy, enteredBy}
+use Rattle.reader_state.specs.LineRead as W
+use Rattle.reader_state.specs.LineRead.{Went, moved, counted, headerIn, lineIn, wentOf, tableAt, emptiedBy, enteredBy}
 use Rattle.reader_places.specs.Places.{bondsOwed, atomsOwed, afterEnd}
 use Rattle.reader_line.specs.declared.Notes.{Notes}
 use Rattle.reader_pairs.specs.Keys.{keyOf, keysOf, SmallEnds, AllSmall, small-more}
-use Rattle.reader_line.specs.Took.{headedAt, endedAt, atomMore, bondMore}
+use Rattle.reader_line.specs.LineTaken.{headedAt, endedAt, atomMore, bondMore}
 use Rattle.reader_walk.specs.Asked.{withOwn, askedAt}
 use Rattle.reader_walk.specs.Stands.{isSd, placeOf, Rows, Listing, Counted, Headed, Marks, Stands, atomsIn, bondsIn, moleculeLines}
 

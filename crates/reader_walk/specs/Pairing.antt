@@ -27,7 +27,7 @@ use Rattle.reader_rows.specs.Marked.{withKey, PairKey}
 use Rattle.reader_rows.specs.Rowed.{Rowed, Asking, Fitting, rowed-size, rowed-past, rowed-asks}
 use Rattle.reader_walk.specs.Outcome.{refused, outcomeOf}
 use Rattle.reader_walk.specs.Asked.{rowsAsked, asked-is}
-use Rattle.reader_line.specs.Took.{bondMore, Took, Keeping}
+use Rattle.reader_line.specs.LineTaken.{bondMore, Took, Keeping}
 use Rattle.reader_walk.specs.Stands.{kindOf}
 use Rattle.reader_walk.specs.Walked.{walkedBy, walkOf, Beside, HeldBy, Left, MarksBy, RowsMarked}
 use Rattle.reader_walk.specs.Walking.{Walking, Bonding, part, bonding}

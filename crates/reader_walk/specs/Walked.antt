@@ -15,7 +15,7 @@ use Rattle.reader_walk.specs.Outcome.{Outcome, whole, refused, outcomeOf
 use Rattle.reader_rows.specs.Says.{rowPlaces}
 use Rattle.reader_rows.specs.Marked.{marked}
 use Rattle.reader_pairs.specs.Keys.{keysOf}
-use Rattle.reader_line.specs.Took.{countsBack}
+use Rattle.reader_line.specs.LineTaken.{countsBack}
 use Rattle.reader_walk.specs.Stands.{Listing, moleculeLines}
 
 -- where the items of a record of k lines end: before the `$$$$` line; a molfile has none

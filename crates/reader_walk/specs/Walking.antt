@@ -33,9 +33,9 @@ use Rattle.judge_file.specs.Sound.{Sound, sound-takes}
 use Rattle.judge_file.specs.Takes.{Takes, turn-takes}
 use Rattle.judge_file.specs.WalkText.{afterLines, after-none, after-next, after-last}
 use Rattle.reader_state.specs.declared.Reader.{Reader}
-use Rattle.reader_state.specs.Went as W
-use Rattle.reader_state.specs.Went.{Went, lineIn, wentOf, tableAt, Sane}
-use Rattle.reader_state.specs.Parts.{begun}
+use Rattle.reader_state.specs.LineRead as W
+use Rattle.reader_state.specs.LineRead.{Went, lineIn, wentOf, tableAt, Sane}
+use Rattle.reader_state.specs.StateParts.{begun}
 use Rattle.reader_places.specs.Places.{longestIn, bondsOwed}
 use Rattle.reader_places.specs.declared.Place.{Place}
 use Rattle.reader_line.specs.declared.Notes.{Notes}
@@ -46,7 +46,7 @@ use Rattle.reader_rows.specs.Says.{rowPlaces, Says}
 use Rattle.reader_rows.specs.Marked.{withKey, PairKey, marked, key-pair}
 use Rattle.reader_rows.specs.Rowed.{Lent, Rowed, Fitting, rowed-start, rowed-more, rowed-size, rowed-past, rowed-fits, rowed-says}
 use Rattle.reader_walk.specs.Outcome.{Outcome, whole, refused, outcomeOf, recordFrom, from-next, from-done, from-bad, outcome-from, mol-open}
-use Rattle.reader_line.specs.Took.{noNotes, bondBack, countsBack, headedAt, endedAt, atomMore, bondMore, takenBy, atomsBy, Ready, Took}
+use Rattle.reader_line.specs.LineTaken.{noNotes, bondBack, countsBack, headedAt, endedAt, atomMore, bondMore, takenBy, atomsBy, Ready, Took}
 use Rattle.reader_walk.specs.Asked.{withOwn, askedAt, askedFrom, askedOf, rowsAsked, asked-next, asked-done, asked-bad, asked-start, asked-is, none-own, whole-record}
 use Rattle.reader_walk.specs.Stands.{isSd, kindOf, placeOf, bondsIn, Counted, Stands}
 use Rattle.reader_walk.specs.Follow.{Onto, Stored, Pending, Closed, Goes, follow}

@@ -16,7 +16,7 @@ use Rattle.store_event.specs.declared.Key.{Key}
 use Rattle.store_event.specs.declared.Scan.{Scan}
 use Rattle.store_event.specs.Scan.{wordAt, halfAt, keyAt, isScan, scanOf, scanAt}
 use Rattle.store_event.specs.Twelve.{AllBytes, Twelve}
-use Rattle.store_event.specs.Reading.{key-is, half-is}
+use Rattle.store_event.specs.EventRead.{key-is, half-is}
 
 abbrev pub scanned : Kind → Key → ℕ → Scan
 scanned Kind.received k q = Scan.Received k q

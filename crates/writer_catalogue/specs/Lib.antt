@@ -1,6 +1,6 @@
 pub mod Sizes
 pub mod Measuring
 pub mod Writing
-pub mod Filling
+pub mod TwoPasses
 -- Samples
 pub mod Samples

@@ -29,7 +29,7 @@ use Rattle.writer_copy.specs.Bridge.{givenOf, Front}
 use Rattle.writer_copy.specs.NeverRefused.{headers-are, items-are, front-parts}
 use Rattle.writer_catalogue.specs.declared.Measured.{Measured}
 use Rattle.writer_answer.specs.Catalogue.{catalogueText, upTo}
-use Rattle.writer_copy.specs.Reading.{front, read-refused}
+use Rattle.writer_copy.specs.WorkTables.{front, read-refused}
 
 -- ---- Lengths as far as the room goes
 

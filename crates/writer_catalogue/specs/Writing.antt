@@ -28,7 +28,7 @@ use Rattle.writer_record.specs.Promise.{Accepted, Promise, accepted-one, accept
 use Rattle.writer_catalogue.specs.declared.Wrote.{Wrote}
 use Rattle.writer_catalogue.specs.declared.Again.{Again}
 use Rattle.writer_copy.specs.Bridge.{givenOf, Front}
-use Rattle.writer_copy.specs.Reading.{front, read-atoms, read-bonds, read-refused}
+use Rattle.writer_copy.specs.WorkTables.{front, read-atoms, read-bonds, read-refused}
 
 -- ---- What remains of the room
 

@@ -20,7 +20,7 @@ ghost use Rattle.writer_record.specs.Measure.{partsSize};
 ghost use Rattle.writer_catalogue.specs.Sizes.{Measurable, measuredBy};
 ghost use Rattle.writer_catalogue.specs.Measuring.{concludeBy};
 ghost use Rattle.writer_catalogue.specs.Writing.{Handed, Put, Known, ReadAgain, Next, WroteNext};
-ghost use Rattle.writer_catalogue.specs.Filling.{FileFits, textIn};
+ghost use Rattle.writer_catalogue.specs.TwoPasses.{FileFits, textIn};
 ghost use Rattle.writer_answer.specs.CataloguePromise.{Promise};
 
 // A record at the front of a text: its bytes and lines, and how long the text of all records up to it is. What is longer than the room counts as one more

@@ -1,5 +1,5 @@
 pub mod Bridge
-pub mod Reading
+pub mod WorkTables
 pub mod NeverRefused
 pub mod Most
 pub mod Copying

@@ -4,5 +4,5 @@ pub mod Lines
 -- Laws for the proofs
 pub mod Signs
 pub mod Zeros
-pub mod Parts
+pub mod LineParts
 pub mod Walks

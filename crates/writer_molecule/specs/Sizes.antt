@@ -20,7 +20,7 @@ use Rattle.writer_lines.specs.Lines.{atomLine, bondLine}
 use Rattle.writer_molecule.specs.Properties.{kindOf, entriesAt, linesText, propertiesText, Eight}
 use Rattle.writer_lines.specs.Walks.{atom-long, bond-long, lines-length}
 use Rattle.writer_molecule.specs.Listing.{lines-next, line-length, eight-few, eight-full}
-use Rattle.writer_lines.specs.Parts.{counts-length}
+use Rattle.writer_lines.specs.LineParts.{counts-length}
 use Rattle.writer_molecule.specs.Body.{bodyLines, bodyText, restText, restSize, bodySize}
 
 -- ---- The lines of a kind

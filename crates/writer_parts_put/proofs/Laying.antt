@@ -15,7 +15,7 @@ use Rattle.writer_parts.specs.NeverRefused.{never-closed, title-taken, value-ta
 use Rattle.writer_parts.specs.Lengths.{title-length, name-length}
 use Rattle.writer_parts.specs.declared.Place.{Place}
 use Rattle.writer_lines.specs.Laid.{Laid, Field, laid-join}
-use Rattle.writer_lines.specs.Parts.{laid-one}
+use Rattle.writer_lines.specs.LineParts.{laid-one}
 use Rattle.writer_parts_put.specs.Put.{Fitting, PutTo}
 use Rattle.writer_parts_put.specs.declared.Put.{Put}
 

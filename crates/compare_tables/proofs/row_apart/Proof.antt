@@ -1,7 +1,7 @@
 use borrow.Author.Needs.{needs}
 use Prim.Native.Nat.{_-_}
 use lib.ListN.{length}
-use Rattle.compare_tables.specs.Going.{Rowing, row-laws}
+use Rattle.compare_tables.specs.SideBySide.{Rowing, row-laws}
 use Rattle.compare_tables.proofs.row_apart.Statement.{statement}
 use Rattle.compare_tables.proofs.row_apart.Tie as tie
 use Rattle.compare_tables.proofs.row_apart.Reads as reads

@@ -1,7 +1,7 @@
 use borrow.Author.Needs.{needs}
 use native.Mathlib.Omega.{arith}
 use Prim.Native.Nat.{_-_}
-use Rattle.compare_tables.specs.Going.{Tabling, table-laws, row-inside}
+use Rattle.compare_tables.specs.SideBySide.{Tabling, table-laws, row-inside}
 use Rattle.compare_tables.proofs.table_apart.Statement.{statement}
 use Rattle.compare_tables.proofs.table_apart.Tie as tie
 use Rattle.compare_tables.proofs.table_apart.Reads as reads

@@ -1,6 +1,6 @@
 -- `line_atom::atom_line` meets its contract.
 use borrow.Author.Needs.{needs}
-use Rattle.line_atom.specs.Parts.{atom-steps}
+use Rattle.line_atom.specs.AtomParts.{atom-steps}
 use Rattle.line_atom.specs.Usual.{atom-plain}
 use Rattle.line_atom.proofs.atom_line.Statement.{statement}
 use Rattle.line_atom.proofs.atom_line.Tie as tie

@@ -2,7 +2,7 @@
 use borrow.Author.Needs.{needs}
 use Rattle.line_fields.specs.Steps.{steps}
 use Rattle.line_atom.specs.Answer.{placeOf}
-use Rattle.line_atom.specs.Parts.{position-steps, position-held}
+use Rattle.line_atom.specs.AtomParts.{position-steps, position-held}
 use Rattle.line_atom.proofs.atom_place.Statement.{statement}
 use Rattle.line_atom.proofs.atom_place.Tie as tie
 

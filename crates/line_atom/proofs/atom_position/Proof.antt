@@ -1,6 +1,6 @@
 -- `line_atom::atom_position` meets its contract.
 use borrow.Author.Needs.{needs}
-use Rattle.line_atom.specs.Parts.{position-usual}
+use Rattle.line_atom.specs.AtomParts.{position-usual}
 use Rattle.line_atom.proofs.atom_position.Statement.{statement}
 use Rattle.line_atom.proofs.atom_position.Tie as tie
 

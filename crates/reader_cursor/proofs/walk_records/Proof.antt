@@ -2,7 +2,7 @@
 use borrow.Author.Needs.{needs}
 use Prim.Native.Nat.{_-_}
 use lib.ListN.{length}
-use Rattle.reader_cursor.specs.Going.{Going, going-laws}
+use Rattle.reader_cursor.specs.FileWalk.{Going, going-laws}
 use Rattle.reader_cursor.proofs.walk_records.Statement.{statement}
 use Rattle.reader_cursor.proofs.walk_records.Tie as tie
 

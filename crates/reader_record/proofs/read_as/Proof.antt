@@ -1,5 +1,5 @@
 -- `reader_record::read_as` meets its contract.
-use Rattle.reader_answer.specs.Reading.{room-laws}
+use Rattle.reader_answer.specs.TablesRead.{room-laws}
 use Rattle.reader_rows.specs.Rowed.{lent-none}
 use borrow.Author.Needs.{needs}
 use Rattle.reader_record.proofs.read_as.Statement.{statement}

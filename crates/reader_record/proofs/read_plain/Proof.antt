@@ -1,6 +1,6 @@
 -- `reader_record::read_plain` meets its contract.
 use Rattle.reader_answer.specs.Promised.{promise-laws}
-use Rattle.reader_answer.specs.Reading.{kind-laws}
+use Rattle.reader_answer.specs.TablesRead.{kind-laws}
 use borrow.Author.Needs.{needs}
 use Rattle.reader_record.proofs.read_plain.Statement.{statement}
 use Rattle.reader_record.proofs.read_plain.Tie as tie

@@ -1,6 +1,6 @@
 -- `reader_record::read_rows` meets its contract.
 use Rattle.reader_answer.specs.Rows.{rows-laws}
-use Rattle.reader_answer.specs.Reading.{room-laws}
+use Rattle.reader_answer.specs.TablesRead.{room-laws}
 use Rattle.reader_rows.specs.Rowed.{lent-none}
 use borrow.Author.Needs.{needs}
 use Rattle.reader_record.proofs.read_rows.Statement.{statement}

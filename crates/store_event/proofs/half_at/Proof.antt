@@ -1,5 +1,5 @@
 -- `store_event::half_at` meets its contract.
-use Rattle.store_event.specs.Reading.{number-laws}
+use Rattle.store_event.specs.EventRead.{number-laws}
 use borrow.Author.Needs.{needs}
 use Rattle.store_event.proofs.half_at.Statement.{statement}
 use Rattle.store_event.proofs.half_at.Tie as tie

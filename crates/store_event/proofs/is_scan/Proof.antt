@@ -1,5 +1,5 @@
 -- `store_event::is_scan` meets its contract.
-use Rattle.store_event.specs.Reading.{tests}
+use Rattle.store_event.specs.EventRead.{tests}
 use Rattle.store_event.specs.Scan.{isScan}
 use borrow.Author.Needs.{needs}
 use Rattle.store_event.proofs.is_scan.Statement.{statement}

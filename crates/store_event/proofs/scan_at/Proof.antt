@@ -1,5 +1,5 @@
 -- `store_event::scan_at` meets its contract.
-use Rattle.store_event.specs.Reading.{scan-laws}
+use Rattle.store_event.specs.EventRead.{scan-laws}
 use borrow.Author.Needs.{needs}
 use Rattle.store_event.proofs.scan_at.Statement.{statement}
 use Rattle.store_event.proofs.scan_at.Tie as tie

@@ -1,5 +1,5 @@
 -- `store_event::scan_of` meets its contract.
-use Rattle.store_event.specs.Reading.{tests}
+use Rattle.store_event.specs.EventRead.{tests}
 use Rattle.store_event.specs.Scan.{scanOf}
 use borrow.Author.Needs.{needs}
 use Rattle.store_event.proofs.scan_of.Statement.{statement}

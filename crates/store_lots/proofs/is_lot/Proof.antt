@@ -1,5 +1,5 @@
 -- `store_lots::is_lot` meets its contract.
-use Rattle.store_event.specs.Reading.{tests}
+use Rattle.store_event.specs.EventRead.{tests}
 use Rattle.store_lots.specs.Memory.{sameKeyAt}
 use borrow.Author.Needs.{needs}
 use Rattle.store_lots.proofs.is_lot.Statement.{statement}

@@ -1,5 +1,5 @@
 -- `store_lots::paper_at` meets its contract.
-use Rattle.store_event.specs.Reading.{tests}
+use Rattle.store_event.specs.EventRead.{tests}
 use Rattle.store_lots.specs.Memory.{paperAt}
 use borrow.Author.Needs.{needs}
 use Rattle.store_lots.proofs.paper_at.Statement.{statement}

@@ -1,6 +1,6 @@
 -- `writer_catalogue::fill_room` meets its contract.
 use borrow.Author.Needs.{needs}
-use Rattle.writer_catalogue.specs.Filling.{passed-fits, passed-answer, passed-room, stopped-answer, stopped-room}
+use Rattle.writer_catalogue.specs.TwoPasses.{passed-fits, passed-answer, passed-room, stopped-answer, stopped-room}
 use Rattle.reader_walk.specs.Walked.{beside-join}
 use Rattle.writer_catalogue.proofs.fill_room.Statement.{statement}
 use Rattle.writer_catalogue.proofs.fill_room.Tie as tie

@@ -1,6 +1,6 @@
 -- `writer_catalogue::measure_next` meets its contract.
 use borrow.Author.Needs.{needs}
-use Rattle.writer_copy.specs.Reading.{read-atoms, read-bonds}
+use Rattle.writer_copy.specs.WorkTables.{read-atoms, read-bonds}
 use Rattle.writer_catalogue.specs.Sizes.{next-headers, next-items, next-items-end, next-measurable, next-whole, next-refused}
 use Rattle.writer_catalogue.proofs.measure_next.Statement.{statement}
 use Rattle.writer_catalogue.proofs.measure_next.Tie as tie

@@ -2,7 +2,7 @@
 use borrow.Author.Needs.{needs}
 use Prim.Native.Nat.{_-_}
 use lib.ListN.{length}
-use Rattle.writer_catalogue.specs.Filling.{Filling, filling-laws}
+use Rattle.writer_catalogue.specs.TwoPasses.{Filling, filling-laws}
 use Rattle.writer_catalogue.proofs.write_file.Statement.{statement}
 use Rattle.writer_catalogue.proofs.write_file.Tie as tie
 

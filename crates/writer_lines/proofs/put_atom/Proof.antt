@@ -1,6 +1,6 @@
 -- `writer_lines::put_atom` meets its contract.
 use borrow.Author.Needs.{needs}
-use Rattle.writer_lines.specs.Parts.{atom-parts, atom-plain}
+use Rattle.writer_lines.specs.LineParts.{atom-parts, atom-plain}
 use Rattle.writer_lines.proofs.put_atom.Statement.{statement}
 use Rattle.writer_lines.proofs.put_atom.Tie as tie
 

@@ -1,6 +1,6 @@
 -- `writer_lines::put_bond` meets its contract.
 use borrow.Author.Needs.{needs}
-use Rattle.writer_lines.specs.Parts.{bond-parts, bond-plain}
+use Rattle.writer_lines.specs.LineParts.{bond-parts, bond-plain}
 use Rattle.writer_lines.proofs.put_bond.Statement.{statement}
 use Rattle.writer_lines.proofs.put_bond.Tie as tie
 

@@ -2,7 +2,7 @@
 use borrow.Author.Needs.{needs}
 use Prim.Native.Nat.{_-_}
 use lib.ListN.{length}
-use Rattle.writer_lines.specs.Parts.{Copying, copying-laws}
+use Rattle.writer_lines.specs.LineParts.{Copying, copying-laws}
 use Rattle.writer_lines.proofs.put_bytes.Statement.{statement}
 use Rattle.writer_lines.proofs.put_bytes.Tie as tie
 

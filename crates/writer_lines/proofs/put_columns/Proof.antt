@@ -1,7 +1,7 @@
 -- `writer_lines::put_columns` meets its contract.
 use borrow.Author.Needs.{needs}
 use Prim.Native.Nat.{_-_}
-use Rattle.writer_lines.specs.Parts.{Columns, columns-laws}
+use Rattle.writer_lines.specs.LineParts.{Columns, columns-laws}
 use Rattle.writer_lines.proofs.put_columns.Statement.{statement}
 use Rattle.writer_lines.proofs.put_columns.Tie as tie
 

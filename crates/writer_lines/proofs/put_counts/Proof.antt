@@ -1,6 +1,6 @@
 -- `writer_lines::put_counts` meets its contract.
 use borrow.Author.Needs.{needs}
-use Rattle.writer_lines.specs.Parts.{counts-parts}
+use Rattle.writer_lines.specs.LineParts.{counts-parts}
 use Rattle.writer_lines.proofs.put_counts.Statement.{statement}
 use Rattle.writer_lines.proofs.put_counts.Tie as tie
 

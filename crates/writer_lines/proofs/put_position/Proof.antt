@@ -1,6 +1,6 @@
 -- `writer_lines::put_position` meets its contract.
 use borrow.Author.Needs.{needs}
-use Rattle.writer_lines.specs.Parts.{line-parts}
+use Rattle.writer_lines.specs.LineParts.{line-parts}
 use Rattle.writer_lines.proofs.put_position.Statement.{statement}
 use Rattle.writer_lines.proofs.put_position.Tie as tie
 

@@ -1,6 +1,6 @@
 -- `writer_lines::put_stereo` meets its contract.
 use borrow.Author.Needs.{needs}
-use Rattle.writer_lines.specs.Parts.{stereo-parts}
+use Rattle.writer_lines.specs.LineParts.{stereo-parts}
 use Rattle.writer_lines.proofs.put_stereo.Statement.{statement}
 use Rattle.writer_lines.proofs.put_stereo.Tie as tie
 

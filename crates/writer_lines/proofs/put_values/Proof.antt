@@ -1,6 +1,6 @@
 -- `writer_lines::put_values` meets its contract.
 use borrow.Author.Needs.{needs}
-use Rattle.writer_lines.specs.Parts.{values-parts}
+use Rattle.writer_lines.specs.LineParts.{values-parts}
 use Rattle.writer_lines.proofs.put_values.Statement.{statement}
 use Rattle.writer_lines.proofs.put_values.Tie as tie
 

@@ -1,6 +1,6 @@
 -- `reader_cursor::Cursor::stop` meets its contract.
 use borrow.Author.Needs.{needs}
-use Rattle.reader_cursor.specs.Going.{step-laws}
+use Rattle.reader_cursor.specs.FileWalk.{step-laws}
 use Rattle.reader_cursor.proofs.Cursor.stop.Statement.{statement}
 use Rattle.reader_cursor.proofs.Cursor.stop.Tie as tie
 

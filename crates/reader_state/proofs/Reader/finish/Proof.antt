@@ -1,6 +1,6 @@
 -- `reader_state::Reader::finish` meets its contract.
 use borrow.Author.Needs.{needs}
-use Rattle.reader_state.specs.Parts.{finished}
+use Rattle.reader_state.specs.StateParts.{finished}
 use Rattle.reader_state.proofs.Reader.finish.Statement.{statement}
 use Rattle.reader_state.proofs.Reader.finish.Tie as tie
 

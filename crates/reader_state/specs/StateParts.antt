@@ -12,7 +12,7 @@ use Rattle.reader_places.specs.declared.Finish.{Finish}
 use Rattle.reader_places.specs.Places.{finishedAt}
 use Rattle.reader_state.specs.declared.Reader.{Reader}
 use Rattle.reader_state.specs.declared.Step.{Step}
-use Rattle.reader_state.specs.Went.{Went, lineIn, tableAt}
+use Rattle.reader_state.specs.LineRead.{Went, lineIn, tableAt}
 
 -- the state before the first line
 abbrev pub begun : Bool → Reader

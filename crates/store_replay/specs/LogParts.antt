@@ -9,7 +9,7 @@ use Rattle.store_log.specs.Store.{Store, Told, eventOn}
 use Rattle.store_log.specs.Replay.{replayFrom}
 use Rattle.store_log.specs.Read.{replayLog}
 use Rattle.store_log.specs.OneReading.{read-logged}
-use Rattle.store_log.specs.Parts.{Enough, Begun, part-event, part-close}
+use Rattle.store_log.specs.LogParts.{Enough, Begun, part-event, part-close}
 use Rattle.store_lots.specs.Memory.{Words}
 use Rattle.store_lots.specs.Holds.{HoldsFrom, Holds}
 use Rattle.store_replay.specs.declared.Replay.{Replay}

@@ -15,7 +15,7 @@ use Rattle.line_counts_bonds.specs.declared.Bond.{Bond}
 use Rattle.line_property.specs.Listed.{places}
 use Rattle.reader_tables.specs.Row.{rawRow, SmallAtom, SmallBond}
 use Rattle.reader_state.specs.declared.Reader.{Reader}
-use Rattle.reader_state.specs.Went.{Went, on, headed, atom, bond, ended, title, value, blank, done, wentOf, Kept, Sane}
+use Rattle.reader_state.specs.LineRead.{Went, on, headed, atom, bond, ended, title, value, blank, done, wentOf, Kept, Sane}
 use Rattle.reader_line.specs.declared.Notes.{Notes}
 use Rattle.reader_line.specs.declared.Taken.{Taken}
 

@@ -11,7 +11,7 @@ use Rattle.reader_walk.specs.Outcome.{refused, outcomeOf}
 use Rattle.reader_walk.specs.Walked.{walkOf, Beside}
 use Rattle.reader_answer.specs.declared.RecordRead.{RecordRead}
 use Rattle.reader_answer.specs.Read.{answered, readAs, RowsLeft}
-use Rattle.reader_answer.specs.Reading.{enough}
+use Rattle.reader_answer.specs.TablesRead.{enough}
 use Rattle.reader_answer.specs.Rows.{RowsPromise}
 use Rattle.writer_copy.specs.Bridge as B
 use Rattle.writer_copy.specs.Bridge.{Front, walked-refused}
