@@ -1,7 +1,10 @@
 // The reading of a record as JSON, gathered for a descriptor.
+mod bounds;
 mod listing;
 mod strings;
 
+pub use bounds::Ends;
+pub use bounds::first_end;
 use listing::put_items;
 use program_io::Out;
 use program_io::Text;

@@ -6,8 +6,6 @@ use program_io::Out;
 use program_json_rows::ATOMS;
 use program_json_rows::BONDS;
 use program_verdict::Verdict;
-pub use record::Ends;
-pub use record::first_end;
 
 // Every record as JSON; the item of a name; the canonical text; the pieces; the formula against the atoms.
 pub enum Task {

@@ -4,9 +4,9 @@ use crate::Stepped;
 use crate::Task;
 use formula_drawn::FOUND;
 use formula_record::Compared;
-use line_text::ItemRead;
 use piece_record::RecordSplit;
 use program_io::Out;
+use program_json::Ends;
 use program_json::Place;
 use program_json::Reading;
 use program_json_rows::ATOMS;
@@ -15,14 +15,7 @@ use program_verdict::Verdict;
 use reader_look::Looked;
 use reader_record::RecordRead;
 use rules::LIMIT;
-use text::LineAt;
 use writer_copy::Copied;
-
-// Where the first record of the bytes ends.
-pub enum Ends {
-    At { length: usize, lines: usize },
-    Beyond,
-}
 
 // The pass behind a record of so many bytes and lines, with its output.
 fn behind(pass: Pass, length: usize, lines: usize, out: Out) -> Stepped {
@@ -108,43 +101,6 @@ fn put_reading(
     }
 }
 
-// Whether so many lines of an accepted record are all: its three header lines may hold anything, no other line but the last is a `$$$$` line.
-fn is_last(line: &[u8], lines: usize) -> bool {
-    if lines < 4 {
-        return false;
-    }
-    // Most lines are told by their first byte.
-    if text::column(line, 1) != b'$' {
-        return false;
-    }
-    match line_text::item_line(line) {
-        ItemRead::Close => true,
-        _ => false,
-    }
-}
-
-// Of a record that was accepted. A line has at least one byte, so the bytes are more turns than are needed.
-pub fn first_end(s: &[u8]) -> Ends {
-    let mut at: usize = 0;
-    let mut lines: usize = 0;
-    let mut turns = s.len();
-    while turns > 0 {
-        let LineAt::Line { end, next } = text::line_at(s, at) else {
-            return Ends::Beyond;
-        };
-        lines = program_io::plus(lines, 1);
-        if is_last(program_json::part(s, at, end), lines) {
-            return Ends::At {
-                length: next,
-                lines,
-            };
-        }
-        at = next;
-        turns -= 1;
-    }
-    Ends::Beyond
-}
-
 // The item of the record at the front of s. The record was judged at the first reading, so that it is only looked through.
 fn put_item(pass: Pass, item: &[u8], s: &[u8], room: &mut [u8]) -> Stepped {
     let place = place_of(pass);
@@ -174,7 +130,7 @@ fn kind_of(sd: bool) -> u8 {
 // Where the record at the front of s ends: a molfile's is all of s.
 fn record_end(sd: bool, s: &[u8]) -> Ends {
     if sd {
-        return first_end(s);
+        return program_json::first_end(s);
     }
     Ends::At {
         length: s.len(),
@@ -289,7 +245,7 @@ fn put_formula(
     atoms: &mut [i32; ATOMS],
     bonds: &mut [i32; BONDS],
 ) -> Stepped {
-    let Ends::At { length, lines } = first_end(s) else {
+    let Ends::At { length, lines } = program_json::first_end(s) else {
         return Stepped::Short;
     };
     let record = program_io::front(s, length);

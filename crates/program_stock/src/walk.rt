@@ -4,7 +4,7 @@ use crate::lines::ROOM;
 use crate::lines::Way;
 use program_io::Filled;
 use program_io::Out;
-use program_printer::Ends;
+use program_json::Ends;
 use program_verdict::Verdict;
 use stock_join::Fate;
 use stock_join::Join;
@@ -126,7 +126,7 @@ fn take_front(
     marks: &mut [u64; MARKS],
     room: &mut [u8; ROOM],
 ) -> Pass {
-    let Ends::At { length, lines: _ } = program_printer::first_end(s) else {
+    let Ends::At { length, lines: _ } = program_json::first_end(s) else {
         return pass.in_state(SHORT);
     };
     let way = pass.way;

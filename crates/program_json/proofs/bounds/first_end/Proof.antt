@@ -1,6 +1,6 @@
 use borrow.Author.Needs.{needs}
-use Rattle.program_printer.proofs.record.first_end.Statement.{statement}
-use Rattle.program_printer.proofs.record.first_end.Tie as tie
+use Rattle.program_json.proofs.bounds.first_end.Statement.{statement}
+use Rattle.program_json.proofs.bounds.first_end.Tie as tie
 
 abbrev Inv-loop : tie.InvT-loop
 Inv-loop s at₀ lines₀ turns₀ at lines turns = Unit {0}
