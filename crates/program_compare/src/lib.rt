@@ -130,17 +130,27 @@ fn rows_of(way: Way, seen: usize) -> usize {
     seen
 }
 
-// A record on one side only, 1 or 2.
-fn alone(record: u64, side: u64) -> Row {
-    Row {
-        record,
+// A record that one file alone has: the first, side 1, or the second, side 2.
+fn put_alone(
+    sum: Sum,
+    room: &mut [u8; ROOM],
+    patterns: &[u8],
+    json: bool,
+    side: u64,
+    headers: &[u8],
+) -> Sum {
+    let row = Row {
+        record: program_verdict::plus(sum.records, 1),
         part: 10,
         place: 0,
         field: 0,
         side,
         left: 0,
         right: 0,
-    }
+    };
+    let begun = sum.out;
+    let out = tell::put_plain(begun, room, patterns, json, row, headers);
+    sum.with(out, 1)
 }
 
 // The differences at a place of both files, window after window; one of them may have no record there. Turns are counted so that the loop ends, and no run
@@ -163,17 +173,13 @@ fn put_place(
     let number = program_verdict::plus(sum.records, 1);
     let headers = program_io::front(s, x.header_end);
     let new_headers = program_io::front(u, y.header_end);
-    let begun = sum.out;
     if x.length == 0 {
-        let row = alone(number, 2);
-        let out = tell::put_plain(begun, room, patterns, way.json, row, new_headers);
-        return sum.with(out, 1);
+        return put_alone(sum, room, patterns, way.json, 2, new_headers);
     }
     if y.length == 0 {
-        let row = alone(number, 1);
-        let out = tell::put_plain(begun, room, patterns, way.json, row, headers);
-        return sum.with(out, 1);
+        return put_alone(sum, room, patterns, way.json, 1, headers);
     }
+    let begun = sum.out;
     let position = number as usize;
     let items = source::items_of(s, x);
     let new_items = source::items_of(u, y);

@@ -17,26 +17,14 @@ front-requires c κs = search needs
 front-requires-2 : tie.Need-front-requires-2 Inv-loop μ-loop
 front-requires-2 c κs = search needs
 
-alone-requires : tie.Need-alone-requires Inv-loop μ-loop
-alone-requires c κs = search needs
-
-put-plain-requires : tie.Need-put-plain-requires Inv-loop μ-loop
-put-plain-requires c κs = search needs
-
-with-requires : tie.Need-with-requires Inv-loop μ-loop
-with-requires c κs = search needs
+put-alone-requires : tie.Need-put-alone-requires Inv-loop μ-loop
+put-alone-requires c κs = search needs
 
 returns : tie.Need-returns Inv-loop μ-loop
 returns c = search needs
 
-alone-requires-2 : tie.Need-alone-requires-2 Inv-loop μ-loop
-alone-requires-2 c κs = search needs
-
-put-plain-requires-2 : tie.Need-put-plain-requires-2 Inv-loop μ-loop
-put-plain-requires-2 c κs = search needs
-
-with-requires-2 : tie.Need-with-requires-2 Inv-loop μ-loop
-with-requires-2 c κs = search needs
+put-alone-requires-2 : tie.Need-put-alone-requires-2 Inv-loop μ-loop
+put-alone-requires-2 c κs = search needs
 
 returns-2 : tie.Need-returns-2 Inv-loop μ-loop
 returns-2 c = search needs
@@ -68,8 +56,8 @@ put-rows-requires c κs = search needs
 plus-requires-2 : tie.Need-plus-requires-2 Inv-loop μ-loop
 plus-requires-2 c κs = search needs
 
-with-requires-3 : tie.Need-with-requires-3 Inv-loop μ-loop
-with-requires-3 c κs = search needs
+with-requires : tie.Need-with-requires Inv-loop μ-loop
+with-requires c κs = search needs
 
 returns-3 : tie.Need-returns-3 Inv-loop μ-loop
 returns-3 c = search needs
@@ -77,8 +65,8 @@ returns-3 c = search needs
 plus-requires-3 : tie.Need-plus-requires-3 Inv-loop μ-loop
 plus-requires-3 c κs = search needs
 
-with-requires-4 : tie.Need-with-requires-4 Inv-loop μ-loop
-with-requires-4 c κs = search needs
+with-requires-2 : tie.Need-with-requires-2 Inv-loop μ-loop
+with-requires-2 c κs = search needs
 
 returns-4 : tie.Need-returns-4 Inv-loop μ-loop
 returns-4 c = search needs
@@ -98,13 +86,9 @@ put-place-spec =
     plus-requires
     front-requires
     front-requires-2
-    alone-requires
-    put-plain-requires
-    with-requires
+    put-alone-requires
     returns
-    alone-requires-2
-    put-plain-requires-2
-    with-requires-2
+    put-alone-requires-2
     returns-2
     items-of-requires
     items-of-requires-2
@@ -115,10 +99,10 @@ put-place-spec =
     rows-of-requires
     put-rows-requires
     plus-requires-2
-    with-requires-3
+    with-requires
     returns-3
     plus-requires-3
-    with-requires-4
+    with-requires-2
     returns-4
     loop-less
     loop-again)
