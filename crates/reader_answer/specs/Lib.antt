@@ -8,4 +8,3 @@ pub mod Promised
 pub mod Rowed
 pub mod RowedHolds
 pub mod Follows
-pub mod Samples
