@@ -1,7 +1,7 @@
 -- Two records read and compared: laws for the code.
 use Prim.Native.Nat.{ℕ, _-_, _*_, _≤_, _<_, _^_}
 use native.Mathlib.Omega.{arith}
-use mathlib.Core.Path.{_≡_, sym, ap, ap₂, _∙_}
+use mathlib.Core.Path.{_≡_, refl, sym, ap, ap₂, _∙_}
 use mathlib.Core.List.{List, []}
 use lib.ListN.{length, take, drop}
 use lib.IntN.{ℤ}
@@ -29,6 +29,7 @@ use Rattle.compare_items.specs.Part.{part-items}
 use Rattle.compare_record.specs.declared.Numbers.{Numbers}
 use Rattle.compare_record.specs.Numbers.{SmallNumbers}
 use Rattle.compare_record.specs.Heads.{headersOf, headers-are, readingOf}
+use Rattle.compare_files.specs.declared.Shape.{Shape}
 use Rattle.compare_files.specs.declared.Taken.{Taken}
 use Rattle.compare_files.specs.declared.Pair.{Pair}
 use Rattle.compare_files.specs.Compare.{Work, work}
@@ -48,21 +49,56 @@ accepted-reading g x a =
     (part-items (g .items) (a .items .0) (x .items) (a .items .1) (a .items .2))
     ∙ sym (a .tables)
 
--- r is the reading of a record at the front of t, whose rows stand in ta and tb
-pub record Read (r : RecordRead) (t : Bytes) (ta tb : List ℤ) : Type 0 where
-  pub good : (e i c : ℕ) → r ≡ RecordRead.Refused e i c → ⊥
-  pub front : (n m chiral len k h a b : ℕ) → r ≡ RecordRead.Read n m chiral len k h a b → Front sdfile t ta tb n m chiral len k h a b
+-- a reading as a shape
+pub shapeOf : RecordRead → Shape
+shapeOf (RecordRead.Read n m chiral len k h a b) =
+    record {
+      numbers = record { n = n; m = m; chiral = chiral };
+      taken = record { bytes = len; lines = k };
+      headers = h;
+      from = a;
+      to = b;
+    }
+shapeOf (RecordRead.Refused e i c) =
+    record {
+      numbers = record { n = 0; m = 0; chiral = 0 };
+      taken = record { bytes = 0; lines = 0 };
+      headers = 0;
+      from = 0;
+      to = 0;
+    }
+
+pub shape-read : (x : RecordRead) (n m chiral len k h a b : ℕ) → x ≡ RecordRead.Read n m chiral len k h a b →
+    _≡_ {A = Shape} (record { numbers = record { n = n; m = m; chiral = chiral }; taken = record { bytes = len; lines = k }; headers = h; from = a; to = b }) (shapeOf x)
+unfolding shapeOf
+shape-read x n m chiral len k h a b q = sym (ap shapeOf q)
+
+pub shape-refused : (x : RecordRead) (e i c : ℕ) → x ≡ RecordRead.Refused e i c →
+    _≡_ {A = Shape} (record { numbers = record { n = 0; m = 0; chiral = 0 }; taken = record { bytes = 0; lines = 0 }; headers = 0; from = 0; to = 0 }) (shapeOf x)
+unfolding shapeOf
+shape-refused x e i c q = sym (ap shapeOf q)
+
+pub ruleset shape-laws = (shape-read, shape-refused)
+
+-- s is the shape of a record at the front of t, whose rows stand in ta and tb
+Shaped : Shape → Bytes → List ℤ → List ℤ → Type 0
+Shaped s t ta tb =
+    Front sdfile t ta tb (s .numbers .n) (s .numbers .m) (s .numbers .chiral) (s .taken .bytes) (s .taken .lines) (s .headers) (s .from) (s .to)
+
+-- r is the reading of that record
+pub Read : RecordRead → Bytes → List ℤ → List ℤ → Type 0
+Read r t ta tb = Shaped (shapeOf r) t ta tb
 
 read-is : (t : Bytes) (ta tb ta′ tb′ : List ℤ) → Roomy ta tb → RowsPromise sdfile t ta tb ta′ tb′ → (x : Raw) (k : ℕ) → outcomeOf sdfile t ≡ whole x k →
     (r : RecordRead) → r ≡ readAs sdfile (length ta) (length tb) t → Read r t ta′ tb′
-read-is t ta tb ta′ tb′ y p x k o r er =
-    record {
-      good = λ e i c q.
-          let z : whole x k ≡ refused e i c = sym o ∙ read-refused t ta tb ta′ tb′ (y .atoms) (y .bonds) p r er e i c q in
-          let n : _≡_ {A = ℕ} 0 1 = cc in
-          omega arith;
-      front = λ n m chiral len k h a b q. front t ta tb ta′ tb′ (y .atoms) (y .bonds) p r er n m chiral len k h a b q;
-    }
+unfolding shapeOf Shaped Read
+read-is t ta tb ta′ tb′ y p x k o (RecordRead.Read n m chiral len j h a b) er =
+    front t ta tb ta′ tb′ (y .atoms) (y .bonds) p (RecordRead.Read n m chiral len j h a b) er n m chiral len j h a b refl
+read-is t ta tb ta′ tb′ y p x k o (RecordRead.Refused e i c) er =
+    absurd (
+    let z : whole x k ≡ refused e i c = sym o ∙ read-refused t ta tb ta′ tb′ (y .atoms) (y .bonds) p (RecordRead.Refused e i c) er e i c refl in
+    let n : _≡_ {A = ℕ} 0 1 = cc in
+    omega arith)
 
 -- ---- Two of them
 
@@ -72,68 +108,61 @@ pub record Paired (position : ℕ) (t u : Bytes) (g : Log) (l : List ℤ) (r : P
   pub right : (y : Raw) (k : ℕ) → outcomeOf sdfile u ≡ whole y k → (r .right .bytes ≡ afterLines u 0 k) × (r .right .lines ≡ k)
   pub same : (x y : Raw) (k j : ℕ) → outcomeOf sdfile t ≡ whole x k → outcomeOf sdfile u ≡ whole y j → log l (r .count) ≡ noted g (recordsApart position (meaning x) (meaning y))
 
--- records that begin the texts are read
-pub never-old : (position : ℕ) (x : RecordRead) (t u : Bytes) (ta tb : List ℤ) (g : Log) (l : List ℤ) (r : Pair) → Read x t ta tb → (e i c : ℕ) → x ≡ RecordRead.Refused e i c →
-    Paired position t u g l r
-never-old position x t u ta tb g l r p e i c q = absurd (p .good e i c q)
+module _ (r : RecordRead) (s : Shape) (e : s ≡ shapeOf r) (t : Bytes) (ta tb : List ℤ) (p : Read r t ta tb) where
+  it : Front sdfile t ta tb (s .numbers .n) (s .numbers .m) (s .numbers .chiral) (s .taken .bytes) (s .taken .lines) (s .headers) (s .from) (s .to)
+  unfolding Shaped Read
+  it = rw e p
 
-pub never-new : (position : ℕ) (y : RecordRead) (t u : Bytes) (ua ub : List ℤ) (g : Log) (l : List ℤ) (r : Pair) → Read y u ua ub → (e i c : ℕ) → y ≡ RecordRead.Refused e i c →
-    Paired position t u g l r
-never-new position y t u ua ub g l r p e i c q = absurd (p .good e i c q)
+  pub pair-headers : s .headers ≤ length t
+  pair-headers = it .headers-end
 
-module _ (r : RecordRead) (t : Bytes) (ta tb : List ℤ) (p : Read r t ta tb) where
-  module _ (n m chiral len k h a b : ℕ) (q : r ≡ RecordRead.Read n m chiral len k h a b) where
-    it : Front sdfile t ta tb n m chiral len k h a b
-    it = p .front n m chiral len k h a b q
+  pub pair-items : s .from ≤ s .to
+  pair-items = it .items-start
 
-    pub pair-headers : h ≤ length t
-    pair-headers = it .headers-end
+  pub pair-items-end : s .to ≤ length t
+  pair-items-end = it .items-end
 
-    pub pair-items : a ≤ b
-    pair-items = it .items-start
+  few : (s .numbers .n ≤ limit) × (s .numbers .m ≤ limit) × (s .numbers .chiral ≤ 1)
+  few =
+      let w = it .accepted .writable in
+      let e = it .accepted .tables in
+      (omega (arith, w .n, ap (λ (z : Reading). z .n) e), omega (arith, w .m, ap (λ (z : Reading). z .m) e), omega (arith, w .chiral, ap (λ (z : Reading). z .chiral) e))
 
-    pub pair-items-end : b ≤ length t
-    pair-items-end = it .items-end
+  pub pair-small : SmallNumbers (s .numbers)
+  pair-small = let f = few in record { n = omega (arith, f .0); m = omega (arith, f .1); chiral = omega (arith, f .2) }
 
-    few : (n ≤ limit) × (m ≤ limit) × (chiral ≤ 1)
-    few =
-        let w = it .accepted .writable in
-        let e = it .accepted .tables in
-        (omega (arith, w .n, ap (λ (z : Reading). z .n) e), omega (arith, w .m, ap (λ (z : Reading). z .m) e), omega (arith, w .chiral, ap (λ (z : Reading). z .chiral) e))
+  pub pair-atoms : 16 * s .numbers .n ≤ length ta
+  pair-atoms = omega (arith, few .0, it .accepted .roomy .atoms)
 
-    pub pair-small : SmallNumbers (record { n = n; m = m; chiral = chiral })
-    pair-small = let f = few in record { n = omega (arith, f .0); m = omega (arith, f .1); chiral = omega (arith, f .2) }
+  pub pair-bonds : 6 * s .numbers .m ≤ length tb
+  pair-bonds = omega (arith, few .1, it .accepted .roomy .bonds)
 
-    pub pair-atoms : 16 * n ≤ length ta
-    pair-atoms = omega (arith, few .0, it .accepted .roomy .atoms)
+  told : readingOf (take (s .headers - 0) (drop 0 t)) (s .numbers) ta tb (take (s .to - s .from) (drop (s .from) t)) ≡ meaning (it .x)
+  told =
+      accepted-reading
+      (givenOf t ta tb (s .numbers .n) (s .numbers .m) (s .numbers .chiral) (s .headers) (s .from) (s .to))
+      (meaning (it .x))
+      (it .accepted)
 
-    pub pair-bonds : 6 * m ≤ length tb
-    pair-bonds = omega (arith, few .1, it .accepted .roomy .bonds)
-
-    told : readingOf (take (h - 0) (drop 0 t)) (record { n = n; m = m; chiral = chiral }) ta tb (take (b - a) (drop a t)) ≡ meaning (it .x)
-    told = accepted-reading (givenOf t ta tb n m chiral h a b) (meaning (it .x)) (it .accepted)
-
-pub pair-done : (position : ℕ) (x y : RecordRead) (t u : Bytes) (ta tb ua ub : List ℤ) → Read x t ta tb → Read y u ua ub →
-    (n m chiral len k h a b : ℕ) → x ≡ RecordRead.Read n m chiral len k h a b →
-    (n′ m′ chiral′ len′ k′ h′ a′ b′ : ℕ) → y ≡ RecordRead.Read n′ m′ chiral′ len′ k′ h′ a′ b′ →
-    (g : Log) (l : List ℤ) (c : Count) →
+pub pair-done : (position : ℕ) (r r′ : RecordRead) (x y : Shape) → x ≡ shapeOf r → y ≡ shapeOf r′ → (t u : Bytes) (ta tb ua ub : List ℤ) → Read r t ta tb →
+    Read r′ u ua ub → (g : Log) (l : List ℤ) (c : Count) →
     log l c ≡ noted g (recordsApart position
-    (readingOf (take (h - 0) (drop 0 t)) (record { n = n; m = m; chiral = chiral }) ta tb (take (b - a) (drop a t)))
-    (readingOf (take (h′ - 0) (drop 0 u)) (record { n = n′; m = m′; chiral = chiral′ }) ua ub (take (b′ - a′) (drop a′ u)))) →
-    Paired position t u g l (record { left = record { bytes = len; lines = k }; right = record { bytes = len′; lines = k′ }; count = c })
-pair-done position x y t u ta tb ua ub p q n m chiral len k h a b e n′ m′ chiral′ len′ k′ h′ a′ b′ e′ g l c s =
-    let f = it x t ta tb p n m chiral len k h a b e in
-    let f′ = it y u ua ub q n′ m′ chiral′ len′ k′ h′ a′ b′ e′ in
+    (readingOf (take (x .headers - 0) (drop 0 t)) (x .numbers) ta tb (take (x .to - x .from) (drop (x .from) t)))
+    (readingOf (take (y .headers - 0) (drop 0 u)) (y .numbers) ua ub (take (y .to - y .from) (drop (y .from) u)))) →
+    Paired position t u g l (record { left = x .taken; right = y .taken; count = c })
+pair-done position r r′ x y e e′ t u ta tb ua ub p q g l c s =
+    let f = it r x e t ta tb p in
+    let f′ = it r′ y e′ u ua ub q in
     record {
       left = λ z j o. let w = whole-lines (sym (f .is) ∙ o) in (f .size ∙ ap (afterLines t 0) w, w);
       right = λ z j o. let w = whole-lines (sym (f′ .is) ∙ o) in (f′ .size ∙ ap (afterLines u 0) w, w);
       same = λ z z′ j j′ o o′.
           s ∙ ap₂ (λ (v w : Reading). noted g (recordsApart position v w))
-          (told x t ta tb p n m chiral len k h a b e ∙ ap meaning (whole-raw (sym (f .is) ∙ o)))
-          (told y u ua ub q n′ m′ chiral′ len′ k′ h′ a′ b′ e′ ∙ ap meaning (whole-raw (sym (f′ .is) ∙ o′)));
+          (told r x e t ta tb p ∙ ap meaning (whole-raw (sym (f .is) ∙ o)))
+          (told r′ y e′ u ua ub q ∙ ap meaning (whole-raw (sym (f′ .is) ∙ o′)));
     }
 
-pub ruleset pair-laws = (never-old, never-new, pair-headers, pair-items, pair-items-end, pair-small, pair-atoms, pair-bonds, pair-done)
+pub ruleset pair-laws = (pair-headers, pair-items, pair-items-end, pair-small, pair-atoms, pair-bonds, pair-done)
 
 -- ---- Read and compared
 

@@ -16,7 +16,7 @@ ghost use Rattle.judge_file.specs.Verdict.{verdict};
 ghost use Rattle.compare_rules.specs.Log.{log, noted, seen};
 ghost use Rattle.compare_files.specs.Compare.{work, filesFor, answerBy, listBy};
 ghost use Rattle.compare_files.specs.Judging.{secondBy, judgedBy, shortBy};
-ghost use Rattle.compare_files.specs.Pair.{Read, Ready, Paired, Kept};
+ghost use Rattle.compare_files.specs.Pair.{shapeOf, Read, Ready, Paired, Kept};
 ghost use Rattle.compare_files.specs.Walking.{GoodFiles, aloneRecords, Apart};
 ghost use Rattle.compare_files.specs.Promise.{Rooms, Promise};
 
@@ -76,6 +76,57 @@ struct Taken {
     lines: usize,
 }
 
+// A record that was read: its numbers, its bytes and lines, where its header lines end, and where its items stand.
+struct Shape {
+    numbers: Numbers,
+    taken: Taken,
+    headers: usize,
+    from: usize,
+    to: usize,
+}
+
+// A reading as a shape; one that was refused has an empty one.
+fn shape_of(x: RecordRead) -> Shape
+    ensures { λ r. ⌜ r ≡ shapeOf x ⌝ }
+{
+    match x {
+        RecordRead::Read {
+            n,
+            m,
+            chiral,
+            length,
+            lines,
+            header_end,
+            items_start,
+            items_end,
+        } => Shape {
+            numbers: Numbers { n, m, chiral },
+            taken: Taken {
+                bytes: length,
+                lines,
+            },
+            headers: header_end,
+            from: items_start,
+            to: items_end,
+        },
+        RecordRead::Refused {
+            no: _,
+            line: _,
+            column: _,
+        } => Shape {
+            numbers: Numbers {
+                n: 0,
+                m: 0,
+                chiral: 0,
+            },
+            taken: Taken { bytes: 0, lines: 0 },
+            headers: 0,
+            from: 0,
+            to: 0,
+        },
+    }
+}
+
 // A record of either file, and the count with what differs between them.
 struct Pair {
     left: Taken,
@@ -100,67 +151,36 @@ fn pair_read(
     requires { ⌜ (position < 2 ^ 63) × Read x (now t) (now ta) (now tb) × Read y (now u) (now ua) (now ub) ⌝ }
     ensures { λ r. ⌜ Paired position (now (t .entry)) (now (u .entry)) (log (now (list .entry)) count) (now (list .exit)) r ⌝ }
 {
-    let RecordRead::Read {
-        n,
-        m,
-        chiral,
-        length,
-        lines,
-        header_end,
-        items_start,
-        items_end,
-    } = x
-    else {
-        return Pair {
-            left: Taken { bytes: 0, lines: 0 },
-            right: Taken { bytes: 0, lines: 0 },
-            count,
-        };
-    };
-    let RecordRead::Read {
-        n: k,
-        m: j,
-        chiral: f,
-        length: e,
-        lines: l,
-        header_end: h,
-        items_start: a,
-        items_end: b,
-    } = y
-    else {
-        return Pair {
-            left: Taken { bytes: 0, lines: 0 },
-            right: Taken { bytes: 0, lines: 0 },
-            count,
-        };
-    };
-    let numbers = Numbers { n, m, chiral };
-    let others = Numbers {
-        n: k,
-        m: j,
-        chiral: f,
-    };
+    let a = shape_of(x);
+    let h = a.headers;
+    let i = a.from;
+    let j = a.to;
+    let numbers = a.numbers;
+    let left = a.taken;
+    let b = shape_of(y);
+    let k = b.headers;
+    let l = b.from;
+    let m = b.to;
+    let others = b.numbers;
+    let right = b.taken;
     let c = compare_record::records_apart(
         list,
         count,
         position,
-        &t[0..header_end],
+        &t[0..h],
         numbers,
         ta,
         tb,
-        &t[items_start..items_end],
-        &u[0..h],
+        &t[i..j],
+        &u[0..k],
         others,
         ua,
         ub,
-        &u[a..b],
+        &u[l..m],
     );
     Pair {
-        left: Taken {
-            bytes: length,
-            lines,
-        },
-        right: Taken { bytes: e, lines: l },
+        left,
+        right,
         count: c,
     }
 }

@@ -1,27 +1,24 @@
 // Two SDfiles held against each other, record by record, in constant memory: every difference in a line, or the first record that differs. Both are
 // judged first, so nothing is said of a refused one.
-mod lines;
-mod say;
 mod source;
-mod tell;
 
 use compare_record::Numbers;
 use compare_rules::Count;
-use lines::Spot;
+use program_compare_lines::PATTERNS;
+use program_compare_lines::ROOM;
+use program_compare_lines::Row;
+use program_compare_lines::Spot;
+use program_compare_lines::Told;
+use program_compare_lines::Way;
 use program_io::Out;
 use program_io::Text;
 use program_json_rows::ATOMS;
 use program_json_rows::BONDS;
 use program_verdict::Verdict;
-use say::Row;
 use source::BUFFER;
 use source::Met;
 use source::Shape;
 use source::Source;
-use tell::PATTERNS;
-use tell::ROOM;
-use tell::Told;
-use tell::Way;
 ghost use mathlib.Core.Path.{_≡_};
 ghost use mathlib.Core.Bool.{true};
 ghost use Prim.Native.Nat.{_*_, _≤_, _<_, _^_};
@@ -149,7 +146,7 @@ fn put_alone(
         right: 0,
     };
     let begun = sum.out;
-    let out = tell::put_plain(begun, room, patterns, json, row, headers);
+    let out = program_compare_lines::put_plain(begun, room, patterns, json, row, headers);
     sum.with(out, 1)
 }
 
@@ -207,7 +204,7 @@ fn put_place(
             new_items,
         );
         let rows = rows_of(way, count.seen);
-        told = tell::put_rows(
+        told = program_compare_lines::put_rows(
             told,
             room,
             patterns,
@@ -402,7 +399,7 @@ fn put_summary(sum: Sum, room: &mut [u8; ROOM], patterns: &[u8], way: Way) -> Ou
         return out;
     }
     let none = program_io::front(patterns, 0);
-    tell::put_plain(out, room, patterns, false, summary(sum), none)
+    program_compare_lines::put_plain(out, room, patterns, false, summary(sum), none)
 }
 
 fn conclude(sum: Sum, room: &mut [u8; ROOM], patterns: &[u8], way: Way) {
@@ -435,7 +432,7 @@ fn hold_accepted(
 ) {
     let mut room = [0u8; ROOM];
     let way = open.way;
-    let patterns = tell::patterns_of(&PATTERNS, way);
+    let patterns = program_compare_lines::patterns_of(&PATTERNS, way);
     let held = hold(open, patterns, left, right, &mut room);
     let turn = held.turn;
     match turn {

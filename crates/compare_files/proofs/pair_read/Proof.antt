@@ -1,27 +1,16 @@
-use borrow.Author.Needs.{needs}
 use Rattle.compare_files.specs.Pair.{pair-laws, pair-small, pair-atoms, pair-bonds}
+use borrow.Author.Needs.{needs}
 use Rattle.compare_files.proofs.pair_read.Statement.{statement}
 use Rattle.compare_files.proofs.pair_read.Tie as tie
 use Rattle.compare_files.proofs.pair_read.Reads as reads
+use Rattle.compare_files.proofs.shape_of.Reads as shape-of-reads
 use Rattle.compare_record.proofs.records_apart.Reads as records-apart-reads
 
-enum-known-x : tie.Need-enum-known-x
-enum-known-x c = search needs
+shape-of-requires : tie.Need-shape-of-requires
+shape-of-requires c κs = search needs
 
-enum-told : tie.Need-enum-told
-enum-told c = search needs
-
-returns : tie.Need-returns
-returns c = search (needs, pair-laws)
-
-enum-known-y : tie.Need-enum-known-y
-enum-known-y c = search needs
-
-enum-told-2 : tie.Need-enum-told-2
-enum-told-2 c = search needs
-
-returns-2 : tie.Need-returns-2
-returns-2 c = search (needs, pair-laws)
+shape-of-requires-2 : tie.Need-shape-of-requires-2
+shape-of-requires-2 c κs = search needs
 
 sub-records-apart : tie.Need-sub-records-apart
 sub-records-apart c = search needs
@@ -65,19 +54,15 @@ records-apart-requires c κs = ((search needs, search pair-small, search pair-sm
 same-length : tie.Need-same-length
 same-length c = search needs
 
-returns-3 : tie.Need-returns-3
-returns-3 c = search (needs, pair-laws)
+returns : tie.Need-returns
+returns c = search (needs, pair-laws)
 
 pub pair-read-spec : {M : Type 1} → statement M
 pair-read-spec =
     tie.close
     (tie.spec
-    enum-known-x
-    enum-told
-    returns
-    enum-known-y
-    enum-told-2
-    returns-2
+    shape-of-requires
+    shape-of-requires-2
     sub-records-apart
     part-records-apart-start
     part-records-apart-end
@@ -92,4 +77,4 @@ pair-read-spec =
     part-records-apart-end-4
     records-apart-requires
     same-length
-    returns-3)
+    returns)

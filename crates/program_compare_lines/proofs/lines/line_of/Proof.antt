@@ -1,7 +1,7 @@
 use borrow.Author.Needs.{needs}
-use Rattle.program_compare.proofs.lines.line_of.Statement.{statement}
-use Rattle.program_compare.proofs.lines.line_of.Tie as tie
-use Rattle.program_compare.proofs.lines.line_of.Reads as reads
+use Rattle.program_compare_lines.proofs.lines.line_of.Statement.{statement}
+use Rattle.program_compare_lines.proofs.lines.line_of.Tie as tie
+use Rattle.program_compare_lines.proofs.lines.line_of.Reads as reads
 use Rattle.program_io.proofs.front.Reads as front-reads
 use Rattle.program_json.proofs.part.Reads as part-reads
 use Rattle.text.proofs.line_at.Reads as line-at-reads

@@ -1,8 +1,8 @@
 use borrow.Author.Needs.{needs}
-use Rattle.program_compare.specs.Signs.{size-laws}
-use Rattle.program_compare.proofs.say.size_of.Statement.{statement}
-use Rattle.program_compare.proofs.say.size_of.Tie as tie
-use Rattle.program_compare.proofs.say.size_of.Reads as reads
+use Rattle.program_compare_lines.specs.Signs.{size-laws}
+use Rattle.program_compare_lines.proofs.say.size_of.Statement.{statement}
+use Rattle.program_compare_lines.proofs.say.size_of.Tie as tie
+use Rattle.program_compare_lines.proofs.say.size_of.Reads as reads
 
 sub-result : tie.Need-sub-result
 sub-result c = search (needs, size-laws)

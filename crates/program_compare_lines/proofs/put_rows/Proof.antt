@@ -1,6 +1,6 @@
 use borrow.Author.Needs.{needs}
-use Rattle.program_compare.proofs.tell.put_rows.Statement.{statement}
-use Rattle.program_compare.proofs.tell.put_rows.Tie as tie
+use Rattle.program_compare_lines.proofs.put_rows.Statement.{statement}
+use Rattle.program_compare_lines.proofs.put_rows.Tie as tie
 
 abbrev Inv-loop : tie.InvT-loop
 Inv-loop room₀ patterns json list count headers items new-headers new-items next₀ left₀ at₀ room next left at = Unit {0}

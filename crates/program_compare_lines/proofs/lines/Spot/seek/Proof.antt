@@ -1,6 +1,6 @@
 use borrow.Author.Needs.{needs}
-use Rattle.program_compare.proofs.lines.Spot.seek.Statement.{statement}
-use Rattle.program_compare.proofs.lines.Spot.seek.Tie as tie
+use Rattle.program_compare_lines.proofs.lines.Spot.seek.Statement.{statement}
+use Rattle.program_compare_lines.proofs.lines.Spot.seek.Tie as tie
 
 abbrev Inv-loop : tie.InvT-loop
 Inv-loop s item line spot₀ turns₀ spot turns = Unit {0}

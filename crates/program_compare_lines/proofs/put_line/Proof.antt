@@ -1,8 +1,8 @@
 use borrow.Author.Needs.{needs}
 use Prim.Native.Nat.{_-_}
 use lib.ListN.{length}
-use Rattle.program_compare.proofs.tell.put_line.Statement.{statement}
-use Rattle.program_compare.proofs.tell.put_line.Tie as tie
+use Rattle.program_compare_lines.proofs.put_line.Statement.{statement}
+use Rattle.program_compare_lines.proofs.put_line.Tie as tie
 
 abbrev Inv-loop : tie.InvT-loop
 Inv-loop room₀ patterns json row headers name new-name old new pattern next₀ i₀ room next i = Unit {0}

@@ -22,8 +22,8 @@ pub fn line_of(s: &[u8], k: u64) -> &[u8] {
 // A line of the items: its item and its number among the value lines of that, 0 for the data header or the blank line; where it stands, and where the
 // item's name does.
 pub struct Spot {
-    pub item: u64,
-    pub line: u64,
+    item: usize,
+    line: usize,
     start: usize,
     end: usize,
     next: usize,
@@ -64,7 +64,7 @@ impl Spot {
     fn step(self, s: &[u8]) -> Spot {
         let mut spot = self;
         let LineAt::Line { end, next } = text::line_at(s, self.next) else {
-            spot.item = u64::MAX;
+            spot.item = usize::MAX;
             return spot;
         };
         let line = program_json::part(s, self.next, end);
@@ -75,12 +75,12 @@ impl Spot {
             if text::is_blank(line) {
                 spot.inside = false;
             } else {
-                spot.line = program_verdict::plus(self.line, 1);
+                spot.line = program_io::plus(self.line, 1);
             }
             return spot;
         }
         let name = span_of(line);
-        spot.item = program_verdict::plus(self.item, 1);
+        spot.item = program_io::plus(self.item, 1);
         spot.line = 0;
         spot.inside = true;
         spot.name_from = program_io::plus(self.next, name.from);
@@ -89,7 +89,7 @@ impl Spot {
     }
 
     // Whether it stands at this line, or behind it.
-    fn is_at(self, item: u64, line: u64) -> bool {
+    fn is_at(self, item: usize, line: usize) -> bool {
         if self.item == item {
             return line <= self.line;
         }
@@ -97,7 +97,7 @@ impl Spot {
     }
 
     // On to a line of an item. A line has at least one byte, so the bytes are more turns than are needed.
-    pub fn seek(self, s: &[u8], item: u64, line: u64) -> Spot {
+    pub fn seek(self, s: &[u8], item: usize, line: usize) -> Spot {
         let mut spot = self;
         let mut turns = s.len();
         while turns > 0 {

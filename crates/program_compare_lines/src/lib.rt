@@ -1,10 +1,11 @@
 // The differences of a pair of records, one a line. Lines are made by patterns, in which a capital letter stands for what is filled in there.
-use crate::lines;
-use crate::lines::Spot;
-use crate::say;
-use crate::say::Row;
+mod lines;
+mod say;
+
+pub use lines::Spot;
 use program_io::Out;
 use program_io::Text;
+pub use say::Row;
 
 // Output is gathered in room of so many bytes.
 pub const ROOM: usize = 65536;
@@ -33,7 +34,7 @@ fn sought(spot: Spot, row: Row, other: u64, items: &[u8]) -> Spot {
     if row.side == other {
         return spot;
     }
-    spot.seek(items, row.place, row.field)
+    spot.seek(items, row.place as usize, row.field as usize)
 }
 
 // The text at the place of a difference.
@@ -208,29 +209,29 @@ fn is_mark(b: u8) -> bool {
 }
 
 // Name k, from 1 on.
-fn word(k: u64) -> Text {
+fn word(k: usize) -> Text {
     if k == 0 {
         return Text::new();
     }
     if k > 26 {
         return Text::new();
     }
-    let names = program_io::tail(&NAMES, NAME * (k - 1) as usize);
+    let names = program_io::tail(&NAMES, NAME * (k - 1));
     Text::new().word(lines::line_of(names, 1))
 }
 
 // The name that a letter stands for: of a number of an atom or a bond, or of a file.
-fn name_of(b: u8, row: Row) -> u64 {
+fn name_of(b: u8, row: Row) -> usize {
     if b == b'F' {
         if row.part == 5 {
-            return row.field;
+            return row.field as usize;
         }
-        return program_verdict::plus(row.field, 16);
+        return program_io::plus(row.field as usize, 16);
     }
     if b == b'S' {
-        return program_verdict::plus(row.side, 22);
+        return program_io::plus(row.side as usize, 22);
     }
-    program_verdict::plus(row.side, 24)
+    program_io::plus(row.side as usize, 24)
 }
 
 fn plural(n: u64) -> Text {
