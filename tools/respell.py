@@ -23,6 +23,10 @@ HEAD = re.compile(r"^\s*(?:where\s+)?(?:(?:unfoldable|abbrev|pub)\s+)*(?:(?:data
 LIBRARY = re.compile(r"^\s*(?:ghost |pub )*use (?!Rattle\.(?!std\b|core\b))([\w.·+-]+?)\.?\{([^}]*)\}", re.M)
 
 
+# Fields of records, which no word beside them can be taken for.
+FIELDS = {"mass-difference", "charge-code", "hydrogen-count", "stereo-care", "atom-map", "exact-change"}
+
+
 def snake(name):
     kept = name.strip("_")
     if kept[:1].isupper():
@@ -77,7 +81,7 @@ def table():
         for old in words[path] & to.keys():
             if "-" in old and to[old] in words[path]:
                 clash.add(old)
-    for old in clash:
+    for old in clash - FIELDS:
         to[old] += "_lem"
     # One that port.py respelled already, beside a definition that comes to the same name.
     for path, those in words.items():

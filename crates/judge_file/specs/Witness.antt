@@ -67,16 +67,16 @@ atom_line_lem n =
       z = Coordinate.blank refl;
       space = refl;
       symbol = record { low = omega arith; high = omega arith; text = refl };
-      mass_difference_lem = record { field = Integer.blank 2 refl; range = omega arith };
-      charge_code_lem = blank_number atom_text 37 39 7 refl;
+      mass_difference = record { field = Integer.blank 2 refl; range = omega arith };
+      charge_code = blank_number atom_text 37 39 7 refl;
       parity = blank_number atom_text 40 42 3 refl;
-      hydrogen_count_lem = blank_number atom_text 43 45 5 refl;
-      stereo_care_lem = blank_number atom_text 46 48 1 refl;
+      hydrogen_count = blank_number atom_text 43 45 5 refl;
+      stereo_care = blank_number atom_text 46 48 1 refl;
       valence = blank_number atom_text 49 51 15 refl;
       H0 = blank_number atom_text 52 54 1 refl;
-      atom_map_lem = blank_number atom_text 61 63 n refl;
+      atom_map = blank_number atom_text 61 63 n refl;
       inversion = blank_number atom_text 64 66 2 refl;
-      exact_change_lem = blank_number atom_text 67 69 1 refl;
+      exact_change = blank_number atom_text 67 69 1 refl;
       rest = tt;
     }
 

@@ -135,16 +135,16 @@ atom_got_lem n l a w h =
       z = z-is;
       space = space;
       symbol = symbol_is;
-      mass_difference_lem = mass-is;
-      charge_code_lem = code_is;
+      mass_difference = mass-is;
+      charge_code = code_is;
       parity = parity-is;
-      hydrogen_count_lem = hydrogens-is;
-      stereo_care_lem = care-is;
+      hydrogen_count = hydrogens-is;
+      stereo_care = care-is;
       valence = valence-is;
       H0 = h0-is;
-      atom_map_lem = map_is;
+      atom_map = map_is;
       inversion = inversion-is;
-      exact_change_lem = exact-is;
+      exact_change = exact-is;
       rest = rest;
     })
 
@@ -156,14 +156,14 @@ atom_is_lem n l a h =
     then_is _ _ _ (coordinate_is l _ _ (ten_columns l 21) _ h.z) ∙
     space_is l _ _ h.space ∙
     then_is _ _ _ (symbol_is l _ _ _ h.symbol) ∙
-    then_is _ _ _ (signed_is h.mass_difference_lem) ∙
-    then_is _ _ _ (number_is h.charge_code_lem) ∙
+    then_is _ _ _ (signed_is h.mass_difference) ∙
+    then_is _ _ _ (number_is h.charge_code) ∙
     then_is _ _ _ (number_is h.parity) ∙
-    then_is _ _ _ (number_is h.hydrogen_count_lem) ∙
-    then_is _ _ _ (number_is h.stereo_care_lem) ∙
+    then_is _ _ _ (number_is h.hydrogen_count) ∙
+    then_is _ _ _ (number_is h.stereo_care) ∙
     then_is _ _ _ (number_is h.valence) ∙
     then_is _ _ _ (number_is h.H0) ∙
-    then_is _ _ _ (number_is h.atom_map_lem) ∙
+    then_is _ _ _ (number_is h.atom_map) ∙
     then_is _ _ _ (number_is h.inversion) ∙
-    then_is _ _ _ (number_is h.exact_change_lem) ∙
+    then_is _ _ _ (number_is h.exact_change) ∙
     spaces_is l _ _ h.rest

@@ -68,16 +68,16 @@ atom_of n l =
       y = y;
       z = z;
       symbol = symbol;
-      mass_difference_lem = mass;
-      charge_code_lem = code;
+      mass_difference = mass;
+      charge_code = code;
       parity = parity;
-      hydrogen_count_lem = hydrogens;
-      stereo_care_lem = care;
+      hydrogen_count = hydrogens;
+      stereo_care = care;
       valence = valence;
       H0 = h0;
-      atom_map_lem = map;
+      atom_map = map;
       inversion = inversion;
-      exact_change_lem = exact;
+      exact_change = exact;
     })))
 
 -- ---- 4. Bond lines; that a pair is bonded twice shows only beside the bonds before

@@ -66,16 +66,16 @@ atom_is a =
       y = a.place.y;
       z = a.place.z;
       symbol = a.place.symbol;
-      mass_difference_lem = a.codes.mass_difference;
-      charge_code_lem = a.codes.charge_code;
+      mass_difference = a.codes.mass_difference;
+      charge_code = a.codes.charge_code;
       parity = a.codes.parity;
-      hydrogen_count_lem = a.codes.hydrogen_count;
-      stereo_care_lem = a.codes.stereo_care;
+      hydrogen_count = a.codes.hydrogen_count;
+      stereo_care = a.codes.stereo_care;
       valence = a.valence;
       H0 = a.h0;
-      atom_map_lem = a.atom_map;
+      atom_map = a.atom_map;
       inversion = a.inversion;
-      exact_change_lem = a.exact_change;
+      exact_change = a.exact_change;
     }
 
 abbrev pub atom_got : AtomRead → Got R.Atom

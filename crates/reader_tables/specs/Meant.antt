@@ -115,11 +115,11 @@ module _ (n : ℕ) (t : List ℕ) (m : Molecule) (shows : Shows n t m.properties
   row_is pre q a i h k =
       let whole : List ℤ = pre ++ (raw_row a ++ q) in
       let front : List ℤ = a.x ∷ a.y ∷ a.z ∷ pos a.symbol ∷ [] in
-      let back : List ℤ = pos a.parity ∷ pos a.hydrogen_count_lem ∷ pos a.stereo_care_lem ∷ pos a.valence ∷ pos a.H0 ∷ pos a.atom_map_lem ∷ pos a.inversion ∷ pos a.exact_change_lem ∷ q in
+      let back : List ℤ = pos a.parity ∷ pos a.hydrogen_count ∷ pos a.stereo_care ∷ pos a.valence ∷ pos a.H0 ∷ pos a.atom_map ∷ pos a.inversion ∷ pos a.exact_change ∷ q in
       let four : 16 * i + 4 ≡ length pre + 4 = omega arith in
       let five : 16 * i + 5 ≡ length pre + 5 = omega arith in
-      let mass : get_or whole (16 * i + 4) (pos 0) ≡ a.mass_difference_lem = rw four (get_or-append-add pre (raw_row a ++ q) 4 (pos 0)) in
-      let code : get_or whole (16 * i + 5) (pos 0) ≡ pos a.charge_code_lem = rw five (get_or-append-add pre (raw_row a ++ q) 5 (pos 0)) in
+      let mass : get_or whole (16 * i + 4) (pos 0) ≡ a.mass_difference = rw four (get_or-append-add pre (raw_row a ++ q) 4 (pos 0)) in
+      let code : get_or whole (16 * i + 5) (pos 0) ≡ pos a.charge_code = rw five (get_or-append-add pre (raw_row a ++ q) 5 (pos 0)) in
       let place : 16 * i + 4 ≡ length (pre ++ front) = omega (arith, length-append pre front) in
       rw (
         mass,
@@ -133,9 +133,9 @@ module _ (n : ℕ) (t : List ℕ) (m : Molecule) (shows : Shows n t m.properties
         shows_number n t m.properties shows proper ISO (suc i) k,
       )
       (ap (λ (x : List ℤ). sets x (16 * i + 4) (mass_difference_of m a ∷ charge_of m (suc i) a ∷ radical_of m (suc i) a ∷ isotope_of m (suc i) ∷ []))
-      (sym (append_assoc pre front (a.mass_difference_lem ∷ pos a.charge_code_lem ∷ pos 0 ∷ pos 0 ∷ back)))
+      (sym (append_assoc pre front (a.mass_difference ∷ pos a.charge_code ∷ pos 0 ∷ pos 0 ∷ back)))
       ∙ sets_seam (pre ++ front) (mass_difference_of m a ∷ charge_of m (suc i) a ∷ radical_of m (suc i) a ∷ isotope_of m (suc i) ∷ [])
-      (a.mass_difference_lem ∷ pos a.charge_code_lem ∷ pos 0 ∷ pos 0 ∷ []) back (16 * i + 4) place refl
+      (a.mass_difference ∷ pos a.charge_code ∷ pos 0 ∷ pos 0 ∷ []) back (16 * i + 4) place refl
       ∙ append_assoc pre front (mass_difference_of m a ∷ charge_of m (suc i) a ∷ radical_of m (suc i) a ∷ isotope_of m (suc i) ∷ back))
 
   rows_are : (xs : List Atom) (pre rest : List ℤ) (i : ℕ) → length pre ≡ 16 * i → i + length xs ≤ n →

@@ -7,9 +7,9 @@ use Rattle.rules.specs.Meaning.{bond_numbers}
 abbrev pub raw_row : Atom → List ℤ
 raw_row a =
     a.x ∷ a.y ∷ a.z ∷ pos a.symbol ∷
-    a.mass_difference_lem ∷ pos a.charge_code_lem ∷ pos 0 ∷ pos 0 ∷
-    pos a.parity ∷ pos a.hydrogen_count_lem ∷ pos a.stereo_care_lem ∷ pos a.valence ∷
-    pos a.H0 ∷ pos a.atom_map_lem ∷ pos a.inversion ∷ pos a.exact_change_lem ∷ []
+    a.mass_difference ∷ pos a.charge_code ∷ pos 0 ∷ pos 0 ∷
+    pos a.parity ∷ pos a.hydrogen_count ∷ pos a.stereo_care ∷ pos a.valence ∷
+    pos a.H0 ∷ pos a.atom_map ∷ pos a.inversion ∷ pos a.exact_change ∷ []
 
 -- one row after the other
 unfoldable pub flat : List (List ℤ) → List ℤ
@@ -31,15 +31,15 @@ Holds t vs = take (length vs) t ≡ vs
 -- what columns can hold fits a place of the table
 pub record SmallAtom (a : Atom) : Type 0 where
   pub symbol : a.symbol ≤ 999
-  pub charge_code_lem : a.charge_code_lem ≤ 999
+  pub charge_code : a.charge_code ≤ 999
   pub parity : a.parity ≤ 999
-  pub hydrogen_count_lem : a.hydrogen_count_lem ≤ 999
-  pub stereo_care_lem : a.stereo_care_lem ≤ 999
+  pub hydrogen_count : a.hydrogen_count ≤ 999
+  pub stereo_care : a.stereo_care ≤ 999
   pub valence : a.valence ≤ 999
   pub H0 : a.H0 ≤ 999
-  pub atom_map_lem : a.atom_map_lem ≤ 999
+  pub atom_map : a.atom_map ≤ 999
   pub inversion : a.inversion ≤ 999
-  pub exact_change_lem : a.exact_change_lem ≤ 999
+  pub exact_change : a.exact_change ≤ 999
 
 pub record SmallBond (b : Bond) : Type 0 where
   pub first : b.first ≤ 999

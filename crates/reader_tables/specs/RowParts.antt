@@ -14,7 +14,7 @@ abbrev pub rest_row : Atom → List ℤ
 rest_row a = pos a.valence ∷ pos a.h0 ∷ pos a.atom_map ∷ pos a.inversion ∷ pos a.exact_change ∷ []
 
 pub record SmallCodes (c : AtomCodes) : Type 0 where
-  pub charge_code_lem : c.charge_code ≤ 999
+  pub charge_code : c.charge_code ≤ 999
   pub parity : c.parity ≤ 999
-  pub hydrogen_count_lem : c.hydrogen_count ≤ 999
-  pub stereo_care_lem : c.stereo_care ≤ 999
+  pub hydrogen_count : c.hydrogen_count ≤ 999
+  pub stereo_care : c.stereo_care ≤ 999

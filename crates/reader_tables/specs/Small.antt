@@ -10,15 +10,15 @@ pub atom_small : (n : ℕ) (l : Line) (a : Atom) → n ≤ 999 → AtomLine n l 
 atom_small n l a h g =
     record {
       symbol = omega (arith, g.symbol.high);
-      charge_code_lem = omega (arith, g.charge_code_lem.high);
+      charge_code = omega (arith, g.charge_code.high);
       parity = omega (arith, g.parity.high);
-      hydrogen_count_lem = omega (arith, g.hydrogen_count_lem.high);
-      stereo_care_lem = omega (arith, g.stereo_care_lem.high);
+      hydrogen_count = omega (arith, g.hydrogen_count.high);
+      stereo_care = omega (arith, g.stereo_care.high);
       valence = omega (arith, g.valence.high);
       H0 = omega (arith, g.H0.high);
-      atom_map_lem = omega (arith, g.atom_map_lem.high);
+      atom_map = omega (arith, g.atom_map.high);
       inversion = omega (arith, g.inversion.high);
-      exact_change_lem = omega (arith, g.exact_change_lem.high);
+      exact_change = omega (arith, g.exact_change.high);
     }
 
 total : List ℕ → ℕ

@@ -16,18 +16,18 @@ pub record AtomRow : Type 0 where
   pub y : ℤ
   pub z : ℤ
   pub symbol : ℤ
-  pub mass_difference_lem : ℤ
+  pub mass_difference : ℤ
   pub charge : ℤ
   pub radical : ℤ
   pub isotope : ℤ
   pub parity : ℤ
-  pub hydrogen_count_lem : ℤ
-  pub stereo_care_lem : ℤ
+  pub hydrogen_count : ℤ
+  pub stereo_care : ℤ
   pub valence : ℤ
   pub H0 : ℤ
-  pub atom_map_lem : ℤ
+  pub atom_map : ℤ
   pub inversion : ℤ
-  pub exact_change_lem : ℤ
+  pub exact_change : ℤ
 
 abbrev pub atom_row : List ℤ → AtomRow
 atom_row t =
@@ -36,18 +36,18 @@ atom_row t =
       y = get_or t 1 (pos 0);
       z = get_or t 2 (pos 0);
       symbol = get_or t 3 (pos 0);
-      mass_difference_lem = get_or t 4 (pos 0);
+      mass_difference = get_or t 4 (pos 0);
       charge = get_or t 5 (pos 0);
       radical = get_or t 6 (pos 0);
       isotope = get_or t 7 (pos 0);
       parity = get_or t 8 (pos 0);
-      hydrogen_count_lem = get_or t 9 (pos 0);
-      stereo_care_lem = get_or t 10 (pos 0);
+      hydrogen_count = get_or t 9 (pos 0);
+      stereo_care = get_or t 10 (pos 0);
       valence = get_or t 11 (pos 0);
       H0 = get_or t 12 (pos 0);
-      atom_map_lem = get_or t 13 (pos 0);
+      atom_map = get_or t 13 (pos 0);
       inversion = get_or t 14 (pos 0);
-      exact_change_lem = get_or t 15 (pos 0);
+      exact_change = get_or t 15 (pos 0);
     }
 
 pub record BondRow : Type 0 where
@@ -95,16 +95,16 @@ atom_of a =
       y = a.y;
       z = a.z;
       symbol = nat_abs a.symbol;
-      mass_difference_lem = a.mass_difference_lem;
-      charge_code_lem = charge_code a.charge a.radical;
+      mass_difference = a.mass_difference;
+      charge_code = charge_code a.charge a.radical;
       parity = nat_abs a.parity;
-      hydrogen_count_lem = nat_abs a.hydrogen_count_lem;
-      stereo_care_lem = nat_abs a.stereo_care_lem;
+      hydrogen_count = nat_abs a.hydrogen_count;
+      stereo_care = nat_abs a.stereo_care;
       valence = nat_abs a.valence;
       H0 = nat_abs a.H0;
-      atom_map_lem = nat_abs a.atom_map_lem;
+      atom_map = nat_abs a.atom_map;
       inversion = nat_abs a.inversion;
-      exact_change_lem = nat_abs a.exact_change_lem;
+      exact_change = nat_abs a.exact_change;
     }
 
 unfoldable pub bond_of : BondRow → Bond
@@ -177,18 +177,18 @@ pub record WritableAtom (n : ℕ) (a : AtomRow) : Type 0 where
   pub y : Between 99999999 999999999 a.y
   pub z : Between 99999999 999999999 a.z
   pub symbol : FromTo 1 (length names) a.symbol
-  pub mass_difference_lem : Between 3 4 a.mass_difference_lem
+  pub mass_difference : Between 3 4 a.mass_difference
   pub charge : Between 15 15 a.charge
   pub radical : FromTo 0 3 a.radical
   pub isotope : FromTo 0 999 a.isotope
   pub parity : FromTo 0 3 a.parity
-  pub hydrogen_count_lem : FromTo 0 5 a.hydrogen_count_lem
-  pub stereo_care_lem : FromTo 0 1 a.stereo_care_lem
+  pub hydrogen_count : FromTo 0 5 a.hydrogen_count
+  pub stereo_care : FromTo 0 1 a.stereo_care
   pub valence : FromTo 0 15 a.valence
   pub H0 : FromTo 0 1 a.H0
-  pub atom_map_lem : FromTo 0 n a.atom_map_lem
+  pub atom_map : FromTo 0 n a.atom_map
   pub inversion : FromTo 0 2 a.inversion
-  pub exact_change_lem : FromTo 0 1 a.exact_change_lem
+  pub exact_change : FromTo 0 1 a.exact_change
 
 pub record WritableBond (n : ℕ) (b : BondRow) : Type 0 where
   pub first : FromTo 1 n b.first
@@ -215,7 +215,7 @@ pub record Writable (limit : ℕ) (x : Reading) : Type 0 where
   pub bonds : Rows 6 (λ t. WritableBond x.n (bond_row t)) x.bonds
   pub no_pair_twice : NoPairTwice (canon x).molecule.bonds
   -- an isotope anywhere rules out mass differences everywhere
-  pub masses : entries_from ISO 1 x.atoms ≢ [] → Rows 16 (λ t. (atom_row t).mass_difference_lem ≡ pos 0) x.atoms
+  pub masses : entries_from ISO 1 x.atoms ≢ [] → Rows 16 (λ t. (atom_row t).mass_difference ≡ pos 0) x.atoms
 
 pub record GoodHeaders (h : Headers) : Type 0 where
   pub first : FirstHeaderLine h.first

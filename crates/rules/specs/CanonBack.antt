@@ -75,33 +75,33 @@ nothing_given k m i h = ap (λ (es : List Entry). number_in es i) (not_among k m
 -- ---- Atoms
 
 atom_back : (n : ℕ) (m : Molecule) (i : ℕ) (t : List ℤ) → length t ≡ 16 → WritableAtom n (atom_row t) →
-    ((k : Kind) → given k m i ≡ number_of k (atom_row t)) → (has ISO m ≡ true → (atom_row t).mass_difference_lem ≡ pos 0) →
+    ((k : Kind) → given k m i ≡ number_of k (atom_row t)) → (has ISO m ≡ true → (atom_row t).mass_difference ≡ pos 0) →
     atom_numbers m i (atom_of (atom_row t)) ≡ t
 unfolding atom_of
 atom_back n m i t h w g z =
     let a = atom_row t in
     let symbol = size_back 1 symbols_all a.symbol w.symbol in
-    let mass = mass_by_lem (has ISO m) a.mass_difference_lem z in
+    let mass = mass_by_lem (has ISO m) a.mass_difference z in
     let charge = charge_by_lem (codes_void m) (given CHG m i) a.charge a.radical (λ e. nothing_given CHG m i (or_false (has CHG m) (has RAD m) e).0) (g CHG) in
     let radical = radical_by_lem (codes_void m) (given RAD m i) a.charge a.radical (λ e. nothing_given RAD m i (or_false (has CHG m) (has RAD m) e).1) (g RAD) in
     let isotope = g ISO in
     let parity = size_back 0 3 a.parity w.parity in
-    let hydrogen = size_back 0 5 a.hydrogen_count_lem w.hydrogen_count_lem in
-    let care = size_back 0 1 a.stereo_care_lem w.stereo_care_lem in
+    let hydrogen = size_back 0 5 a.hydrogen_count w.hydrogen_count in
+    let care = size_back 0 1 a.stereo_care w.stereo_care in
     let valence = size_back 0 15 a.valence w.valence in
     let H0 = size_back 0 1 a.H0 w.H0 in
-    let atom_map_lem = size_back 0 n a.atom_map_lem w.atom_map_lem in
+    let atom_map = size_back 0 n a.atom_map w.atom_map in
     let inversion = size_back 0 2 a.inversion w.inversion in
-    let exact = size_back 0 1 a.exact_change_lem w.exact_change_lem in
+    let exact = size_back 0 1 a.exact_change w.exact_change in
     let e : atom_numbers m i (atom_of a) ≡ shown 16 0 t =
     λ p. a.x ∷ a.y ∷ a.z ∷ symbol p ∷ mass p ∷ charge p ∷ radical p ∷ isotope p ∷
-    parity p ∷ hydrogen p ∷ care p ∷ valence p ∷ H0 p ∷ atom_map_lem p ∷ inversion p ∷ exact p ∷ []
+    parity p ∷ hydrogen p ∷ care p ∷ valence p ∷ H0 p ∷ atom_map p ∷ inversion p ∷ exact p ∷ []
     in
     e ∙ shown_all 16 t h
 
 atoms_back : (n : ℕ) (m : Molecule) (i : ℕ) (ts : List (List ℤ)) →
     ((k : Kind) (j : ℕ) → i ≤ j → given k m j ≡ number_in (entries_from k i ts) j) →
-    Rows 16 (λ t. WritableAtom n (atom_row t)) ts → (has ISO m ≡ true → Rows 16 (λ t. (atom_row t).mass_difference_lem ≡ pos 0) ts) →
+    Rows 16 (λ t. WritableAtom n (atom_row t)) ts → (has ISO m ≡ true → Rows 16 (λ t. (atom_row t).mass_difference ≡ pos 0) ts) →
     atoms_from m i (map (λ (t : List ℤ). atom_of (atom_row t)) ts) ≡ ts
 unfolding atoms_from Rows
 atoms_back n m i [] g w z = refl

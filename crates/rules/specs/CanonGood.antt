@@ -51,16 +51,16 @@ good_atom n a w =
       y = w.y;
       z = w.z;
       symbol = sized 1 (length names) a.symbol w.symbol;
-      mass_difference_lem = w.mass_difference_lem;
-      charge_code_lem = code_small a.charge a.radical;
+      mass_difference = w.mass_difference;
+      charge_code = code_small a.charge a.radical;
       parity = (sized 0 3 a.parity w.parity).1;
-      hydrogen_count_lem = (sized 0 5 a.hydrogen_count_lem w.hydrogen_count_lem).1;
-      stereo_care_lem = (sized 0 1 a.stereo_care_lem w.stereo_care_lem).1;
+      hydrogen_count = (sized 0 5 a.hydrogen_count w.hydrogen_count).1;
+      stereo_care = (sized 0 1 a.stereo_care w.stereo_care).1;
       valence = (sized 0 15 a.valence w.valence).1;
       H0 = (sized 0 1 a.H0 w.H0).1;
-      atom_map_lem = (sized 0 n a.atom_map_lem w.atom_map_lem).1;
+      atom_map = (sized 0 n a.atom_map w.atom_map).1;
       inversion = (sized 0 2 a.inversion w.inversion).1;
-      exact_change_lem = (sized 0 1 a.exact_change_lem w.exact_change_lem).1;
+      exact_change = (sized 0 1 a.exact_change w.exact_change).1;
     }
 
 atoms_good : (n : ℕ) (ts : List (List ℤ)) → Rows 16 (λ t. WritableAtom n (atom_row t)) ts → GoodAtoms n (map (λ (t : List ℤ). atom_of (atom_row t)) ts)

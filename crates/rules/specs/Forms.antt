@@ -60,16 +60,16 @@ pub record Atom : Type 0 where
   pub y : ℤ
   pub z : ℤ
   pub symbol : ℕ
-  pub mass_difference_lem : ℤ
-  pub charge_code_lem : ℕ
+  pub mass_difference : ℤ
+  pub charge_code : ℕ
   pub parity : ℕ
-  pub hydrogen_count_lem : ℕ
-  pub stereo_care_lem : ℕ
+  pub hydrogen_count : ℕ
+  pub stereo_care : ℕ
   pub valence : ℕ
   pub H0 : ℕ
-  pub atom_map_lem : ℕ
+  pub atom_map : ℕ
   pub inversion : ℕ
-  pub exact_change_lem : ℕ
+  pub exact_change : ℕ
 
 -- xxxxx.xxxxyyyyy.yyyyzzzzz.zzzz aaaddcccssshhhbbbvvvHHHrrriiimmmnnneee
 --     1.2500   -0.8250    0.0000 O   0  5  0  0  0  0  0  0  0  0  0  0
@@ -81,17 +81,17 @@ pub record AtomLine (n : ℕ) (l : Line) (a : Atom) : Type 0 where
   pub z : Coordinate (columns l 21 30) a.z
   pub space : Space (column l 31)
   pub symbol : Symbol (columns l 32 34) a.symbol
-  pub mass_difference_lem : Signed l 35 36 3 4 a.mass_difference_lem
-  pub charge_code_lem : Number l 37 39 0 7 a.charge_code_lem
+  pub mass_difference : Signed l 35 36 3 4 a.mass_difference
+  pub charge_code : Number l 37 39 0 7 a.charge_code
   pub parity : Number l 40 42 0 3 a.parity
-  pub hydrogen_count_lem : Number l 43 45 0 5 a.hydrogen_count_lem
-  pub stereo_care_lem : Number l 46 48 0 1 a.stereo_care_lem
+  pub hydrogen_count : Number l 43 45 0 5 a.hydrogen_count
+  pub stereo_care : Number l 46 48 0 1 a.stereo_care
   pub valence : Number l 49 51 0 15 a.valence
   pub H0 : Number l 52 54 0 1 a.H0
   -- 55 to 60 are free
-  pub atom_map_lem : Number l 61 63 0 n a.atom_map_lem
+  pub atom_map : Number l 61 63 0 n a.atom_map
   pub inversion : Number l 64 66 0 2 a.inversion
-  pub exact_change_lem : Number l 67 69 0 1 a.exact_change_lem
+  pub exact_change : Number l 67 69 0 1 a.exact_change
   pub rest : SpacesFrom l 70
 
 -- ---- 4. Bond lines

@@ -18,16 +18,16 @@ one_atom_lem p q = λ i. record {
   y = one_coordinate p.y q.y i;
   z = one_coordinate p.z q.z i;
   symbol = one_symbol p.symbol q.symbol i;
-  mass_difference_lem = one_signed p.mass_difference_lem q.mass_difference_lem i;
-  charge_code_lem = one_number p.charge_code_lem q.charge_code_lem i;
+  mass_difference = one_signed p.mass_difference q.mass_difference i;
+  charge_code = one_number p.charge_code q.charge_code i;
   parity = one_number p.parity q.parity i;
-  hydrogen_count_lem = one_number p.hydrogen_count_lem q.hydrogen_count_lem i;
-  stereo_care_lem = one_number p.stereo_care_lem q.stereo_care_lem i;
+  hydrogen_count = one_number p.hydrogen_count q.hydrogen_count i;
+  stereo_care = one_number p.stereo_care q.stereo_care i;
   valence = one_number p.valence q.valence i;
   H0 = one_number p.H0 q.H0 i;
-  atom_map_lem = one_number p.atom_map_lem q.atom_map_lem i;
+  atom_map = one_number p.atom_map q.atom_map i;
   inversion = one_number p.inversion q.inversion i;
-  exact_change_lem = one_number p.exact_change_lem q.exact_change_lem i;
+  exact_change = one_number p.exact_change q.exact_change i;
 }
 
 pub one_bond : {n : ℕ} {l : Line} {b c : Bond} → BondLine n l b → BondLine n l c → b ≡ c

@@ -99,18 +99,18 @@ atom_writable n m i l a g h =
       y = coordinate_range h.y;
       z = coordinate_range h.z;
       symbol = (h.symbol.low, h.symbol.high);
-      mass_difference_lem = either (Between 3 4) (has ISO m) (pos 0) a.mass_difference_lem (omega arith) h.mass_difference_lem.range;
-      charge = either (Between 15 15) (codes_void m) (given CHG m i) (charge_of_code a.charge_code_lem) (of CHG) (code_charge a.charge_code_lem);
-      radical = either (FromTo 0 3) (codes_void m) (given RAD m i) (radical_of_code a.charge_code_lem) (of RAD) (code_radical (eqb a.charge_code_lem 4));
+      mass_difference = either (Between 3 4) (has ISO m) (pos 0) a.mass_difference (omega arith) h.mass_difference.range;
+      charge = either (Between 15 15) (codes_void m) (given CHG m i) (charge_of_code a.charge_code) (of CHG) (code_charge a.charge_code);
+      radical = either (FromTo 0 3) (codes_void m) (given RAD m i) (radical_of_code a.charge_code) (of RAD) (code_radical (eqb a.charge_code 4));
       isotope = of ISO;
       parity = (h.parity.low, h.parity.high);
-      hydrogen_count_lem = (h.hydrogen_count_lem.low, h.hydrogen_count_lem.high);
-      stereo_care_lem = (h.stereo_care_lem.low, h.stereo_care_lem.high);
+      hydrogen_count = (h.hydrogen_count.low, h.hydrogen_count.high);
+      stereo_care = (h.stereo_care.low, h.stereo_care.high);
       valence = (h.valence.low, h.valence.high);
       H0 = (h.H0.low, h.H0.high);
-      atom_map_lem = (h.atom_map_lem.low, h.atom_map_lem.high);
+      atom_map = (h.atom_map.low, h.atom_map.high);
       inversion = (h.inversion.low, h.inversion.high);
-      exact_change_lem = (h.exact_change_lem.low, h.exact_change_lem.high);
+      exact_change = (h.exact_change.low, h.exact_change.high);
     }
 
 atoms_writable : {n k : ℕ} {t r : List Line} {xs : List Atom} (m : Molecule) (i : ℕ) → ((k : Kind) → AllGiven k (listed k m.properties)) →
@@ -124,7 +124,7 @@ unfolding atoms_from
 atoms_number_lem m i Atoms.none = refl
 atoms_number_lem m i (Atoms.more h p) = ap suc (atoms_number_lem m (suc i) p)
 
-masses_by : (m : Molecule) (i : ℕ) (xs : List Atom) → has ISO m ≡ true → Rows 16 (λ t. (atom_row t).mass_difference_lem ≡ pos 0) (atoms_from m i xs)
+masses_by : (m : Molecule) (i : ℕ) (xs : List Atom) → has ISO m ≡ true → Rows 16 (λ t. (atom_row t).mass_difference ≡ pos 0) (atoms_from m i xs)
 unfolding Rows atoms_from
 masses_by m i [] h = tt
 masses_by m i (a ∷ xs) h = ((refl, rw h), masses_by m (suc i) xs h)
@@ -136,7 +136,7 @@ no_isotopes m i (a ∷ xs) h =
     let e : given ISO m i ≡ pos 0 = ap (λ (es : List Entry). number_in es i) (not_among ISO m.properties h) in
     rw e (no_isotopes m (suc i) xs h)
 
-masses_good : (m : Molecule) (xs : List Atom) (t : Bool) → has ISO m ≡ t → entries_from ISO 1 (atoms_from m 1 xs) ≢ [] → Rows 16 (λ t. (atom_row t).mass_difference_lem ≡ pos 0) (atoms_from m 1 xs)
+masses_good : (m : Molecule) (xs : List Atom) (t : Bool) → has ISO m ≡ t → entries_from ISO 1 (atoms_from m 1 xs) ≢ [] → Rows 16 (λ t. (atom_row t).mass_difference ≡ pos 0) (atoms_from m 1 xs)
 masses_good m xs true e h = masses_by m 1 xs e
 masses_good m xs false e h = absurd (h (no_isotopes m 1 xs e))
 

@@ -55,16 +55,16 @@ coded mass code =
       y = pos 0;
       z = pos 0;
       symbol = 6;
-      mass_difference_lem = pos mass;
-      charge_code_lem = code;
+      mass_difference = pos mass;
+      charge_code = code;
       parity = 0;
-      hydrogen_count_lem = 0;
-      stereo_care_lem = 0;
+      hydrogen_count = 0;
+      stereo_care = 0;
       valence = 0;
       H0 = 0;
-      atom_map_lem = 0;
+      atom_map = 0;
       inversion = 0;
-      exact_change_lem = 0;
+      exact_change = 0;
     }
 
 coded_fine : (n mass code : ℕ) → mass ≤ 4 → code ≤ 7 → GoodAtom n (coded mass code)
@@ -74,16 +74,16 @@ coded_fine n mass code m c =
       y = omega arith;
       z = omega arith;
       symbol = omega arith;
-      mass_difference_lem = m;
-      charge_code_lem = c;
+      mass_difference = m;
+      charge_code = c;
       parity = omega arith;
-      hydrogen_count_lem = omega arith;
-      stereo_care_lem = omega arith;
+      hydrogen_count = omega arith;
+      stereo_care = omega arith;
       valence = omega arith;
       H0 = omega arith;
-      atom_map_lem = omega arith;
+      atom_map = omega arith;
       inversion = omega arith;
-      exact_change_lem = omega arith;
+      exact_change = omega arith;
     }
 
 -- a molecule without bonds

@@ -37,17 +37,17 @@ atom_fields a =
     coordinate_text a.z ∷
     bytes " " ∷
     symbol_text a.symbol ∷
-    signed_text 2 a.mass_difference_lem ∷
-    number_text 3 a.charge_code_lem ∷
+    signed_text 2 a.mass_difference ∷
+    number_text 3 a.charge_code ∷
     number_text 3 a.parity ∷
-    number_text 3 a.hydrogen_count_lem ∷
-    number_text 3 a.stereo_care_lem ∷
+    number_text 3 a.hydrogen_count ∷
+    number_text 3 a.stereo_care ∷
     number_text 3 a.valence ∷
     number_text 3 a.H0 ∷
     bytes "  0  0" ∷
-    number_text 3 a.atom_map_lem ∷
+    number_text 3 a.atom_map ∷
     number_text 3 a.inversion ∷
-    number_text 3 a.exact_change_lem ∷ []
+    number_text 3 a.exact_change ∷ []
 
 unfoldable pub atom_text : Atom → Line
 atom_text a = joined (atom_fields a)

@@ -73,16 +73,16 @@ pub record GoodAtom (n : ℕ) (a : Atom) : Type 0 where
   pub y : Between 99999999 999999999 a.y
   pub z : Between 99999999 999999999 a.z
   pub symbol : (1 ≤ a.symbol) × (a.symbol ≤ length names)
-  pub mass_difference_lem : Between 3 4 a.mass_difference_lem
-  pub charge_code_lem : a.charge_code_lem ≤ 7
+  pub mass_difference : Between 3 4 a.mass_difference
+  pub charge_code : a.charge_code ≤ 7
   pub parity : a.parity ≤ 3
-  pub hydrogen_count_lem : a.hydrogen_count_lem ≤ 5
-  pub stereo_care_lem : a.stereo_care_lem ≤ 1
+  pub hydrogen_count : a.hydrogen_count ≤ 5
+  pub stereo_care : a.stereo_care ≤ 1
   pub valence : a.valence ≤ 15
   pub H0 : a.H0 ≤ 1
-  pub atom_map_lem : a.atom_map_lem ≤ n
+  pub atom_map : a.atom_map ≤ n
   pub inversion : a.inversion ≤ 2
-  pub exact_change_lem : a.exact_change_lem ≤ 1
+  pub exact_change : a.exact_change ≤ 1
 
 abbrev atom_widths : List ℕ
 atom_widths = 10 ∷ 10 ∷ 10 ∷ 1 ∷ 3 ∷ 2 ∷ 3 ∷ 3 ∷ 3 ∷ 3 ∷ 3 ∷ 3 ∷ 6 ∷ 3 ∷ 3 ∷ 3 ∷ []
@@ -103,22 +103,22 @@ atom_fields_lem a = (
         (
           (symbol_length a.symbol, symbol_allowed a.symbol),
           (
-            (signed_length 2 a.mass_difference_lem, signed_allowed 2 a.mass_difference_lem),
+            (signed_length 2 a.mass_difference, signed_allowed 2 a.mass_difference),
             (
-              three a.charge_code_lem,
+              three a.charge_code,
               (
                 three a.parity,
                 (
-                  three a.hydrogen_count_lem,
+                  three a.hydrogen_count,
                   (
-                    three a.stereo_care_lem,
+                    three a.stereo_care,
                     (
                       three a.valence,
                       (
                         three a.H0,
                         (
                           (refl, omega arith),
-                          (three a.atom_map_lem, (three a.inversion, (three a.exact_change_lem, tt))),
+                          (three a.atom_map, (three a.inversion, (three a.exact_change, tt))),
                         ),
                       ),
                     ),
@@ -155,16 +155,16 @@ atom_written n a small g =
       z = subst (λ (cs : Bytes). Coordinate cs a.z) (sym (at 2 (omega arith))) (coordinate_back a.z g.z);
       space = first_byte 32 l 31 (at 3 (omega arith));
       symbol = subst (λ (cs : Bytes). Symbol cs a.symbol) (sym (at 4 (omega arith))) (symbol_back a.symbol g.symbol.0 g.symbol.1);
-      mass_difference_lem = signed_in_lem l 35 36 2 3 4 a.mass_difference_lem (at 5 (omega arith)) (fitting 2 3 4 a.mass_difference_lem (omega arith) (omega arith) g.mass_difference_lem) g.mass_difference_lem;
-      charge_code_lem = number_in_lem l 37 39 3 0 7 a.charge_code_lem (at 6 (omega arith)) (omega (arith, g.charge_code_lem)) (omega arith) g.charge_code_lem;
+      mass_difference = signed_in_lem l 35 36 2 3 4 a.mass_difference (at 5 (omega arith)) (fitting 2 3 4 a.mass_difference (omega arith) (omega arith) g.mass_difference) g.mass_difference;
+      charge_code = number_in_lem l 37 39 3 0 7 a.charge_code (at 6 (omega arith)) (omega (arith, g.charge_code)) (omega arith) g.charge_code;
       parity = number_in_lem l 40 42 3 0 3 a.parity (at 7 (omega arith)) (omega (arith, g.parity)) (omega arith) g.parity;
-      hydrogen_count_lem = number_in_lem l 43 45 3 0 5 a.hydrogen_count_lem (at 8 (omega arith)) (omega (arith, g.hydrogen_count_lem)) (omega arith) g.hydrogen_count_lem;
-      stereo_care_lem = number_in_lem l 46 48 3 0 1 a.stereo_care_lem (at 9 (omega arith)) (omega (arith, g.stereo_care_lem)) (omega arith) g.stereo_care_lem;
+      hydrogen_count = number_in_lem l 43 45 3 0 5 a.hydrogen_count (at 8 (omega arith)) (omega (arith, g.hydrogen_count)) (omega arith) g.hydrogen_count;
+      stereo_care = number_in_lem l 46 48 3 0 1 a.stereo_care (at 9 (omega arith)) (omega (arith, g.stereo_care)) (omega arith) g.stereo_care;
       valence = number_in_lem l 49 51 3 0 15 a.valence (at 10 (omega arith)) (omega (arith, g.valence)) (omega arith) g.valence;
       H0 = number_in_lem l 52 54 3 0 1 a.H0 (at 11 (omega arith)) (omega (arith, g.H0)) (omega arith) g.H0;
-      atom_map_lem = number_in_lem l 61 63 3 0 n a.atom_map_lem (at 13 (omega arith)) (omega (arith, g.atom_map_lem)) (omega arith) g.atom_map_lem;
+      atom_map = number_in_lem l 61 63 3 0 n a.atom_map (at 13 (omega arith)) (omega (arith, g.atom_map)) (omega arith) g.atom_map;
       inversion = number_in_lem l 64 66 3 0 2 a.inversion (at 14 (omega arith)) (omega (arith, g.inversion)) (omega arith) g.inversion;
-      exact_change_lem = number_in_lem l 67 69 3 0 1 a.exact_change_lem (at 15 (omega arith)) (omega (arith, g.exact_change_lem)) (omega arith) g.exact_change_lem;
+      exact_change = number_in_lem l 67 69 3 0 1 a.exact_change (at 15 (omega arith)) (omega (arith, g.exact_change)) (omega arith) g.exact_change;
       rest = joined_past 70 (atom_fields a) atom_widths h (omega arith);
     }
 

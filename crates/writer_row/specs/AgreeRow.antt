@@ -10,10 +10,10 @@ use Rattle.writer_row.specs.AgreeNumber.{and_agrees, from_to, between, differ_ag
 pub atom_agrees : (n : ℕ) (a : AtomRow) → (atom_holds n a ≡ true) ↔ WritableAtom n a
 unfolding atom_holds place_holds numbers_hold codes_hold changes_hold
 atom_agrees n a =
-    let place = and_agrees (between _ _ a.x) (and_agrees (between _ _ a.y) (and_agrees (between _ _ a.z) (and_agrees (from_to _ _ a.symbol) (between _ _ a.mass_difference_lem)))) in
-    let numbers = and_agrees (between _ _ a.charge) (and_agrees (from_to _ _ a.radical) (and_agrees (from_to _ _ a.isotope) (and_agrees (from_to _ _ a.parity) (from_to _ _ a.hydrogen_count_lem)))) in
-    let codes = and_agrees (from_to _ _ a.stereo_care_lem) (and_agrees (from_to _ _ a.valence) (and_agrees (from_to _ _ a.H0) (from_to _ n a.atom_map_lem))) in
-    let changes = and_agrees (from_to _ _ a.inversion) (from_to _ _ a.exact_change_lem) in
+    let place = and_agrees (between _ _ a.x) (and_agrees (between _ _ a.y) (and_agrees (between _ _ a.z) (and_agrees (from_to _ _ a.symbol) (between _ _ a.mass_difference)))) in
+    let numbers = and_agrees (between _ _ a.charge) (and_agrees (from_to _ _ a.radical) (and_agrees (from_to _ _ a.isotope) (and_agrees (from_to _ _ a.parity) (from_to _ _ a.hydrogen_count)))) in
+    let codes = and_agrees (from_to _ _ a.stereo_care) (and_agrees (from_to _ _ a.valence) (and_agrees (from_to _ _ a.H0) (from_to _ n a.atom_map))) in
+    let changes = and_agrees (from_to _ _ a.inversion) (from_to _ _ a.exact_change) in
     let all = and_agrees place (and_agrees numbers (and_agrees codes changes)) in (
       (λ h.
           let p = (all.0 h).0 in
@@ -25,26 +25,26 @@ atom_agrees n a =
             y = p.1.0;
             z = p.1.1.0;
             symbol = p.1.1.1.0;
-            mass_difference_lem = p.1.1.1.1;
+            mass_difference = p.1.1.1.1;
             charge = q.0;
             radical = q.1.0;
             isotope = q.1.1.0;
             parity = q.1.1.1.0;
-            hydrogen_count_lem = q.1.1.1.1;
-            stereo_care_lem = c.0;
+            hydrogen_count = q.1.1.1.1;
+            stereo_care = c.0;
             valence = c.1.0;
             H0 = c.1.1.0;
-            atom_map_lem = c.1.1.1;
+            atom_map = c.1.1.1;
             inversion = d.0;
-            exact_change_lem = d.1;
+            exact_change = d.1;
           }),
       (λ w. all.1 (
-        (w.x, (w.y, (w.z, (w.symbol, w.mass_difference_lem)))),
+        (w.x, (w.y, (w.z, (w.symbol, w.mass_difference)))),
         (
-          (w.charge, (w.radical, (w.isotope, (w.parity, w.hydrogen_count_lem)))),
+          (w.charge, (w.radical, (w.isotope, (w.parity, w.hydrogen_count)))),
           (
-            (w.stereo_care_lem, (w.valence, (w.H0, w.atom_map_lem))),
-            (w.inversion, w.exact_change_lem),
+            (w.stereo_care, (w.valence, (w.H0, w.atom_map))),
+            (w.inversion, w.exact_change),
           ),
         ),
       )),

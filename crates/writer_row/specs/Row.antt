@@ -30,7 +30,7 @@ place_holds a =
     (in_range (minus 99999999) 999999999 a.y &&
     (in_range (minus 99999999) 999999999 a.z &&
     (in_range (pos 1) (length names) a.symbol &&
-    in_range (minus 3) 4 a.mass_difference_lem)))
+    in_range (minus 3) 4 a.mass_difference)))
 
 -- charge, radical, isotope, parity, hydrogen count
 unfoldable pub numbers_hold : AtomRow → Bool
@@ -39,19 +39,19 @@ numbers_hold a =
     (in_range (pos 0) 3 a.radical &&
     (in_range (pos 0) 999 a.isotope &&
     (in_range (pos 0) 3 a.parity &&
-    in_range (pos 0) 5 a.hydrogen_count_lem)))
+    in_range (pos 0) 5 a.hydrogen_count)))
 
 -- stereo care, valence, H0, atom map
 unfoldable pub codes_hold : ℕ → AtomRow → Bool
 codes_hold n a =
-    in_range (pos 0) 1 a.stereo_care_lem &&
+    in_range (pos 0) 1 a.stereo_care &&
     (in_range (pos 0) 15 a.valence &&
     (in_range (pos 0) 1 a.H0 &&
-    in_range (pos 0) n a.atom_map_lem))
+    in_range (pos 0) n a.atom_map))
 
 -- inversion, exact change
 unfoldable pub changes_hold : AtomRow → Bool
-changes_hold a = in_range (pos 0) 2 a.inversion && in_range (pos 0) 1 a.exact_change_lem
+changes_hold a = in_range (pos 0) 2 a.inversion && in_range (pos 0) 1 a.exact_change
 
 -- in a record of n atoms
 unfoldable pub atom_holds : ℕ → AtomRow → Bool

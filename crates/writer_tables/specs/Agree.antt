@@ -19,7 +19,7 @@ record Hold (n : ℕ) (ts us : List (List ℤ)) : Type 0 where
   atoms : Rows 16 (λ (t : List ℤ). WritableAtom n (atom_row t)) ts
   bonds : Rows 6 (λ (t : List ℤ). WritableBond n (bond_row t)) us
   once : NoPairTwice (map (λ (t : List ℤ). bond_of (bond_row t)) us)
-  masses : entries_from ISO 1 ts ≢ [] → Rows 16 (λ (t : List ℤ). (atom_row t).mass_difference_lem ≡ pos 0) ts
+  masses : entries_from ISO 1 ts ≢ [] → Rows 16 (λ (t : List ℤ). (atom_row t).mass_difference ≡ pos 0) ts
 
 counts_agree : (n m chiral : ℕ) → (counts_hold n m chiral ≡ true) ↔ (n ≤ limit) × ((m ≤ limit) × ((2 * m ≤ n * (n - 1)) × (chiral ≤ 1)))
 unfolding counts_hold

@@ -41,7 +41,7 @@ either true b P Q f g = ((λ h k. absurd (k (f.0 refl))), (λ h. refl))
 either false b P Q f g = ((λ h k. g.0 h), (λ h. g.1 (h (λ p. true_false (sym (f.1 p))))))
 
 pub masses_agree : (n : ℕ) (t : List ℤ) → 16 * n ≤ length t →
-    (masses_hold (rows_of 16 n t) ≡ true) ↔ (entries_from ISO 1 (rows_of 16 n t) ≢ [] → Rows 16 (λ (r : List ℤ). (atom_row r).mass_difference_lem ≡ pos 0) (rows_of 16 n t))
+    (masses_hold (rows_of 16 n t) ≡ true) ↔ (entries_from ISO 1 (rows_of 16 n t) ≢ [] → Rows 16 (λ (r : List ℤ). (atom_row r).mass_difference ≡ pos 0) (rows_of 16 n t))
 unfolding masses_hold
 masses_agree n t h =
-    either _ _ _ _ (no_isotope 1 (rows_of 16 n t)) (rows_agree 16 (λ (r : List ℤ). is_zero (get_or r 4 (pos 0))) (λ (r : List ℤ). (atom_row r).mass_difference_lem ≡ pos 0) (λ r. zero_agrees (get_or r 4 (pos 0))) n t h)
+    either _ _ _ _ (no_isotope 1 (rows_of 16 n t)) (rows_agree 16 (λ (r : List ℤ). is_zero (get_or r 4 (pos 0))) (λ (r : List ℤ). (atom_row r).mass_difference ≡ pos 0) (λ r. zero_agrees (get_or r 4 (pos 0))) n t h)
