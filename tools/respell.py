@@ -117,7 +117,8 @@ def of_antt(text, to):
 def of_rust(text, to):
     out = []
     for p in RUST.findall(text):
-        out.append(in_ticks(p, to) if p.startswith("//") else p if p[:1] in "\"'" else to.get(p, p))
+        # A word that has the spelling already is a name of the source there.
+        out.append(in_ticks(p, to) if p.startswith("//") else to[p] if p[:1] not in "\"'" and p in to and wants(p) else p)
     return "".join(out)
 
 

@@ -84,7 +84,7 @@ fn symbol_count(s: &[u8], at: usize) -> u32
     requires { at < length s.now }
     ensures { result ≡ symbol_count s.now at }
 {
-    let e = formula_text::symbol_end_lem(s, at);
+    let e = formula_text::symbol_end(s, at);
     count_value(s, e)
 }
 

@@ -93,7 +93,7 @@ pub fn element_at(s: &[u8], at: usize) -> u32
 }
 
 // Where the symbol ends that starts here.
-pub fn symbol_end_lem(s: &[u8], at: usize) -> usize
+pub fn symbol_end(s: &[u8], at: usize) -> usize
     requires { at < length s.now }
     ensures { result ≡ symbol_end s.now at }
 {
@@ -113,7 +113,7 @@ pub fn symbol_at(s: &[u8], at: usize) -> Parsed
     if k == 0 {
         return Parsed::Bad;
     }
-    let e = symbol_end_lem(s, at);
+    let e = symbol_end(s, at);
     count_at(s, e)
 }
 

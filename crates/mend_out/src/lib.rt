@@ -135,7 +135,7 @@ pub fn drop_line(m: Mender, next: usize, list: &mut [u64]) -> Mender
 pub fn put_line(m: Mender, room: &mut [u8], list: &mut [u64]) -> Mender
     requires { CanPut m }
     ensures value { result ≡ put_by m }
-    ensures room_after_lem { room.new ≡ set room.old m.out LF }
+    ensures room_after { room.new ≡ set room.old m.out LF }
     ensures list_after { list.new ≡ sets list.old (2 * m.repairs) (m.line ∷ (1 ∷ [])) }
 {
     store_byte(room, m.out, b'\n');
@@ -147,7 +147,7 @@ pub fn put_line(m: Mender, room: &mut [u8], list: &mut [u64]) -> Mender
 fn end_line(m: Mender, bytes: usize, next: usize, room: &mut [u8], list: &mut [u64]) -> Mender
     requires { CanKeep m bytes 1 }
     ensures value { result ≡ ended_by m bytes next }
-    ensures room_after_lem { room.new ≡ set room.old (m.out + bytes) LF }
+    ensures room_after { room.new ≡ set room.old (m.out + bytes) LF }
     ensures list_after { list.new ≡ sets list.old (2 * m.repairs) (m.line ∷ (3 ∷ [])) }
 {
     store_byte(room, m.out + bytes, b'\n');

@@ -109,7 +109,7 @@ fn is_here(t: Tally, at: usize, used: usize, name: &[u8]) -> bool
 }
 
 // One record more.
-fn one_more_lem(t: Tally) -> Tally
+fn one_more(t: Tally) -> Tally
     requires { t.count ≤ most_records }
     ensures { result ≡ one_more t }
 {
@@ -147,7 +147,7 @@ fn change_at(t: Tally, at: usize, used: usize, name: &[u8]) -> Change
     if is_here(t, at, used, name) {
         return Change {
             end: at,
-            tally: one_more_lem(t),
+            tally: one_more(t),
             now: Added::Now(used),
         };
     }

@@ -298,7 +298,7 @@ fn write_file(s: &[u8], atoms: &mut [i32], bonds: &mut [i32], room: &mut [u8]) -
 fn fill_room(s: &[u8], atoms: &mut [i32], bonds: &mut [i32], room: &mut [u8]) -> Catalogue
     requires { (atom_places ≤ length atoms.old) × (bond_places ≤ length bonds.old) }
     ensures value { result ≡ answer_by (file_for s.now (length room.old)) }
-    ensures room_after_lem { room.new ≡ room_by room.old (file_for s.now (length room.old)) }
+    ensures room_after { room.new ≡ room_by room.old (file_for s.now (length room.old)) }
     ensures beside { Beside atom_places atoms.old atoms.new }
     ensures beside_2 { Beside bond_places bonds.old bonds.new }
 {
@@ -315,7 +315,7 @@ fn fill_room(s: &[u8], atoms: &mut [i32], bonds: &mut [i32], room: &mut [u8]) ->
 fn write_roomy(s: &[u8], atoms: &mut [i32], bonds: &mut [i32], room: &mut [u8]) -> Catalogue
     requires { (atom_places ≤ length atoms.old) × (bond_places ≤ length bonds.old) }
     ensures value { result ≡ answer_by (file_for s.now (length room.old)) }
-    ensures room_after_lem { room.new ≡ room_by room.old (file_for s.now (length room.old)) }
+    ensures room_after { room.new ≡ room_by room.old (file_for s.now (length room.old)) }
     ensures atoms_after { atoms.new ≡ rows_in atom_places atoms.old [] }
     ensures bonds_after { bonds.new ≡ rows_in bond_places bonds.old [] }
 {

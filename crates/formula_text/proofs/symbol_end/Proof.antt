@@ -1,9 +1,9 @@
 use Rattle.formula_text.specs.Steps.{element_laws}
 use borrow.Author.Rules.{rules}
-use Rattle.formula_text.proofs.symbol_end_lem.Statement.{statement}
-use Rattle.formula_text.proofs.symbol_end_lem.Tie as tie
-use Rattle.formula_text.proofs.symbol_end_lem.Reads as reads
-use Rattle.formula_text.proofs.symbol_end_lem.Lts as lts
+use Rattle.formula_text.proofs.symbol_end.Statement.{statement}
+use Rattle.formula_text.proofs.symbol_end.Tie as tie
+use Rattle.formula_text.proofs.symbol_end.Reads as reads
+use Rattle.formula_text.proofs.symbol_end.Lts as lts
 use Rattle.formula_text.proofs.byte_at.Reads as byte-at-reads
 use Rattle.formula_text.proofs.in_range.Reads as in-range-reads
 
