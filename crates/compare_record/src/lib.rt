@@ -11,7 +11,7 @@ use compare_rules::{Count, Place};
 use text::LineAt;
 
 // The numbers of a counts line.
-#[derive(Drop)]
+#[derive(Clone, Copy)]
 pub struct Numbers {
     pub n: u32,
     pub m: u32,

@@ -1,7 +1,7 @@
 // Two SDfiles compared, record by record: definitions and theorems, all in specs/. Nothing runs here; the code above shares these forms.
 
 // Where two files differ: the record's number, the part of it, the place in that part, the field. Numbers count from 1; 0 where there is none.
-#[derive(Drop)]
+#[derive(Clone, Copy)]
 pub struct Place {
     pub position: usize,
     pub part: u8,

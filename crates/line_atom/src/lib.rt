@@ -16,7 +16,7 @@ pub enum PositionRead {
 }
 
 // Where an atom stands and what it is: columns 1 to 34.
-#[derive(Drop)]
+#[derive(Clone, Copy)]
 pub struct AtomPlace {
     pub x: i32,
     pub y: i32,
@@ -31,7 +31,7 @@ pub enum PlaceRead {
 }
 
 // The codes of an atom in columns 35 to 48.
-#[derive(Drop)]
+#[derive(Clone, Copy)]
 pub struct AtomCodes {
     pub mass_difference: i32,
     pub charge_code: u32,

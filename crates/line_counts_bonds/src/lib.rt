@@ -14,7 +14,7 @@ use text::Found;
 // The most atoms, and the most bonds, of a record.
 pub const LIMIT: u32 = rules::LIMIT as u32;
 
-#[derive(Drop)]
+#[derive(Clone, Copy)]
 pub struct Counts {
     pub atoms: u32,
     pub bonds: u32,

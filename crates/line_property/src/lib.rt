@@ -12,7 +12,7 @@ use line_fields::{Field, SignedField};
 use rules::{LISTED, PLACES};
 use text::Found;
 
-#[derive(Drop)]
+#[derive(Clone, Copy)]
 pub enum Kind {
     Charge,
     Radical,

@@ -12,7 +12,7 @@ use reader_state::{Reader, Step};
 use rules::LISTED;
 
 // Where the walk over a file stands: within a record, and whether one has ended before it.
-#[derive(Drop)]
+#[derive(Clone, Copy)]
 pub struct Judge {
     pub reader: Reader,
     pub bonds: usize,

@@ -5,7 +5,7 @@ ghost use Rattle.reader_answer.specs.Read.{answered};
 use reader_walk::Walked;
 
 // What a reading answers; the rows stand in the tables.
-#[derive(Drop)]
+#[derive(Clone, Copy)]
 pub enum RecordRead {
     Read {
         n: u32,

@@ -9,7 +9,7 @@ use reader_walk::Walked;
 use rules::{ATOMS, BONDS, LISTED};
 
 // So many bytes, lines and records of the file stand before it.
-#[derive(Drop)]
+#[derive(Clone, Copy)]
 pub struct Cursor {
     pub at: usize,
     pub lines: usize,

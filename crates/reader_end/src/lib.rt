@@ -17,7 +17,7 @@ pub struct Repeat {
 }
 
 // One record: its counts, its bytes and lines, where its header lines end, and where its items begin and end.
-#[derive(Drop)]
+#[derive(Clone, Copy)]
 pub enum Walked {
     Whole {
         counts: Counts,

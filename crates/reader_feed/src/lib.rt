@@ -5,7 +5,7 @@ ghost use Rattle.reader_feed.specs.Fed.{plus_of, begun, counted, wait_of, short_
 use reader_cursor::{Cursor, Ended};
 
 // So many records and lines are done with.
-#[derive(Drop)]
+#[derive(Clone, Copy)]
 pub struct Counter {
     pub records: usize,
     pub lines: usize,

@@ -12,7 +12,7 @@ use reader_state::{Reader, Step};
 use rules::LISTED;
 
 // What has been noted of a record: how many rows the tables hold, and where its header lines end and its items begin.
-#[derive(Drop)]
+#[derive(Clone, Copy)]
 pub struct Notes {
     pub atoms: usize,
     pub bonds: usize,

@@ -7,7 +7,7 @@ ghost use Rattle.reader_places.specs.Places.{longest_in, line_got, finished_at, 
 use text::Found;
 
 // `owed` counts the lines that still belong to the place, the next one among them.
-#[derive(Drop)]
+#[derive(Clone, Copy)]
 pub enum Place {
     Header { owed: u32 },
     Counts,

@@ -12,7 +12,7 @@ use line_text::{HeaderJudged, ItemRead, ValueRead};
 use reader_places::{Finish, LineJudged, Place};
 use rules::LISTED;
 
-#[derive(Drop)]
+#[derive(Clone, Copy)]
 pub struct Reader {
     // An SDfile, or else a molfile.
     pub sd: bool,

@@ -16,7 +16,7 @@ use line_counts_bonds::Bond;
 use rules::{LISTED, PLACES};
 
 // What a record's property lines supersede: a line of charges or of radicals every code, a line of isotopes every mass difference.
-#[derive(Drop)]
+#[derive(Clone, Copy)]
 struct Superseded {
     codes: bool,
     masses: bool,

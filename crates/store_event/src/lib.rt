@@ -3,7 +3,7 @@ ghost use Rattle.std.specs.Prelude.{◌≡◌, ◌+◌, ◌≤◌, ◌<◌, leng
 ghost use Rattle.store_event.specs.Scan.{word_at, half_at, key_at, is_scan, scan_of, scan_at};
 
 // Supplier and lot, their twelve bytes as three numbers.
-#[derive(Drop)]
+#[derive(Clone, Copy)]
 pub struct Key {
     pub supplier: u32,
     pub first: u32,

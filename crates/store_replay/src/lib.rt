@@ -13,7 +13,7 @@ const MOST: u32 = 1000000;
 const FAR: usize = 9223372036854775808;
 
 // The next event starts at `at`; so many events were before it, and so many lots are in the store.
-#[derive(Drop)]
+#[derive(Clone, Copy)]
 pub struct Replay {
     pub at: usize,
     pub events: usize,
@@ -22,7 +22,7 @@ pub struct Replay {
 
 // What is told of an event, and the state past it. Events count from 1. A count gives the lot's place, which is the number of lots for one never received,
 // and paper minus shelf. A skipped event has changed nothing; a refusal and the end change nothing and have no next.
-#[derive(Drop)]
+#[derive(Clone, Copy)]
 pub enum Step {
     Received {
         quantity: u16,

@@ -22,7 +22,7 @@ pub enum Step {
 }
 
 // A file: how many records it added, and the totals then; or a refusal, with the record that met 23, 24 or 25, else 0.
-#[derive(Drop)]
+#[derive(Clone, Copy)]
 pub enum Tallied {
     Done {
         records: usize,

@@ -16,7 +16,7 @@ pub enum Order {
 }
 
 // A supplier and how many records it sent. Only the first `length` bytes are its name.
-#[derive(Drop)]
+#[derive(Clone, Copy)]
 pub struct Tally {
     pub name: [u8; SUPPLIER],
     pub length: u32,
@@ -24,7 +24,7 @@ pub struct Tally {
 }
 
 // Beside a list: how many of its tallies are in use, records without a supplier, all records.
-#[derive(Drop)]
+#[derive(Clone, Copy)]
 pub struct Totals {
     pub entries: u32,
     pub missing: u32,

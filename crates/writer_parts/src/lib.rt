@@ -16,7 +16,7 @@ pub enum PartJudged {
 }
 
 // Where a line of a part stands. `Full` comes after the three header lines.
-#[derive(Drop)]
+#[derive(Clone, Copy)]
 pub enum Place {
     First,
     Second,
