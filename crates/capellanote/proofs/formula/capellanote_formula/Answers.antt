@@ -1,0 +1,15 @@
+use Rattle.capellanote.specs.Formula.{compared_held, compared_told_lem}
+use borrow.Author.Rules.{rules}
+use Rattle.capellanote.proofs.formula.capellanote_formula.Goals as goal
+
+pub returns : goal.returns
+returns c =
+    let o = c.of_compared.ensures in
+    let q = c.compare_formula.ensures in
+    record {
+        answer_after = compared_held _ _ _ o q.0;
+        found_after = q.1.0;
+        atoms_after = q.1.1.0;
+        bonds_after = q.1.1.1.0;
+        compare_promise = compared_told_lem _ _ _ _ _ _ _ _ _ o q.1.1.1.1;
+    }

@@ -1,0 +1,25 @@
+-- `capellanote::replay::state_after` meets its contract.
+use Rattle.capellanote.specs.Replay.{state_laws}
+use borrow.Author.Rules.{rules}
+use Rattle.capellanote.proofs.replay.state_after.Goals as goal
+
+pub returns-in-Received : goal.returns-in-Received
+returns-in-Received c = search (rules, state_laws)
+
+pub returns-in-Issued : goal.returns-in-Issued
+returns-in-Issued c = search (rules, state_laws)
+
+pub returns-in-Counted : goal.returns-in-Counted
+returns-in-Counted c = search (rules, state_laws)
+
+pub returns-in-Day : goal.returns-in-Day
+returns-in-Day c = search (rules, state_laws)
+
+pub returns-in-Skipped : goal.returns-in-Skipped
+returns-in-Skipped c = search (rules, state_laws)
+
+pub returns-in-Refused : goal.returns-in-Refused
+returns-in-Refused c = search (rules, state_laws)
+
+pub returns-in-End : goal.returns-in-End
+returns-in-End c = search (rules, state_laws)

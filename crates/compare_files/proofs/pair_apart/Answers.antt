@@ -1,0 +1,19 @@
+use borrow.Author.Rules.{rules}
+use Rattle.compare_files.specs.Pair.{both_read, both_kept}
+use Rattle.compare_files.proofs.pair_apart.Goals as goal
+
+pub pair_read-requires : goal.pair_read-requires
+pair_read-requires c =    let s = c in
+    let x = c.read_rows-x.ensures in
+    let y = c.read_rows-y.ensures in
+    both_read _ _ _ _ _ _ _ s.requires _ _ _ _ x.1 y.1 _ _ x.0 y.0
+
+pub returns : goal.returns
+returns c =
+    let s = c in
+    let x = c.read_rows-x.ensures in
+    let y = c.read_rows-y.ensures in
+    record {
+        paired = search;
+        kept = both_kept _ _ _ _ _ _ _ s.requires _ _ _ _ x.1 y.1;
+    }

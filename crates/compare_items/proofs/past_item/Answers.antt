@@ -1,0 +1,26 @@
+use borrow.Author.Rules.{rules}
+use Prim.Native.Nat.{◌-◌}
+use lib.ListN.{length}
+use Rattle.compare_items.specs.Resting.{Passing, passing_laws}
+use Rattle.compare_items.proofs.past_item.Goals as goal
+
+pub loop-next-init : goal.loop-next-init
+loop-next-init c = search (rules, passing_laws)
+
+pub value_at-requires : goal.value_at-requires
+value_at-requires c = search (rules, passing_laws)
+
+pub enum_known-next : goal.enum_known-next
+enum_known-next c = search (rules, passing_laws)
+
+pub loop-next-smaller : goal.loop-next-smaller
+loop-next-smaller c = search (rules, passing_laws)
+
+pub loop-next-preserved : goal.loop-next-preserved
+loop-next-preserved c = search (rules, passing_laws)
+
+pub enum_known-next-in-Over-1 : goal.enum_known-next-in-Over-1
+enum_known-next-in-Over-1 c = search (rules, passing_laws)
+
+pub returns-in-Over : goal.returns-in-Over
+returns-in-Over c = search (rules, passing_laws)

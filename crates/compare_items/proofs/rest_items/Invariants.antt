@@ -1,0 +1,12 @@
+use borrow.Author.Rules.{rules}
+use Prim.Native.Nat.{◌-◌}
+use lib.ListN.{length}
+use Rattle.compare_rules.specs.Log.{log}
+use Rattle.compare_items.specs.Items.{Left, left_laws}
+use Rattle.compare_items.proofs.rest_items.Given as goal
+
+abbrev pub invariant-loop-next : goal.invariant-loop-next
+invariant-loop-next l = Left l.p l.side l.s l.at (log l.initial.list l.initial.c) (log l.list l.c) l.x l.k
+
+abbrev pub decreases-loop-next : goal.decreases-loop-next
+decreases-loop-next l = length l.s - l.x

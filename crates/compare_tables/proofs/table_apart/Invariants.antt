@@ -1,0 +1,11 @@
+use borrow.Author.Rules.{rules}
+use native.Mathlib.Omega.{arith}
+use Prim.Native.Nat.{◌-◌}
+use Rattle.compare_tables.specs.SideBySide.{Tabling, table_laws, row_inside}
+use Rattle.compare_tables.proofs.table_apart.Given as goal
+
+abbrev pub invariant-loop-i : goal.invariant-loop-i
+invariant-loop-i l = Tabling l.p l.width l.n l.a l.b l.initial.list l.initial.c l.list l.c l.i
+
+abbrev pub decreases-loop-i : goal.decreases-loop-i
+decreases-loop-i l = l.n - l.i

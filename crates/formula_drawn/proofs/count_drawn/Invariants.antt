@@ -1,0 +1,11 @@
+use borrow.Author.Rules.{rules}
+use Prim.Native.Nat.{◌-◌}
+use Rattle.formula_rules.specs.Capped.{below_here}
+use Rattle.formula_drawn.specs.Tallying.{Tallying, tally_laws, tally_stop, tally_end}
+use Rattle.formula_drawn.proofs.count_drawn.Given as goal
+
+abbrev pub invariant-loop-i : goal.invariant-loop-i
+invariant-loop-i l = Tallying l.atoms l.n l.initial.drawn l.drawn l.i
+
+abbrev pub decreases-loop-i : goal.decreases-loop-i
+decreases-loop-i l = l.n - l.i

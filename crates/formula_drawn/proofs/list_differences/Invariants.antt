@@ -1,0 +1,10 @@
+use borrow.Author.Rules.{rules}
+use Prim.Native.Nat.{◌-◌}
+use Rattle.formula_drawn.specs.Listing.{entry, Listing, listing_laws, listing_end}
+use Rattle.formula_drawn.proofs.list_differences.Given as goal
+
+abbrev pub invariant-loop-k : goal.invariant-loop-k
+invariant-loop-k l = Listing (entry l.written) (entry l.drawn) l.initial.found l.found l.count l.k
+
+abbrev pub decreases-loop-k : goal.decreases-loop-k
+decreases-loop-k l = 119 - l.k

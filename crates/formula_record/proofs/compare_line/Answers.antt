@@ -1,0 +1,34 @@
+use native.Mathlib.Omega.{arith}
+use Rattle.formula_rules.specs.Judged.{empty_below}
+use Rattle.formula_drawn.specs.Drawn.{symbols_from}
+use Rattle.formula_drawn.specs.Tallying.{symbols_length}
+use Rattle.formula_record.specs.Steps.{line_refused, line_other, line_differs}
+use borrow.Author.Rules.{rules}
+use Rattle.formula_record.proofs.compare_line.Goals as goal
+
+pub returns-then-no-ne0 : goal.returns-then-no-ne0
+returns-then-no-ne0 c =    let st = c in
+    let t = st.args.atoms.now in
+    let n = st.args.n in
+    let ks = symbols_from t 0 n in
+    line_refused st.args.line.now ks c.count_formula-no.ensures.value c.if-no-ne0.true st.args.found.now st.requires.2
+
+pub count_drawn-requires : goal.count_drawn-requires
+count_drawn-requires c =    let st = c in
+    (st.requires.0, empty_below)
+
+pub returns-then-count_drawn : goal.returns-then-count_drawn
+returns-then-count_drawn c =    let st = c in
+    let t = st.args.atoms.now in
+    let n = st.args.n in
+    let ks = symbols_from t 0 n in
+    let few = symbols_length t 0 n in
+    line_differs st.args.line.now ks c.count_formula-no.ensures.value c.if-no-ne0.false (omega (arith, st.requires.1)) c.count_drawn.ensures.value c.if-count_drawn.true
+    _ _ c.count_formula-no.ensures.counts_after c.count_drawn.ensures.drawn_after _ c.list_differences-count.ensures.value st.args.found.now _ st.requires.2 c.list_differences-count.ensures.found_after
+
+pub returns : goal.returns
+returns c =    let st = c in
+    let t = st.args.atoms.now in
+    let n = st.args.n in
+    let ks = symbols_from t 0 n in
+    line_other st.args.line.now ks c.count_formula-no.ensures.value c.if-no-ne0.false c.count_drawn.ensures.value c.if-count_drawn.false st.args.found.now st.requires.2

@@ -1,0 +1,34 @@
+use Rattle.formula_record.specs.Steps.{line_order, line_inside, line_said, empty_said, none_said, zeros_are}
+use borrow.Author.Rules.{rules}
+use Rattle.formula_record.proofs.compare_read.Goals as goal
+
+pub slice_bounds-compare_line-count : goal.slice_bounds-compare_line-count
+slice_bounds-compare_line-count c =    let st = c in
+    line_order st.args.s.now st.args.atoms.now st.args.n st.requires _ (search rules) _ _ c.in-Line.is
+
+pub slice_bounds-compare_line-start : goal.slice_bounds-compare_line-start
+slice_bounds-compare_line-start c =    let st = c in
+    let h = line_order st.args.s.now st.args.atoms.now st.args.n st.requires _ (search rules) _ _ c.in-Line.is in
+    search (rules, h)
+
+pub slice_bounds-compare_line-end : goal.slice_bounds-compare_line-end
+slice_bounds-compare_line-end c =    let st = c in
+    let h = line_order st.args.s.now st.args.atoms.now st.args.n st.requires _ (search rules) _ _ c.in-Line.is in
+    let i = line_inside st.args.s.now st.args.atoms.now st.args.n st.requires _ (search rules) _ _ c.in-Line.is in
+    search (rules, h, i)
+
+pub compare_line-requires : goal.compare_line-requires
+compare_line-requires c =    let st = c in
+    (st.requires.rows, st.requires.few, zeros_are)
+
+pub returns-in-Line : goal.returns-in-Line
+returns-in-Line c =    let st = c in
+    line_said st.args.s.now st.args.atoms.now st.args.n st.requires _ (search rules) _ _ c.in-Line.is _ _ c.compare_line.ensures.value c.compare_line.ensures.found_after
+
+pub returns-in-Empty : goal.returns-in-Empty
+returns-in-Empty c =    let st = c in
+    empty_said st.args.s.now st.args.atoms.now st.args.n st.requires _ (search rules) c.in-Empty.is _ zeros_are
+
+pub returns-in-Refused : goal.returns-in-Refused
+returns-in-Refused c =    let st = c in
+    none_said st.args.s.now st.args.atoms.now st.args.n st.requires _ (search rules) _ _ _ c.in-Refused.is _ zeros_are

@@ -1,0 +1,39 @@
+use Rattle.mend_judge.specs.Judging.{judging_laws}
+use borrow.Author.Rules.{rules}
+use Rattle.mend_judge.proofs.judge_line.Goals as goal
+
+pub step-requires : goal.step-requires
+step-requires c = search (rules, judging_laws)
+
+pub judge_bond-requires : goal.judge_bond-requires
+judge_bond-requires c = search (rules, judging_laws)
+
+pub returns-in-Next : goal.returns-in-Next
+returns-in-Next c = search (rules, judging_laws)
+
+pub returns-in-Headed : goal.returns-in-Headed
+returns-in-Headed c = search (rules, judging_laws)
+
+pub returns-in-Atom : goal.returns-in-Atom
+returns-in-Atom c = search (rules, judging_laws)
+
+pub returns-in-Bond : goal.returns-in-Bond
+returns-in-Bond c = search (rules, judging_laws)
+
+pub returns-in-Ended : goal.returns-in-Ended
+returns-in-Ended c = search (rules, judging_laws)
+
+pub returns-in-Title : goal.returns-in-Title
+returns-in-Title c = search (rules, judging_laws)
+
+pub returns-in-Value : goal.returns-in-Value
+returns-in-Value c = search (rules, judging_laws)
+
+pub returns-in-Blank : goal.returns-in-Blank
+returns-in-Blank c = search (rules, judging_laws)
+
+pub returns-in-Done : goal.returns-in-Done
+returns-in-Done c = search (rules, judging_laws)
+
+pub returns-in-Refused : goal.returns-in-Refused
+returns-in-Refused c = search (rules, judging_laws)

@@ -1,0 +1,57 @@
+-- `reader_items::values_at` meets its contract.
+use borrow.Author.Rules.{rules}
+use Prim.Native.Nat.{◌-◌}
+use lib.ListN.{length}
+use Rattle.reader_items.specs.Running.{Running, running_laws}
+use Rattle.reader_items.proofs.values_at.Goals as goal
+
+pub loop-end-init : goal.loop-end-init
+loop-end-init c = search (rules, running_laws)
+
+pub line_at-requires : goal.line_at-requires
+line_at-requires c = search (rules, running_laws)
+
+pub enum_known-end : goal.enum_known-end
+enum_known-end c = search (rules, running_laws)
+
+pub enum_told-1 : goal.enum_told-1
+enum_told-1 c = search (rules, running_laws)
+
+pub returns-in_default : goal.returns-in_default
+returns-in_default c = search (rules, running_laws)
+
+pub slice_bounds-value_at-count : goal.slice_bounds-value_at-count
+slice_bounds-value_at-count c = search (rules, running_laws)
+
+pub slice_bounds-value_at-start : goal.slice_bounds-value_at-start
+slice_bounds-value_at-start c = search (rules, running_laws)
+
+pub slice_bounds-value_at-end : goal.slice_bounds-value_at-end
+slice_bounds-value_at-end c = search (rules, running_laws)
+
+pub value_at-requires : goal.value_at-requires
+value_at-requires c = search (rules, running_laws)
+
+pub enum_told-in-Value : goal.enum_told-in-Value
+enum_told-in-Value c = search (rules, running_laws)
+
+pub overflow_add-line : goal.overflow_add-line
+overflow_add-line c = search (rules, running_laws)
+
+pub loop-end-smaller : goal.loop-end-smaller
+loop-end-smaller c = search (rules, running_laws)
+
+pub loop-end-preserved : goal.loop-end-preserved
+loop-end-preserved c = search (rules, running_laws)
+
+pub enum_told-in-Blank : goal.enum_told-in-Blank
+enum_told-in-Blank c = search (rules, running_laws)
+
+pub returns-in-Blank : goal.returns-in-Blank
+returns-in-Blank c = search (rules, running_laws)
+
+pub enum_known-no : goal.enum_known-no
+enum_known-no c = search (rules, running_laws)
+
+pub returns-in-Bad : goal.returns-in-Bad
+returns-in-Bad c = search (rules, running_laws)

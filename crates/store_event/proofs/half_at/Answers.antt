@@ -1,0 +1,7 @@
+-- `store_event::half_at` meets its contract.
+use Rattle.store_event.specs.EventRead.{number_laws}
+use borrow.Author.Rules.{rules}
+use Rattle.store_event.proofs.half_at.Goals as goal
+
+pub returns : goal.returns
+returns c = search (rules, number_laws)

@@ -1,0 +1,7 @@
+-- `store_event::word_at` meets its contract.
+use Rattle.store_event.specs.EventRead.{number_laws}
+use borrow.Author.Rules.{rules}
+use Rattle.store_event.proofs.word_at.Goals as goal
+
+pub returns : goal.returns
+returns c = search (rules, number_laws)

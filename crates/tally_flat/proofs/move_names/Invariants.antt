@@ -1,0 +1,10 @@
+use borrow.Author.Rules.{rules}
+use Rattle.tally_flat.specs.Steps.{Moving, moving_start, moving_end, moving_next}
+use Rattle.tally_rules.specs.Tally.{longest}
+use Rattle.tally_flat.proofs.move_names.Given as goal
+
+abbrev pub invariant-loop-j : goal.invariant-loop-j
+invariant-loop-j l = Moving longest l.k l.from l.initial.names l.names l.j
+
+abbrev pub decreases-loop-j : goal.decreases-loop-j
+decreases-loop-j l = l.j

@@ -1,0 +1,11 @@
+use borrow.Author.Rules.{rules}
+use Rattle.tally_flat.specs.Steps.{Ordering, ordering_laws}
+use Prim.Native.Nat.{◌-◌}
+use lib.ListN.{length}
+use Rattle.tally_flat.proofs.order_of.Given as goal
+
+abbrev pub invariant-loop-i : goal.invariant-loop-i
+invariant-loop-i l = Ordering l.a l.b l.i
+
+abbrev pub decreases-loop-i : goal.decreases-loop-i
+decreases-loop-i l = length l.a - l.i

@@ -1,0 +1,10 @@
+use borrow.Author.Rules.{rules}
+use Rattle.tally_good.specs.Steps.{Risen, rising_laws}
+use Prim.Native.Nat.{◌-◌}
+use Rattle.tally_good.proofs.rising_names.Given as goal
+
+abbrev pub invariant-loop-i : goal.invariant-loop-i
+invariant-loop-i l = Risen l.names l.lengths l.used l.i
+
+abbrev pub decreases-loop-i : goal.decreases-loop-i
+decreases-loop-i l = l.used - l.i

@@ -1,0 +1,7 @@
+-- `writer_lines::put_signed` meets its contract.
+use Rattle.writer_lines.specs.LineParts.{put_laws}
+use borrow.Author.Rules.{rules}
+use Rattle.writer_lines.proofs.put_signed.Goals as goal
+
+pub returns : goal.returns
+returns c = search (rules, put_laws)

@@ -1,0 +1,26 @@
+-- `writer_molecule::next_entry` meets its contract.
+use borrow.Author.Rules.{rules}
+use Prim.Native.Nat.{◌-◌}
+use Rattle.writer_molecule.specs.Listing.{Seeking, seeking_laws}
+use Rattle.writer_molecule.proofs.next_entry.Goals as goal
+
+pub loop-j-init : goal.loop-j-init
+loop-j-init c = search (rules, seeking_laws)
+
+pub is_zero-requires : goal.is_zero-requires
+is_zero-requires c = search (rules, seeking_laws)
+
+pub overflow_add-j : goal.overflow_add-j
+overflow_add-j c = search (rules, seeking_laws)
+
+pub loop-j-smaller : goal.loop-j-smaller
+loop-j-smaller c = search (rules, seeking_laws)
+
+pub loop-j-preserved : goal.loop-j-preserved
+loop-j-preserved c = search (rules, seeking_laws)
+
+pub returns-else-is_zero : goal.returns-else-is_zero
+returns-else-is_zero c = search (rules, seeking_laws)
+
+pub returns : goal.returns
+returns c = search (rules, seeking_laws)

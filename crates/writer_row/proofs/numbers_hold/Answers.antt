@@ -1,0 +1,25 @@
+-- `writer_row::numbers_hold` meets its contract.
+use Rattle.writer_row.specs.Row.{numbers_hold}
+use Rattle.writer_row.proofs.Steps.{tests}
+use borrow.Author.Rules.{rules}
+use Rattle.writer_row.proofs.numbers_hold.Goals as goal
+
+pub returns-then-not-in_range : goal.returns-then-not-in_range
+unfolding numbers_hold
+returns-then-not-in_range c = search tests depth 24 fits 20000
+
+pub returns-then-not-in_range-2 : goal.returns-then-not-in_range-2
+unfolding numbers_hold
+returns-then-not-in_range-2 c = search tests depth 24 fits 20000
+
+pub returns-then-not-in_range-3 : goal.returns-then-not-in_range-3
+unfolding numbers_hold
+returns-then-not-in_range-3 c = search tests depth 24 fits 20000
+
+pub returns-then-not-in_range-4 : goal.returns-then-not-in_range-4
+unfolding numbers_hold
+returns-then-not-in_range-4 c = search tests depth 24 fits 20000
+
+pub returns : goal.returns
+unfolding numbers_hold
+returns c = search tests depth 24 fits 20000
