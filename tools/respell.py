@@ -107,10 +107,17 @@ def in_ticks(text, to):
     return re.sub(r"`([^`\n]+)`", turn, text)
 
 
+def turned(word, to):
+    """A word, or an operator part by part."""
+    if "◌" in word and word not in to:
+        return "◌".join(to.get(w, w) for w in word.split("◌"))
+    return to.get(word, word)
+
+
 def of_antt(text, to):
     out = []
     for p in PIECES.findall(text):
-        out.append(in_ticks(p, to) if p.startswith("--") and len(p) > 2 else to.get(p, p))
+        out.append(in_ticks(p, to) if p.startswith("--") and len(p) > 2 else turned(p, to))
     return "".join(out)
 
 

@@ -68,6 +68,6 @@ module _ (kind : FileKind) (limit : ℕ) where
       }
   backward t rs s (Takes.record_end {is = is} h) f =
       record { js = []; u = t; ys = f.0; here = Items.end h; after = f.1; all = rw (append-nil is) f.2 }
-  backward t rs s (Takes.Value-line {vs = vs} {l = l} h) f =
+  backward t rs s (Takes.value_line {vs = vs} {l = l} h) f =
       record { ws = l ∷ f.ws; u = f.u; here = Values.more h f.here; after = rw (snoc vs l f.ws) f.after }
   backward t rs s (Takes.blank_line {vs = vs} h) f = record { ws = []; u = t; here = Values.end h; after = rw (append-nil vs) f }

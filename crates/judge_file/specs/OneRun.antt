@@ -91,7 +91,7 @@ module _ (limit : ℕ) where
       go (Takes.end_line h) = refl
       go (Takes.data_header h) = refl
       go (Takes.record_end h) = tt
-      go (Takes.Value-line h) = refl
+      go (Takes.value_line h) = refl
       go (Takes.blank_line h) = refl
 
   pub grows : (p : Place) (xs : List Raw) (i : ℕ) (s : List Line) (q : Place) (ys : List Raw) → run sdfile limit p xs i s ≡ at q ys → length xs ≤ length ys

@@ -91,7 +91,7 @@ module _ (kind : FileKind) (limit : ℕ) where
           Onward kind limit (values m is name vs) l t rs
       go (Values.end h) g = record { turn = next (items m (is ++ (record { name = name; values = vs } ∷ []))); takes = Takes.blank_line h; left = rw append-nil at g }
       go {u = u} (Values.more {vs = ws} h p) g =
-          record { turn = next (values m is name (vs ++ (l ∷ []))); takes = Takes.Value-line h; left = record { ws = ws; u = u; here = p; after = rw (snoc vs l ws) at g } }
+          record { turn = next (values m is name (vs ++ (l ∷ []))); takes = Takes.value_line h; left = record { ws = ws; u = u; here = p; after = rw (snoc vs l ws) at g } }
 
   onward_first : (l : Line) (t : List Line) (rs : List Raw) → FromParts kind limit (l ∷ t) rs → Onward kind limit first l t rs
   onward_first l t rs f =

@@ -90,5 +90,5 @@ module _ (kind : FileKind) (limit : ℕ) where
   sound_takes s (Takes.end_line h) = sound_end _
   sound_takes s (Takes.data_header h) = s
   sound_takes s (Takes.record_end h) = tt
-  sound_takes s (Takes.Value-line h) = s
+  sound_takes s (Takes.value_line h) = s
   sound_takes s (Takes.blank_line h) = s

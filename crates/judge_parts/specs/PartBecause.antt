@@ -8,7 +8,7 @@ use Rattle.text.specs.Text.{Bytes, Line}
 use Rattle.text.specs.Columns.{Within}
 use Rattle.rules.specs.Forms.{FirstHeaderLine, HeaderLine, DataHeader, ValueLine, BlankLine}
 use Rattle.rules.specs.Record.{Item}
-use Rattle.judge_refusals.specs.Demand.{Demand, ◌else◌at-column◌, ◌and-then◌, All, Refused, Some}
+use Rattle.judge_refusals.specs.Demand.{Demand, ◌else◌at_column◌, ◌and_then◌, All, Refused, Some}
 use Rattle.judge_refusals.specs.Refusals.{fitting, no_reserved_tag, no_line, header_or_end, value_or_blank}
 use Rattle.judge_line.specs.Got.{Got, got, bad, then}
 use Rattle.judge_line.specs.GotLaws.{got_inj, bad_got, then_got, then_is}

@@ -5,7 +5,7 @@
 use Rattle.std.specs.Prelude.{ℕ, List}
 use Rattle.text.specs.Text.{Line}
 use Rattle.judge_file.specs.Place.{Place, first, second, third, counts, atoms, bonds, properties, over, items, values}
-use Rattle.judge_refusals.specs.Demand.{Demand, ◌and-then◌}
+use Rattle.judge_refusals.specs.Demand.{Demand, ◌and_then◌}
 use Rattle.judge_refusals.specs.Refusals.{fitting, no_reserved_tag, counts_demands, atom_demands, bond_demands, new_pair, property_demands, header_or_end, value_or_blank, no_line}
 
 unfoldable pub demands : ℕ → Place → Line → List Demand

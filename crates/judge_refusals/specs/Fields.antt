@@ -32,7 +32,7 @@ use Rattle.judge_line.specs.GotLaws.{bad_got}
 use Rattle.judge_line.specs.Field.{number_got, number_at, signed_got, signed_at, elem, listed_at, elem_signed, signed_listed_at, coordinate_got, coordinate_at, symbol_got, symbol_at, space_at, none_found, has, within}
 use Rattle.judge_line.specs.Field as F
 use Rattle.judge_line.specs.AgreeField.{all_pass, number_got_lem, number_is, signed_got_lem, signed_is, listed_got, listed_is, signed_listed_got, signed_listed_is, coordinate_got_lem, coordinate_is, symbol_got_lem, symbol_is, has_got, has_is}
-use Rattle.judge_refusals.specs.Demand.{Demand, ◌else◌at-column◌, ◌and-then◌, All, Some}
+use Rattle.judge_refusals.specs.Demand.{Demand, ◌else◌at_column◌, ◌and_then◌, All, Some}
 use Rattle.judge_refusals.specs.Refusals.{each_for, each, fitting, number, signed, signed_listed, coordinate, symbol, space, spaces_from_lem}
 use Rattle.judge_refusals.specs.Tells.{Tells, value, refusal, past, need_tells, no_more}
 

@@ -23,7 +23,7 @@ use Rattle.judge_line.specs.Judge.{HeaderRead, named, none, begins, header_of, t
 use Rattle.judge_line.specs.AgreeField.{number_got_lem, has_got, has_is}
 use Rattle.judge_line.specs.AgreeText.{begins_got, begins_is}
 use Rattle.judge_line.specs.AgreeItem.{header_got_lem, header_is, close_got, close_is, no_name}
-use Rattle.judge_refusals.specs.Demand.{Demand, ◌else◌at-column◌, ◌and-then◌, Some, given, whichever}
+use Rattle.judge_refusals.specs.Demand.{Demand, ◌else◌at_column◌, ◌and_then◌, Some, given, whichever}
 use Rattle.judge_refusals.specs.Refusals.{spaces_from_lem, entry_number, entries, listing, property_demands, header_or_end, value_or_blank, one_of_four}
 use Rattle.judge_refusals.specs.Tells as T
 use Rattle.judge_refusals.specs.Tells.{Tells, past, until, then_tells, then_last, need_tells, cond_tells, given_tells, all_given, whichever_all, whichever_tells}

@@ -103,7 +103,7 @@ module _ (kind : FileKind) (limit : ℕ) where
   form_taken (over m) l f = absurd f
   form_taken (items m is) l (inl f) = (_, Takes.data_header f.1)
   form_taken (items m is) l (inr f) = (_, Takes.record_end f)
-  form_taken (values m is name vs) l (inl f) = (_, Takes.Value-line f)
+  form_taken (values m is name vs) l (inl f) = (_, Takes.value_line f)
   form_taken (values m is name vs) l (inr f) = (_, Takes.blank_line f)
 
   taken_form : {p : Place} {l : Line} {t : Turn} → Takes kind limit p l t → Form limit p l
@@ -117,7 +117,7 @@ module _ (kind : FileKind) (limit : ℕ) where
   taken_form (Takes.end_line h) = inr h
   taken_form (Takes.data_header {name = name} h) = inl (name, h)
   taken_form (Takes.record_end h) = inr h
-  taken_form (Takes.Value-line h) = inl h
+  taken_form (Takes.value_line h) = inl h
   taken_form (Takes.blank_line h) = inr h
 
   -- a line is good exactly if all its demands hold, and that is the rules' form of the line

@@ -11,7 +11,7 @@ use Rattle.field_coordinates.specs.Coordinate.{Coordinate}
 use Rattle.field_symbols.specs.Symbol.{Symbol}
 use Rattle.rules.specs.Forms.{Begins, Contains, stereos, centres, Bond, BondLine, Kind, CHG, RAD, ISO, tag, Property, DataHeader, RecordEnd}
 use Rattle.rules.specs.Record.{NewPair, listed, NotListed}
-use Rattle.judge_refusals.specs.Demand.{Demand, ◌else◌at-column◌, ◌and-then◌, Some, given, whichever}
+use Rattle.judge_refusals.specs.Demand.{Demand, ◌else◌at_column◌, ◌and_then◌, Some, given, whichever}
 
 -- ---- Parts of lines
 

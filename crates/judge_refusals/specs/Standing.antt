@@ -149,7 +149,7 @@ module _ (kind : FileKind) (limit : ℕ) where
   step {l = l} s (Before.an_item {t = t} {u = u} p i) (Takes.data_header h) = rw (append_assoc t u (l ∷ [])) (Before.a_value p i h EachValue.none)
   step {l = l} s (Before.an_item {t = t} {u = u} p i) (Takes.record_end h) =
       rw (append_assoc t u (l ∷ [])) (Record.record_of (parts_after p (u ++ (l ∷ []))) (closed_items i h))
-  step {l = l} s (Before.a_value {t = t} {u = u} {vs = vs} {l = k} p i d v) (Takes.Value-line h) =
+  step {l = l} s (Before.a_value {t = t} {u = u} {vs = vs} {l = k} p i d v) (Takes.value_line h) =
       rw (append_assoc t (u ++ (k ∷ vs)) (l ∷ []), append_assoc u (k ∷ vs) (l ∷ [])) (Before.a_value p i d (values_add v h))
   step {l = l} s (Before.a_value {t = t} {u = u} {vs = vs} {l = k} p i d v) (Takes.blank_line h) =
       rw (append_assoc t (u ++ (k ∷ vs)) (l ∷ []), append_assoc u (k ∷ vs) (l ∷ [])) (Before.an_item p (item_add i d (values_end v h)))

@@ -4,7 +4,7 @@ use Rattle.std.specs.Prelude.{ℕ, ◌≡◌, refl, ◌⊎◌, ◌↔◌, List, 
 use Rattle.std.proofs.Common.{sym, ap₂, ◌∙◌, subst, inl, inr, append-nil}
 use Rattle.field_numbers.specs.Number.{OneOf}
 use Rattle.judge_line.specs.Got.{Got, got, bad, then, need}
-use Rattle.judge_refusals.specs.Demand.{Demand, ◌else◌at-column◌, All, Refused, Some, given, whichever}
+use Rattle.judge_refusals.specs.Demand.{Demand, ◌else◌at_column◌, All, Refused, Some, given, whichever}
 
 pub data Tells {A : Type 0} (ds : List Demand) : Got A → Type 0 where
   value : {a : A} → All ds → Tells ds (got a)

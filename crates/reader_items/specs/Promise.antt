@@ -4,7 +4,7 @@ use Rattle.std.specs.Prelude.{ℕ, suc, ◌+◌, ◌-◌, ◌≤◌, ◌≡◌, 
 use Rattle.text.specs.Text.{Bytes, Line, Lines}
 use Rattle.rules.specs.Forms.{DataHeader, ValueLine, RecordEnd}
 use Rattle.rules.specs.Record.{Item, Values}
-use Rattle.judge_refusals.specs.Demand.{◌and-then◌, Refused}
+use Rattle.judge_refusals.specs.Demand.{◌and_then◌, Refused}
 use Rattle.judge_refusals.specs.Refusals.{fitting, header_or_end, value_or_blank}
 use Rattle.reader_item.specs.Promise.{Joined}
 use Rattle.reader_items.specs.declared.ItemAt.{ItemAt}

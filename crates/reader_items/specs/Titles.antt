@@ -18,7 +18,7 @@ use Rattle.judge_line.specs.GotLaws.{got_inj, then_got}
 use Rattle.judge_line.specs.Field.{within}
 use Rattle.judge_line.specs.Judge.{ItemOrEnd, title, close, item_of, value, blank, value_of}
 use Rattle.judge_line.specs.Agree.{within_got, within_is, title_agrees, close_agrees, value_agrees, blank_agrees}
-use Rattle.judge_refusals.specs.Demand.{◌and-then◌}
+use Rattle.judge_refusals.specs.Demand.{◌and_then◌}
 use Rattle.judge_refusals.specs.Refusals.{fitting, header_or_end, value_or_blank}
 use Rattle.judge_refusals.specs.Tells.{Tells, then_tells}
 use Rattle.judge_refusals.specs.Fields.{within_last}

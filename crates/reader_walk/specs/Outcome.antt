@@ -118,7 +118,7 @@ mol_open (Takes.property_line h new) s = tt
 mol_open (Takes.end_line h) s = tt
 mol_open (Takes.data_header h) s = tt
 mol_open (Takes.record_end h) s = s
-mol_open (Takes.Value-line h) s = tt
+mol_open (Takes.value_line h) s = tt
 mol_open (Takes.blank_line h) s = tt
 
 mol_from : (p : Place) (i k : ℕ) (ls : List Line) (rest : Bytes) → Sound molfile limit p → suc k ≡ i + length ls →

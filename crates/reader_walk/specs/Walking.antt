@@ -211,7 +211,7 @@ done_bonds (Takes.property_line h new) = tt
 done_bonds (Takes.end_line h) = tt
 done_bonds (Takes.data_header h) = tt
 done_bonds (Takes.record_end h) = refl
-done_bonds (Takes.Value-line h) = tt
+done_bonds (Takes.value_line h) = tt
 done_bonds (Takes.blank_line h) = tt
 
 abbrev pub part : Bytes → ℕ → ℕ → Line
