@@ -32,7 +32,7 @@ def snake(name):
     if kept[:1].isupper():
         return name
     name = re.sub(r"(?<=[^\W_])-(?=[^\W_])", "_", name)
-    return re.sub(r"(?<=[^\W_])([A-Z])", lambda m: "_" + m.group(1).lower(), name)
+    return re.sub(r"(?<=[^\W_])([A-Z]+)", lambda m: "_" + m.group(1).lower(), name)
 
 
 def wants(name):

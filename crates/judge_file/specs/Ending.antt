@@ -7,7 +7,7 @@ use Rattle.text.specs.Laws.{true_false}
 use Rattle.rules.specs.Record.{Molecule, Raw}
 use Rattle.judge_file.specs.Place.{FileKind, molfile, sdfile}
 use Rattle.judge_file.specs.Place.{Place, first, second, third, counts, atoms, bonds, properties, over, items, values}
-use Rattle.judge_file.specs.Verdict.{Run, at, stopped, run, Verdict, accepted, refused, end_s_dfile, end_molfile, finish, conclude, verdict}
+use Rattle.judge_file.specs.Verdict.{Run, at, stopped, run, Verdict, accepted, refused, end_sdfile, end_molfile, finish, conclude, verdict}
 use Rattle.judge_file.specs.From.{alone}
 use Rattle.judge_file.specs.Runs.{End}
 
@@ -50,7 +50,7 @@ short_mol {p = p} h = Ending.short {kind = molfile} {p = p} (λ w. true_false (s
 unfinished : {kind : FileKind} {p : Place} {xs : List Raw} (b : ℕ) (bs : Bytes) {i : ℕ} → Ending kind p xs (b ∷ bs) i (refused 19 i 1)
 unfinished {kind = kind} {p = p} b bs = Ending.short {kind = kind} {p = p} {rest = b ∷ bs} (λ w. omega (arith, ap length w.2))
 
-ending_sd : (p : Place) (xs : List Raw) (i : ℕ) → Ending sdfile p xs [] i (end_s_dfile p xs i)
+ending_sd : (p : Place) (xs : List Raw) (i : ℕ) → Ending sdfile p xs [] i (end_sdfile p xs i)
 ending_sd first xs i = Ending.good_sd
 ending_sd (second h₁) xs i = short_sd refl
 ending_sd (third h₁ h₂) xs i = short_sd refl

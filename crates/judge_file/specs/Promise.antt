@@ -66,22 +66,23 @@ module _ (kind : FileKind) (limit : ℕ) (s : Bytes) where
       let same = lines_same g.1 h in
       bad (sym same.1, subst (AFile kind limit) same.0 g.2)
 
-  refusal : limit ≤ 999 → {e i column : ℕ} → Judged limit s kind (refused e i column) → Refusal kind limit s e i column
-  refusal small (Judged.short {ls = ls} {rest = rest} {p = p} {xs = xs} h r w) =
-      Refusal.cut_short h (run_viable kind limit small ls p xs r) (not_good h (λ g. ended g.0 (file_run kind limit ls g.1)))
-    where
-      ended : rest ≡ [] → Finished kind limit ls → ⊥
-      ended none f = w (f.zs, subst (λ (q : Place). End kind q f.zs) (at_place (sym f.is ∙ r)) f.ends, none)
-  refusal small (Judged.stop {ls = ls} {e = e} {i = i} {c = c} h r) =
-      let st = stop kind limit first [] 1 ls e i c r in
-      let m = refused_marked kind limit st.q st.l e c st.refused in
-      Refusal.line h m.0 m.1 (refuses kind limit small ls e i c r)
+refusal : {kind : FileKind} {limit : ℕ} {s : Bytes} {e i column : ℕ} → limit ≤ 999 → Judged limit s kind (refused e i column) → Refusal kind limit s e i column
+refusal {kind} {limit} {s} small (Judged.short {ls = ls} {rest = rest} {p = p} {xs = xs} h r w) =
+    Refusal.cut_short h (run_viable kind limit small ls p xs r) (not_good kind limit s h (λ g. ended g.0 (file_run kind limit ls g.1)))
+  where
+    ended : rest ≡ [] → Finished kind limit ls → ⊥
+    ended none f = w (f.zs, subst (λ (q : Place). End kind q f.zs) (at_place (sym f.is ∙ r)) f.ends, none)
+refusal {kind} {limit} small (Judged.stop {ls = ls} {e = e} {i = i} {c = c} h r) =
+    let st = stop kind limit first [] 1 ls e i c r in
+    let m = refused_marked kind limit st.q st.l e c st.refused in
+    Refusal.line h m.0 m.1 (refuses kind limit small ls e i c r)
 
+module _ (kind : FileKind) (limit : ℕ) (s : Bytes) where
   pub refused_text : limit ≤ 999 → (e i column : ℕ) → verdict kind limit s ≡ refused e i column → Refusal kind limit s e i column
-  refused_text small e i column h = refusal small (subst (Judged limit s kind) h (judged kind limit s))
+  refused_text small e i column h = refusal {kind} {limit} {s} small (subst (Judged limit s kind) h (judged kind limit s))
 
   -- a refused text is not good
   pub refusal_bad : {e i column : ℕ} → Refusal kind limit s e i column → ¬ Good kind limit s
   refusal_bad (Refusal.line {ls = ls} {i = i} h m c f) =
-      not_good h (λ g. first_dead (AFile kind limit) ls i f [] (subst (AFile kind limit) (sym (append-nil ls)) g.1))
+      not_good kind limit s h (λ g. first_dead (AFile kind limit) ls i f [] (subst (AFile kind limit) (sym (append-nil ls)) g.1))
   refusal_bad (Refusal.cut_short h v bad) = bad

@@ -31,17 +31,17 @@ mapped f (accepted a) = accepted (f a)
 mapped f (refused e i column) = refused e i column
 
 -- an SDfile may end where a record may begin; the next line would be line i
-abbrev pub end_s_dfile : Place → List Raw → ℕ → Verdict (List Raw)
-end_s_dfile first xs i = accepted xs
-end_s_dfile (second h₁) xs i = refused 19 i 1
-end_s_dfile (third h₁ h₂) xs i = refused 19 i 1
-end_s_dfile (counts hs) xs i = refused 19 i 1
-end_s_dfile (atoms hs c k ys) xs i = refused 19 i 1
-end_s_dfile (bonds hs c ys k bs) xs i = refused 19 i 1
-end_s_dfile (properties hs c ys bs ps) xs i = refused 19 i 1
-end_s_dfile (over m) xs i = refused 19 i 1
-end_s_dfile (items m is) xs i = refused 19 i 1
-end_s_dfile (values m is name vs) xs i = refused 19 i 1
+abbrev pub end_sdfile : Place → List Raw → ℕ → Verdict (List Raw)
+end_sdfile first xs i = accepted xs
+end_sdfile (second h₁) xs i = refused 19 i 1
+end_sdfile (third h₁ h₂) xs i = refused 19 i 1
+end_sdfile (counts hs) xs i = refused 19 i 1
+end_sdfile (atoms hs c k ys) xs i = refused 19 i 1
+end_sdfile (bonds hs c ys k bs) xs i = refused 19 i 1
+end_sdfile (properties hs c ys bs ps) xs i = refused 19 i 1
+end_sdfile (over m) xs i = refused 19 i 1
+end_sdfile (items m is) xs i = refused 19 i 1
+end_sdfile (values m is name vs) xs i = refused 19 i 1
 
 -- a molfile may end after its `M  END`
 abbrev pub end_molfile : Place → ℕ → Verdict (List Raw)
@@ -60,7 +60,7 @@ end_molfile (values m is name vs) i = refused 19 i 1
 abbrev pub finish : FileKind → Place → List Raw → Bytes → ℕ → Verdict (List Raw)
 finish molfile p xs [] i = end_molfile p i
 finish molfile p xs (b ∷ bs) i = refused 19 i 1
-finish sdfile p xs [] i = end_s_dfile p xs i
+finish sdfile p xs [] i = end_sdfile p xs i
 finish sdfile p xs (b ∷ bs) i = refused 19 i 1
 
 abbrev pub conclude : FileKind → Run → Bytes → ℕ → Verdict (List Raw)

@@ -48,6 +48,7 @@ held_new b (c ∷ cs) n = go (same_pair b c) refl (held_new b cs n.1)
 
 pub held_first : (b : Bond) (cs : List Bond) (j : ℕ) → FirstSame b cs j → held_against b cs ≡ j
 unfolding held_against
+held_first b [] j f = elim f [ ]
 held_first b (c ∷ cs) j (here s) = rw (same_complete b c s)
 held_first b (c ∷ cs) j (later d f) = go (same_pair b c) refl (held_first b cs _ f)
   where
@@ -57,6 +58,7 @@ held_first b (c ∷ cs) j (later d f) = go (same_pair b c) refl (held_first b cs
 
 first_taken : (b : Bond) (cs : List Bond) (j : ℕ) → FirstSame b cs j → pair_taken b cs ≡ true
 unfolding pair_taken
+first_taken b [] j f = elim f [ ]
 first_taken b (c ∷ cs) j (here s) = rw (same_complete b c s)
 first_taken b (c ∷ cs) j (later d f) = go (same_pair b c) refl (first_taken b cs _ f)
   where

@@ -146,6 +146,7 @@ module _ (kind : FileKind) (limit : ℕ) where
       rw (append_assoc t (u ++ v) (l ∷ []), append_assoc u v (l ∷ []))
       (ended
       (Parts1to5.parts f.first f.second f.third c (atoms_then a (u ++ add l v)) (bonds_then b (add l v)) s.pairs (listings_end ps h) s.atoms))
+  step s (Before.after_end_lem _) h = elim h [ ]
   step {l = l} s (Before.an_item {t = t} {u = u} p i) (Takes.data_header h) = rw (append_assoc t u (l ∷ [])) (Before.a_value p i h EachValue.none)
   step {l = l} s (Before.an_item {t = t} {u = u} p i) (Takes.record_end h) =
       rw (append_assoc t u (l ∷ [])) (Record.record_of (parts_after p (u ++ (l ∷ []))) (closed_items i h))

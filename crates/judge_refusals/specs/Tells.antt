@@ -136,6 +136,7 @@ module _ {A : Type 0} (C : A → Type 0) (ds : A → List Demand) where
         go (inr n) = absurd (n k)
 
     pub whichever_tells : {B : Type 0} {x : Got B} (xs : List A) → OneOf a xs → Tells (ds a) x → Tells (whichever xs C ds) x
+    whichever_tells [] o t = elim o [ ]
     whichever_tells {x = y} (x ∷ xs) o t = go (only x) o (λ p. whichever_tells xs p t)
       where
         go : (x ≡ a) ⊎ (¬ C x) → OneOf a (x ∷ xs) → (OneOf a xs → Tells (whichever xs C ds) y) → Tells (whichever (x ∷ xs) C ds) y

@@ -17,7 +17,7 @@ use Rattle.line_property.specs.Listed.{places}
 use Rattle.judge_file.specs.Place.{sdfile}
 use Rattle.judge_file.specs.Place as J
 use Rattle.judge_file.specs.Place.{first, second, third, counts, atoms, bonds, properties, over, items, values}
-use Rattle.judge_file.specs.Verdict.{accepted, refused, end_s_dfile, verdict}
+use Rattle.judge_file.specs.Verdict.{accepted, refused, end_sdfile, verdict}
 use Rattle.reader_places.specs.declared.Place.{Place}
 use Rattle.reader_places.specs.declared.Place.TheVariants as P
 use Rattle.reader_state.specs.LineRead.{moved}
@@ -425,7 +425,7 @@ module _ (s : Bytes) (room₀ list₀ : List ℕ) (j : Judge) (m : Mender) (tail
     list_out : fixes limit s ≡ g.noted
     list_out = over_fixes limit s g.p g.xs g.out g.noted m.line over_all
 
-    judged : verdict sdfile limit (mended_text limit s) ≡ end_s_dfile g.p g.xs (suc (length g.out))
+    judged : verdict sdfile limit (mended_text limit s) ≡ end_sdfile g.p g.xs (suc (length g.out))
     judged = over_verdict limit s g.p g.xs g.out g.noted m.line over_all
 
     short : verdict sdfile limit (mended_text limit s) ≡ refused 19 (suc (length g.out)) 1 → (r : Mended) → r ≡ Mended.Refused 19 m.out_line 1 → Walked s room₀ list₀ r room list
@@ -435,7 +435,7 @@ module _ (s : Bytes) (room₀ list₀ : List ℕ) (j : Judge) (m : Mender) (tail
     unfolding end_of starts_at
     mending_end r e = go g.p g.standing.stands.place judged
       where
-        go : (p : J.Place) → j.reader.place ≡ place_of p → verdict sdfile limit (mended_text limit s) ≡ end_s_dfile p g.xs (suc (length g.out)) → Walked s room₀ list₀ r room list
+        go : (p : J.Place) → j.reader.place ≡ place_of p → verdict sdfile limit (mended_text limit s) ≡ end_sdfile p g.xs (suc (length g.out)) → Walked s room₀ list₀ r room list
         go first h v =
             Walked.good v
             (e ∙ rw h (ap₂ Mended.Done (g.out_is ∙ ap length (sym text_out)) (g.repairs_is ∙ ap length (sym list_out))))

@@ -9,7 +9,7 @@ use Rattle.text.specs.Find.{is_blank}
 use Rattle.text.specs.Cut.{ended, split}
 use Rattle.rules.specs.Record.{Raw}
 use Rattle.judge_file.specs.Place.{sdfile, Place, first, second, third, counts, atoms, bonds, properties, over, items, values}
-use Rattle.judge_file.specs.Verdict.{stopped, refused, end_s_dfile, verdict}
+use Rattle.judge_file.specs.Verdict.{stopped, refused, end_sdfile, verdict}
 use Rattle.mend_rules.specs.Mend.{Action, keep, put, lose, item_line, all_blank, some, action_at, emptied, Left, went, fell, left, actions_of, applied, walk_from}
 use Rattle.mend_rules.specs.Named.{Fix, fix, line_put, blank_dropped, line_end, none, fixes_from, actions_length}
 use Rattle.mend_rules.specs.Text.{pieces, unfinished, actions, mended_pieces, mended_text, fixes, judged_text}
@@ -192,6 +192,6 @@ module _ (limit : ℕ) (s : Bytes) (p : Place) (xs : List Raw) (out : List Bytes
   unfolding actions_of fixes_from
   over_fixes = g.listed ∙ append-nil noted
 
-  pub over_verdict : verdict sdfile limit (mended_text limit s) ≡ end_s_dfile p xs (suc (length out))
+  pub over_verdict : verdict sdfile limit (mended_text limit s) ≡ end_sdfile p xs (suc (length out))
   unfolding walk_from
   over_verdict = judged_text limit s ∙ rw (g.walk, over_pieces)

@@ -26,6 +26,7 @@ chain_more f (step {a = a} {b = b} h r) = step (f a b h) (chain_more f r)
 -- ---- A bond more at the end
 
 pub bonded_before : (bs cs : List Bond) {x y : ℕ} → Bonded bs x y → Bonded (bs ++ cs) x y
+bonded_before [] cs h = elim h [ ]
 bonded_before (b ∷ bs) cs (along e f) = along e f
 bonded_before (b ∷ bs) cs (against e f) = against e f
 bonded_before (b ∷ bs) cs (later h) = later (bonded_before bs cs h)
@@ -48,6 +49,7 @@ bonded_either (b ∷ bs) cs {x = x} {y = y} (later h) = go (bonded_either bs cs 
 
 pub inside_ends : (n : ℕ) (bs : List Bond) {x y : ℕ} → Inside n bs → Bonded bs x y → (1 ≤ x) × (x ≤ n) × (1 ≤ y) × (y ≤ n)
 unfolding Inside
+inside_ends n [] i h = elim h [ ]
 inside_ends n (b ∷ bs) i (along e f) = (omega (arith, i.0), omega (arith, i.0), omega (arith, i.0), omega (arith, i.0))
 inside_ends n (b ∷ bs) i (against e f) = (omega (arith, i.0), omega (arith, i.0), omega (arith, i.0), omega (arith, i.0))
 inside_ends n (b ∷ bs) i (later h) = inside_ends n bs i.1 h

@@ -278,10 +278,12 @@ pure_items {rest} {r} {is = is} p i =
 
 header_bad : Holds header_as_value
 unfolding molecule_lines counts_text joined text_by columns_for
+header_bad more ([], s) = elim s [ ]
 header_bad more (x ∷ xs, SDfile.more (Record.record_of p i) s) = no_header (pure_items {rest = bytes ">  <PURITY>" ∷ bytes ">  <LOT>" ∷ more} p i)
 
 dollars_bad : Holds dollars_as_value
 unfolding molecule_lines counts_text joined text_by columns_for
+dollars_bad more ([], s) = elim s [ ]
 dollars_bad more (x ∷ xs, SDfile.more (Record.record_of p i) s) = no_dollars (pure_items {rest = bytes ">  <PURITY>" ∷ bytes "$$$$" ∷ more} p i)
 
 -- ---- The table holds
