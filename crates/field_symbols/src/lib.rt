@@ -16,6 +16,7 @@ pub enum SymbolRead {
 }
 
 // Where the row of a first letter starts, by the letter's number in the alphabet; the star stands where J would.
+#[tactic(auto, unfolding(crate::specs::Places::pick, crate::specs::Places::rows))]
 fn row_at(letter: u32) -> u32
     ensures { result ≡ pick 0 letter rows }
 {
@@ -57,6 +58,7 @@ fn row_at(letter: u32) -> u32
 }
 
 // The symbol at a place: its number, and above that its three bytes, the first lowest. Where none stands, carbon.
+#[tactic(auto, unfolding(crate::specs::Places::pick, crate::specs::Places::rows, crate::specs::Places::place_of, crate::specs::Places::entries, crate::specs::Places::entries_from, crate::specs::Codes::codes, text::specs::Columns::columns_for))]
 fn entry_at(place: u32) -> u32
     ensures { result ≡ pick carbon_entry place entries }
 {

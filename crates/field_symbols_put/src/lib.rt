@@ -7,6 +7,7 @@ ghost use Rattle.field_symbols.specs.Codes.{codes};
 ghost use Rattle.field_symbols.specs.Places.{pick, words};
 
 // The first two bytes of four symbols in the order of their numbers, the first lowest.
+#[tactic(auto, unfolding(field_symbols::specs::Places::pick, field_symbols::specs::Places::words, field_symbols::specs::Places::words_from, field_symbols::specs::Places::word_of, field_symbols::specs::Codes::codes, text::specs::Columns::columns_for))]
 fn word_at(j: u32) -> u64
     ensures { result ≡ pick 0 j words }
 {

@@ -79,7 +79,7 @@ refusal {kind} {limit} small (Judged.stop {ls = ls} {e = e} {i = i} {c = c} h r)
 
 module _ (kind : FileKind) (limit : ℕ) (s : Bytes) where
   pub refused_text : limit ≤ 999 → (e i column : ℕ) → verdict kind limit s ≡ refused e i column → Refusal kind limit s e i column
-  refused_text small e i column h = refusal {kind} {limit} {s} small (subst (Judged limit s kind) h (judged kind limit s))
+  refused_text small e i column h = refusal {kind = kind} {limit = limit} {s = s} small (subst (Judged limit s kind) h (judged kind limit s))
 
   -- a refused text is not good
   pub refusal_bad : {e i column : ℕ} → Refusal kind limit s e i column → ¬ Good kind limit s

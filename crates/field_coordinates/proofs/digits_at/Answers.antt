@@ -4,17 +4,14 @@ use native.Mathlib.Omega.{arith}
 use Rattle.field_coordinates.proofs.Fields.{digits_laws, size_range}
 use borrow.Author.Rules.{rules}
 use Rattle.field_coordinates.proofs.digits_at.Goals as goal
+use Rattle.field_coordinates.proofs.digits_at.Goals.{In-Is-inner_digits}
 
 -- at most five digits before the point, and four after it
-small : (c : tie.After-known-told2) → (c.in-Is.whole ≤ 99999) × (c.in-Is-inner_digits.part ≤ 9999)
-
+small : (c : In-Is-inner_digits) → (c.in-Is.whole ≤ 99999) × (c.in-Is-inner_digits.part ≤ 9999)
 small c =
-    let second = c in
-    let w = second in
-    let first = w in
-    let a = first.args in (
-      size_range a.line.now a.a a.p 5 w.in-Is.whole first.inner_digits.result (omega arith) first.inner_digits.ensures w.in-Is.is,
-      size_range a.line.now (a.p + 1) (a.p + 5) 4 c.in-Is-inner_digits.part second.inner_digits-2.result (omega arith) second.inner_digits-2.ensures c.in-Is-inner_digits.is,
+    let a = c.args in (
+      size_range a.line.now a.a a.p 5 c.in-Is.whole c.inner_digits.result (omega arith) c.inner_digits.ensures c.in-Is.is,
+      size_range a.line.now (a.p + 1) (a.p + 5) 4 c.in-Is-inner_digits.part c.inner_digits-2.result (omega arith) c.inner_digits-2.ensures c.in-Is-inner_digits.is,
     )
 
 pub returns-in_default : goal.returns-in_default

@@ -4,4 +4,4 @@ use mathlib.Core.Path.{◌∙◌}
 use Rattle.field_symbols.proofs.symbol.Goals as goal
 
 pub returns : goal.returns
-returns c = c.symbol_of.ensures ∙ c.Code-in.ensures
+returns c = c.symbol_of.ensures ∙ c.code_in.ensures

@@ -8,8 +8,6 @@ use Rattle.reader_walk.specs.Pairing.{Pairing, pair_laws, pairing_start, pairing
 use Rattle.reader_walk.specs.AtEnd.{at_end_laws}
 use Rattle.reader_walk.proofs.walk_lines.Goals as goal
 
-)
-
 pub walk-init : goal.walk-init
 walk-init c = search (rules, line_laws)
 
@@ -155,14 +153,13 @@ pub shape_of-rows : goal.shape_of-rows
 shape_of-rows c = rows_size _ _ _ _ _ _ _ _ _ _ _ _ _ _ c.walk.invariant
 
 pub returns : goal.returns
-returns c = (
-  pairing_found _ _ _ _ _ _ _ _ _ _ _ _ _ _ _ c.loop-j.invariant c.loop-j-test.true c.if-keys-j.true _ c.repeated.ensures.walked_value,
-  (
-    found_asked _ _ _ _ _ _ _ _ _ _ _ _ _ _ _ c.loop-j.invariant c.loop-j-test.true c.if-keys-j.true _ c.repeated.ensures.asked_value,
-    (
-      found_left _ _ _ _ _ _ _ _ _ _ _ _ _ _ _ c.loop-j.invariant c.loop-j-test.true c.if-keys-j.true _ _
-          (bond_beside _ _ _ _ _ _ _ _ _ _ _ _ _ _ c.walk.invariant _ _ _ c.line_at.ensures c.in-Line.is _ _ _ _ _ c.take_line.ensures c.in-Bond.is)
-          c.walk.invariant.bonds_beside,
-      (c.walk.invariant.key_room, found_rows _ _ _ _ _ _ _ _ _ _ _ _ _ _ _ c.loop-j.invariant c.loop-j-test.true c.if-keys-j.true _ c.walk.invariant.rowed),
-    ),
-  ),
+returns c = record {
+        walked_value = pairing_found _ _ _ _ _ _ _ _ _ _ _ _ _ _ _ c.loop-j.invariant c.loop-j-test.true c.if-keys-j.true _ c.repeated.ensures.walked_value;
+        asked_value = found_asked _ _ _ _ _ _ _ _ _ _ _ _ _ _ _ c.loop-j.invariant c.loop-j-test.true c.if-keys-j.true _ c.repeated.ensures.asked_value;
+        left =
+            found_left _ _ _ _ _ _ _ _ _ _ _ _ _ _ _ c.loop-j.invariant c.loop-j-test.true c.if-keys-j.true _ _
+            (bond_beside _ _ _ _ _ _ _ _ _ _ _ _ _ _ c.walk.invariant _ _ _ c.line_at.ensures c.in-Line.is _ _ _ _ _ c.take_line.ensures c.in-Bond.is)
+            c.walk.invariant.bonds_beside;
+        keys_len = c.walk.invariant.key_room;
+        rows_marked = found_rows _ _ _ _ _ _ _ _ _ _ _ _ _ _ _ c.loop-j.invariant c.loop-j-test.true c.if-keys-j.true _ c.walk.invariant.rowed;
+    }
