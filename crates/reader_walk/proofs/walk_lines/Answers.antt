@@ -2,10 +2,10 @@
 use borrow.Author.Rules.{rules}
 use Prim.Native.Nat.{◌-◌}
 use lib.ListN.{length}
-use mathlib.Core.Path.{refl}
+use mathlib.Core.Path.{refl, sym, ◌∙◌}
 use Rattle.reader_walk.specs.Walking.{Walking, line_laws, bonds_room, bonds_size, rows_size, fits_next, walking_less, bond_beside, took_size}
-use Rattle.reader_walk.specs.Pairing.{Pairing, pair_laws, pairing_start, pairing_keeps, pairing_fits, pairing_end, pairing_found, repeat_fits, found_asked, found_left, found_rows}
-use Rattle.reader_walk.specs.AtEnd.{at_end_laws}
+use Rattle.reader_walk.specs.Pairing.{Pairing, pair_laws, first_small, second_small, pair_asks, pairing_start, pairing_keeps, pairing_fits, pairing_end, pairing_found, repeat_fits, found_asked, found_left, found_rows}
+use Rattle.reader_walk.specs.AtEnd.{end_asked, at_end_laws}
 use Rattle.reader_walk.proofs.walk_lines.Goals as goal
 
 pub walk-init : goal.walk-init
@@ -32,7 +32,7 @@ shape_of-rows-in_default c = search (rules, line_laws, at_end_laws)
 pub returns-in_default : goal.returns-in_default
 returns-in_default c = record {
         walked_value = search (rules, line_laws, at_end_laws);
-        asked_value = search (rules, line_laws, at_end_laws);
+        asked_value = end_asked _ _ _ _ _ _ _ _ _ _ _ _ _ _ c.walk.invariant (sym c.line_at.ensures ∙ c.in_default.is) _ c.ended.ensures.asked_value;
         left = search (rules, line_laws, at_end_laws);
         keys_len = search (rules, line_laws);
         rows_marked = search (rules, line_laws, at_end_laws);
@@ -54,16 +54,19 @@ pub overflow_add-line : goal.overflow_add-line
 overflow_add-line c = search (rules, line_laws)
 
 pub walk-smaller-in-Next : goal.walk-smaller-in-Next
-walk-smaller-in-Next c = search (rules, line_laws)
+walk-smaller-in-Next c = walking_less _ _ _ _ _ c.line_at.ensures c.in-Line.is
 
 pub walk-preserved-in-Next : goal.walk-preserved-in-Next
 walk-preserved-in-Next c = search (rules, line_laws)
 
 pub pair_key-key-requires : goal.pair_key-key-requires
-pair_key-key-requires c = search (rules, pair_laws)
+pair_key-key-requires c = (
+    first_small _ _ _ _ _ _ _ _ _ _ _ _ _ _ c.walk.invariant _ _ _ c.line_at.ensures c.in-Line.is _ _ _ _ _ c.take_line.ensures c.in-Bond.is,
+    second_small _ _ _ _ _ _ _ _ _ _ _ _ _ _ c.walk.invariant _ _ _ c.line_at.ensures c.in-Line.is _ _ _ _ _ c.take_line.ensures c.in-Bond.is,
+  )
 
 pub first_key-j-requires : goal.first_key-j-requires
-first_key-j-requires c = search (rules, pair_laws)
+first_key-j-requires c = pair_asks _ _ _ _ _ _ _ _ _ _ _ _ _ _ c.walk.invariant _ _ _ c.line_at.ensures c.in-Line.is _ _ _ _ _ c.take_line.ensures c.in-Bond.is _ c.pair_key-key.ensures
 
 pub loop-j-init : goal.loop-j-init
 loop-j-init c =    pairing_start _ _ _ _ _ _ _ _ _ _ _ _ _ _ c.walk.invariant _ _ _ c.line_at.ensures c.in-Line.is _ _ _ _ _
@@ -102,7 +105,7 @@ walk-smaller c = walking_less _ _ _ _ _ c.line_at.ensures c.in-Line.is
 pub walk-preserved : goal.walk-preserved
 walk-preserved c =    pairing_end _ _ _ _ _ _ _ _ _ _ _ _ _ _ _ c.loop-j.invariant c.loop-j-test.false _ _ _ c.walk.invariant.rowed
     (bond_beside _ _ _ _ _ _ _ _ _ _ _ _ _ _ c.walk.invariant _ _ _ c.line_at.ensures c.in-Line.is _ _ _ _ _ c.take_line.ensures c.in-Bond.is)
-    c.walk.invariant.bonds_beside _ _ _ _ c.keep_bond-notes.ensures.value c.keep_bond-notes.ensures.bonds_after.1 c.keep_bond-notes.ensures.bonds_after.0 c.mark.ensures
+    c.walk.invariant.bonds_beside _ _ _ _ c.keep_bond-notes.ensures.value c.keep_bond-notes.ensures.keys_after c.keep_bond-notes.ensures.bonds_after c.mark.ensures
 
 pub shape_of-atoms-in-Done : goal.shape_of-atoms-in-Done
 shape_of-atoms-in-Done c = search (rules, line_laws)

@@ -6,8 +6,8 @@ pub returns : goal.returns
 returns c =
     let e = c.walk_lines.ensures in
     record {
-        walked_value = e.0;
-        asked_value = e.1.0;
-        left = e.1.1.0;
-        rows_marked = e.1.1.1.1;
+        walked_value = e.walked_value;
+        asked_value = e.asked_value;
+        left = e.left;
+        rows_marked = e.rows_marked;
     }
