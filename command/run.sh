@@ -111,7 +111,7 @@ find_loader() {
     else
         rt=$(command -v rt) || die "the Rattle toolchain is not there: no command rt in the PATH"
         kit=${RATTLE_HOME:-$(dirname "$(dirname "$(resolved "$rt")")")}
-        tools=$kit/on/$(uname -m)/toolchain
+        tools=$kit/toolchain
         bin=$here/target/bin libs=$tools/lib emulator=$tools/bin/qemu-x86_64
     fi
     loader=$libs/ld-linux-x86-64.so.2
