@@ -39,7 +39,7 @@ def kit():
     if not home:
         rt = shutil.which("rt")
         home = rt and os.path.dirname(os.path.dirname(os.path.realpath(rt)))
-    folder = home and os.path.join(home, "on", MACHINE, "toolchain")
+    folder = home and os.path.join(home, "toolchain")
     return folder if folder and os.path.isdir(folder) else None
 
 

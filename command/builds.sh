@@ -5,31 +5,38 @@ locked=
 # The crates that programs stand on, they themselves last, in the order in which the toolchain proves them.
 crates_of() { # PROGRAM...
     awk -v wanted="$*" '
-        function visit(n,    a, k, m, l) {
-            if (n in level) return
+        function visit(n,    a, k, m) {
+            if (n in seen) return
+            seen[n] = 1
             m = split(on[n], a, " ")
-            for (k = 1; k <= m; k++) if (a[k] in on) { visit(a[k]); if (level[a[k]] >= l) l = level[a[k]] + 1 }
-            level[n] = l + 0
-            print l + 0, n
+            for (k = 1; k <= m; k++) if (a[k] in on) visit(a[k])
+            print n
         }
         { sub(/#.*/, "") }
-        /:/ { i = index($0, ":"); on[substr($0, 1, i - 1)] = substr($0, i + 1) }
-        END { m = split(wanted, w, " "); for (k = 1; k <= m; k++) visit(w[k]) }' "$here/crates.txt" |
-        sort -s -n -k 1,1 | while read -r level name; do echo "$name"; done
+        /:/ { i = index($0, ":"); split(substr($0, 1, i - 1), head, " "); on[head[1]] = substr($0, i + 1) }
+        END { m = split(wanted, w, " "); for (k = 1; k <= m; k++) visit(w[k]) }' "$here/crates.txt"
 }
 
 # A source that is newer than the program and than the start of its last build, if there is one.
 newer_source() { # PROGRAM
     mark=$here/target/built/$1
     [ -e "$mark" ] || mark=$here/target/bin/$1
-    # shellcheck disable=SC2046
-    (cd "$here/crates" && find ../crates.txt $(crates_of "$1") -name must-fail -prune -o -newer "$here/target/bin/$1" -newer "$mark" -print) | head -n 1
+    (
+        cd "$here/crates" || exit
+        set -- "$1" ../crates.txt
+        for name in $(crates_of "$1"); do
+            for part in src specs proofs; do [ ! -d "$name/$part" ] || set -- "$@" "$name/$part"; done
+        done
+        program=$1
+        shift
+        find "$@" -newer "$here/target/bin/$program" -newer "$mark" -print
+    ) | head -n 1
 }
 
-# Why a program has to be built, in $why; empty where it can run. Without its stamp a build of it was cut off.
+# Why a program has to be built, in $why; empty where it can run.
 why_built() { # PROGRAM
     why=
-    if [ ! -x "$here/target/bin/$1" ] || [ ! -f "$here/target/stamp/$1" ]; then
+    if [ ! -x "$here/target/bin/$1" ]; then
         why="$1 is not built yet"
         return
     fi
@@ -85,21 +92,28 @@ lock() {
     echo $$ >"$building/process"
 }
 
-# While the toolchain works: the crate that is being proved, whenever that is another one.
+# While the toolchain works: the crate that is being proved, whenever that is another one. Crates that are proved already are passed over.
 follow() { # LOG
-    shown=0
+    shown=
     while [ ! -e "$room/ended" ] && kill -0 "$running" 2>/dev/null; do
-        at=$(($(grep -c '^rt: [a-z0-9_]* proved' "$1") + 1))
-        if [ "$at" -gt "$shown" ] && [ "$at" -le "$total" ]; then
-            printf 'capellanote: proving %s of %s: %s\n' "$at" "$total" "$(sed -n "${at}p" "$room/plan")" >&2
-            shown=$at
+        name=$(sed -n 's/^rt: chose --jobs [0-9]* for //p' "$1" | tail -n 1)
+        if [ "$name" != "$shown" ]; then
+            printf 'capellanote: proving %s of %s: %s\n' "$(grep -nx -- "$name" "$room/plan" | cut -d : -f 1)" "$total" "$name" >&2
+            shown=$name
         fi
         sleep 1
     done
 }
 
+# Proves a program with what it stands on, and puts it into target/bin. rt runs it then, with no words and nothing on its standard input.
+make() { # PROGRAM
+    (cd "$here/crates/$1" && rt run)
+    grep -q "^rt: running out/$1;" "$log" || return
+    cp "$here/crates/$1/out/$1" "$here/target/bin/$1.new" && mv -f "$here/target/bin/$1.new" "$here/target/bin/$1"
+}
+
 build() { # PROGRAM...
-    mkdir -p "$here/target/built" "$here/target/stamp" 2>/dev/null && [ -w "$here/target" ] && [ -w "$here/target/built" ] && [ -w "$here/target/stamp" ] ||
+    mkdir -p "$here/target/built" "$here/target/bin" 2>/dev/null && [ -w "$here/target" ] && [ -w "$here/target/built" ] && [ -w "$here/target/bin" ] ||
         die "$here/target may not be written by you: have its owner run \`capellanote build\`, or copy the repository to a folder of yours"
     make_room
     lock
@@ -108,13 +122,13 @@ build() { # PROGRAM...
     printf 'capellanote: building %s: %s crates are proved first, which takes minutes where nothing is proved yet\n' "$*" "$total" >&2
     for program in "$@"; do
         : >"$here/target/built/$program.new" # now, before any source is read
-        [ -x "$here/target/bin/$program" ] || rm -f "$here/target/stamp/$program" # proved before, perhaps, but the program is gone
     done
     log=$here/target/build.log
     : >"$log"
     (
-        cd "$here" && rt check "$@"
-        echo $? >"$room/ended"
+        made=0
+        for program in "$@"; do make "$program" || { made=1 && break; }; done
+        echo "$made" >"$room/ended"
     ) >"$log" 2>&1 3>/dev/null 7<&- </dev/null &
     running=$!
     echo "$running" >>"$building/process"

@@ -111,7 +111,7 @@ find_loader() {
     else
         rt=$(command -v rt) || die "the Rattle toolchain is not there: no command rt in the PATH"
         kit=${RATTLE_HOME:-$(dirname "$(dirname "$(resolved "$rt")")")}
-        tools=$kit/on/$(uname -m)/toolchain
+        tools=$kit/toolchain
         bin=$here/target/bin libs=$tools/lib emulator=$tools/bin/qemu-x86_64
     fi
     loader=$libs/ld-linux-x86-64.so.2
@@ -209,13 +209,29 @@ run() { # PROGRAM WORDS...
 
 # ---- Names of files
 
-# A name that no program takes for an option, in $path.
+# A name that no program takes for an option, in $path. Programs open names that are UTF-8, so a file with another is handed to them by a link.
 plain() { # FILE
     case $1 in
     -) path=- ;;
     -*) path=./$1 ;;
     *) path=$1 ;;
     esac
+    case $1 in *[!$ascii]*) [ ! -f "$1" ] || linked "$1" ;; esac
+}
+
+ascii=$(printf '\001-\177') links=0
+
+# A link to a file whose name is no UTF-8, in $path.
+linked() { # FILE
+    # shellcheck disable=SC1003
+    name=$path LC_ALL=C awk 'BEGIN { exit ENVIRON["name"] ~ /^([\001-\177]|[\302-\337][\200-\277]|\340[\240-\277][\200-\277]|[\341-\354\356\357][\200-\277][\200-\277]|\355[\200-\237][\200-\277]|\360[\220-\277][\200-\277][\200-\277]|[\361-\363][\200-\277][\200-\277][\200-\277]|\364[\200-\217][\200-\277][\200-\277])*$/ }' || return 0
+    links=$((links + 1))
+    mkdir -p "$room/links" || return 0
+    link=$room/links/$links
+    case $1 in *.[mM][oO][lL]) link=$link.mol ;; esac
+    case $path in /*) leads_to=$path ;; *) leads_to=$PWD/$path ;; esac
+    ln -s "$leads_to" "$link" 2>/dev/null && path=$link
+    return 0
 }
 
 # A file that is read twice: what comes once, standard input and pipes, is copied first. The copying has a process of its own, so that

@@ -16,7 +16,7 @@ def library_program(folder):
     """The command that answers a file of cases by the static library; builds what is not there yet."""
     if not os.path.exists(LIBRARY):
         print("building the static library, which proves it first", flush=True)
-        subprocess.run(["rt", "staticlib", "capellanote"], cwd=ROOT, check=True, stdout=subprocess.DEVNULL)
+        subprocess.run([os.path.join(ROOT, "library", "build"), "--static"], check=True, stdout=subprocess.DEVNULL)
     program = os.path.join(folder, "library")
     subprocess.run([COMPILE, os.path.join(ROOT, "oracle", "library.c"), program], check=True)
     return [COMPILE, "--run", program]

@@ -79,7 +79,7 @@ for file in "$room"/no??.mol "$room"/no??.sdf; do
 done
 
 # Every number from 1 to 39 has a sentence of its own: the command runs with a stand-in for the program, which says this verdict.
-stand=$room/kit/on/$(uname -m)/toolchain/lib
+stand=$room/kit/toolchain/lib
 mkdir -p "$stand"
 printf '#!/bin/sh\necho "$VERDICT" >&3\n' >"$stand/ld-linux-x86-64.so.2"
 chmod +x "$stand/ld-linux-x86-64.so.2"

@@ -23,11 +23,11 @@ missing=$(grep -ohE '`[a-z_]+::([A-Z][A-Za-z]+::)?[a-z_]+' docs/*.md README.md |
     done)
 if [ -z "$missing" ]; then ok; else bad "functions that docs/ names" "$(echo $missing)"; fi
 
-# Every definition, law, type and wrong program that docs/PROMISES.md and docs/TRUST.md name, as `one-promise` or `Checked.accepts`.
+# Every definition, law, type and wrong program that docs/PROMISES.md and docs/TRUST.md name, as `one_promise` or `Checked.accepts`.
 {
     grep -rhoE "[A-Za-z][A-Za-z0-9_-]*" --include='*.antt' --include='*.rt' crates
     find crates -name '*.antt' -o -name '*.edit' | sed 's,.*/,,; s,\.[a-z]*$,,'
     ls crates
 } | sort -u >"$room/words"
-missing=$(grep -ohE '`[A-Za-z][A-Za-z0-9_-]*(\.[a-z][a-z-]*)?`' docs/PROMISES.md docs/TRUST.md | tr -d '\140' | tr . '\n' | sort -u | comm -23 - "$room/words")
+missing=$(grep -ohE '`[A-Za-z][A-Za-z0-9_-]*(\.[a-z][a-z_-]*)?`' docs/PROMISES.md docs/TRUST.md | tr -d '\140' | tr . '\n' | sort -u | comm -23 - "$room/words")
 if [ -z "$missing" ]; then ok; else bad "definitions and laws that docs/ names" "$(echo $missing)"; fi

@@ -60,9 +60,9 @@ for name in "a'b" 'a"b' 'a$b' 'a`b' 'a\b' ' ' '*' "$(printf '\351')"; do
 done
 
 # Many files are judged by one process: a stand-in for the loader writes down each start.
-kit=$o/kit/on/$(uname -m)/toolchain/lib
+kit=$o/kit/toolchain/lib
 mkdir -p "$kit"
-real=${RATTLE_HOME:-$(dirname "$(dirname "$(readlink -f "$(command -v rt)")")")}/on/$(uname -m)/toolchain
+real=${RATTLE_HOME:-$(dirname "$(dirname "$(readlink -f "$(command -v rt)")")")}/toolchain
 cat >"$kit/ld-linux-x86-64.so.2" <<END
 #!/bin/sh
 echo started >>"$o/starts"

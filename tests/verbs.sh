@@ -231,9 +231,9 @@ END
 [ -z "$(ls -A "$v/tmp")" ] && ok || bad "a signal while nothing comes" "left behind: $(ls -A "$v/tmp")"
 
 # A program that is not whole breaks down by a signal, too.
-mkdir -p "$v/kit/on/$(uname -m)/toolchain/lib"
-printf '#!/bin/sh\nulimit -c 0\nkill -s "$SIGNAL" $$\n' >"$v/kit/on/$(uname -m)/toolchain/lib/ld-linux-x86-64.so.2"
-chmod +x "$v/kit/on/$(uname -m)/toolchain/lib/ld-linux-x86-64.so.2"
+mkdir -p "$v/kit/toolchain/lib"
+printf '#!/bin/sh\nulimit -c 0\nkill -s "$SIGNAL" $$\n' >"$v/kit/toolchain/lib/ld-linux-x86-64.so.2"
+chmod +x "$v/kit/toolchain/lib/ld-linux-x86-64.so.2"
 for signal in SEGV BUS ILL; do
     got env SIGNAL=$signal RATTLE_HOME="$v/kit" ./capellanote count "$sample"
     is "a program that breaks down: $signal" 2 "" "build it anew: capellanote build"

@@ -36,7 +36,7 @@ build_all() {
         why_built "$program"
         if [ -z "$why" ] && ! runs "$program"; then
             why="$program is broken"
-            rm -f "$here/target/stamp/$program"
+            rm -f "$here/target/bin/$program" 2>/dev/null
         fi
         [ -z "$why" ] || { printf 'capellanote: %s\n' "$why" >&2 && wanted="$wanted $program"; }
     done

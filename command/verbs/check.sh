@@ -27,7 +27,12 @@ judge_kind() { # KIND FILES...
         at=$((at + 1))
         kind_of "$file"
         [ "$kind" = "$wanted" ] || continue
-        case $file in -?*) add "\"./\${$at}\"" ;; *) add "\"\${$at}\"" ;; esac
+        plain "$file"
+        case $path in
+        "$file") add "\"\${$at}\"" ;;
+        "./$file") add "\"./\${$at}\"" ;;
+        *) add "\"\$room${path#"$room"}\"" ;;
+        esac
     done
     end_list
     [ -n "$list" ] || return 0
