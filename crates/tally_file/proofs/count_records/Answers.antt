@@ -25,7 +25,11 @@ pub overflow_add-result : goal.overflow_add-result
 overflow_add-result c = counting_fits _ _ _ _ _ _ c.loop-cursor.invariant
 
 pub returns-in-Refused : goal.returns-in-Refused
-returns-in-Refused c = counting_stop _ _ _ _ _ _ c.loop-cursor.invariant c.loop-cursor-test.true _ c.count_record.ensures.value _ c.count_record.ensures.stepped _ c.in-Refused.is
+returns-in-Refused c =
+    let p = counting_stop _ _ _ _ _ _ c.loop-cursor.invariant c.loop-cursor-test.true _ c.count_record.ensures.value _ c.count_record.ensures.stepped _ c.in-Refused.is in
+    record { value = p.0; left = p.1 }
 
 pub returns : goal.returns
-returns c = counting_over _ _ _ _ _ _ c.loop-cursor.invariant c.loop-cursor-test.false
+returns c =
+    let p = counting_over _ _ _ _ _ _ c.loop-cursor.invariant c.loop-cursor-test.false in
+    record { value = p.0; left = p.1 }

@@ -26,6 +26,8 @@ returns-in-Here c =
     }
 
 pub returns-in-New : goal.returns-in-New
-returns-in-New c =    let st = c in
+returns-in-New c =
+    let st = c in
     let m = memory st.args.names.now st.args.lengths.now st.args.counts.now in
-    new_told m st.args.used st.args.name.now st.requires _ c.find_in.ensures _ c.in-New.is _ _ c.add_new.ensures
+    let p = new_told m st.args.used st.args.name.now st.requires _ c.find_in.ensures _ c.in-New.is _ _ c.add_new.ensures in
+    record { value = p.0; added_to = p.1 }
