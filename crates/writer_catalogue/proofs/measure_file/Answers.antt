@@ -27,10 +27,10 @@ pub enum_known-length : goal.enum_known-length
 enum_known-length c = search (rules, measuring_laws)
 
 pub past-cursor-requires : goal.past-cursor-requires
-past-cursor-requires c = search (rules, measuring_laws)
+past-cursor-requires c = search measuring_laws
 
 pub loop-cursor-smaller : goal.loop-cursor-smaller
-loop-cursor-smaller c = search (rules, measuring_laws)
+loop-cursor-smaller c = search measuring_laws
 
 pub loop-cursor-preserved : goal.loop-cursor-preserved
 loop-cursor-preserved c = search (rules, measuring_laws)
@@ -39,7 +39,7 @@ pub enum_known-no : goal.enum_known-no
 enum_known-no c = search (rules, measuring_laws)
 
 pub line_of-requires : goal.line_of-requires
-line_of-requires c = search (rules, measuring_laws)
+line_of-requires c = search measuring_laws
 
 pub shape_of-atoms-in-Refused : goal.shape_of-atoms-in-Refused
 shape_of-atoms-in-Refused c = search (rules, measuring_laws)
@@ -48,7 +48,7 @@ pub shape_of-bonds-in-Refused : goal.shape_of-bonds-in-Refused
 shape_of-bonds-in-Refused c = search (rules, measuring_laws)
 
 pub returns-in-Refused : goal.returns-in-Refused
-returns-in-Refused c = search (rules, measuring_laws)
+returns-in-Refused c = record { value = search measuring_laws; beside = search measuring_laws; beside_2 = search measuring_laws }
 
 pub conclude-requires : goal.conclude-requires
 conclude-requires c = search (rules, measuring_laws)

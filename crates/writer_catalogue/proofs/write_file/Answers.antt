@@ -24,10 +24,10 @@ pub write_next-wrote-requires : goal.write_next-wrote-requires
 write_next-wrote-requires c = search (rules, filling_laws)
 
 pub past-cursor-requires : goal.past-cursor-requires
-past-cursor-requires c = search (rules, filling_laws)
+past-cursor-requires c = search filling_laws
 
 pub loop-cursor-smaller : goal.loop-cursor-smaller
-loop-cursor-smaller c = search (rules, filling_laws)
+loop-cursor-smaller c = search filling_laws
 
 pub loop-cursor-preserved : goal.loop-cursor-preserved
 loop-cursor-preserved c = search (rules, filling_laws)

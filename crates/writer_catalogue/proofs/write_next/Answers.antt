@@ -7,4 +7,4 @@ pub put_record-requires : goal.put_record-requires
 put_record-requires c = search (rules, wrote_laws)
 
 pub returns : goal.returns
-returns c = search (rules, wrote_laws)
+returns c = record { wrote_next = search wrote_laws; beside = search wrote_laws; beside_2 = search wrote_laws }
