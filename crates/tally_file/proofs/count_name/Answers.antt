@@ -15,13 +15,13 @@ returns-then-name-gt-SUPPLIER c =
     record { value = p.0; stepped = p.1 }
 
 pub add_in-requires : goal.add_in-requires
-add_in-requires c =    let st = c in
+add_in-requires c = let st = c in
     let m = memory st.args.names.now st.args.lengths.now st.args.counts.now in
     let h : length st.args.name.now ≤ longest = omega arith in
     name_ready m st.args.totals st.args.name.now st.requires h
 
 pub overflow_cast-result : goal.overflow_cast-result
-overflow_cast-result c =    let st = c in
+overflow_cast-result c = let st = c in
     let m = memory st.args.names.now st.args.lengths.now st.args.counts.now in
     let h : length st.args.name.now ≤ longest = omega arith in
     let k = name_small m st.args.totals st.args.name.now st.requires h _ c.add_in.ensures.value _ c.add_in.ensures.added_to _ c.in-Now.is in

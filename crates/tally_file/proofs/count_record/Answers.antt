@@ -18,12 +18,12 @@ pub slice_bounds-count_name-count : goal.slice_bounds-count_name-count
 slice_bounds-count_name-count c = let st = c in (line_here st.args.s.now _ c.first_line.ensures _ _ c.in-Line.is).order
 
 pub slice_bounds-count_name-start : goal.slice_bounds-count_name-start
-slice_bounds-count_name-start c =    let st = c in
+slice_bounds-count_name-start c = let st = c in
     let h = (line_here st.args.s.now _ c.first_line.ensures _ _ c.in-Line.is).order in
     search (rules, h)
 
 pub slice_bounds-count_name-end : goal.slice_bounds-count_name-end
-slice_bounds-count_name-end c =    let st = c in
+slice_bounds-count_name-end c = let st = c in
     let h = (line_here st.args.s.now _ c.first_line.ensures _ _ c.in-Line.is).order in
     let i = (line_here st.args.s.now _ c.first_line.ensures _ _ c.in-Line.is).inside in
     search (rules, h, i)

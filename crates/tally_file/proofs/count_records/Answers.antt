@@ -6,7 +6,7 @@ use Rattle.tally_file.specs.Counting.{Counting, counting_start, counting_ready, 
 use Rattle.tally_file.proofs.count_records.Goals as goal
 
 pub loop-cursor-init : goal.loop-cursor-init
-loop-cursor-init c =    let st = c in
+loop-cursor-init c = let st = c in
     counting_start st.args.s.now (memory st.args.names.now st.args.lengths.now st.args.counts.now) st.args.totals _ st.requires (search rules) c.new-cursor.ensures
 
 pub count_record-requires : goal.count_record-requires

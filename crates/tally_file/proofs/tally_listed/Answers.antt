@@ -4,7 +4,7 @@ use borrow.Author.Rules.{rules}
 use Rattle.tally_file.proofs.tally_listed.Goals as goal
 
 pub count_records-requires : goal.count_records-requires
-count_records-requires c =    let st = c in
+count_records-requires c = let st = c in
     let m = memory st.args.names.now st.args.lengths.now st.args.counts.now in
     file_good st.args.s.now m st.args.totals _ c.check.ensures st.requires _ c.in-Accepted.is
 

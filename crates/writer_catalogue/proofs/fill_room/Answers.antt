@@ -9,16 +9,16 @@ write_file-requires c = search passed_fits
 
 pub returns-in-Done : goal.returns-in-Done
 returns-in-Done c = record {
-        value = search passed_answer;
-        room_after = search passed_room;
-        beside = search beside_join;
-        beside_2 = search beside_join;
-    }
+  value = search passed_answer;
+  room_after = search passed_room;
+  beside = search beside_join;
+  beside_2 = search beside_join;
+}
 
 pub returns-in-Refused : goal.returns-in-Refused
 returns-in-Refused c = record {
-        value = search stopped_answer;
-        room_after = search stopped_room;
-        beside = search;
-        beside_2 = search;
-    }
+  value = search stopped_answer;
+  room_after = search stopped_room;
+  beside = search;
+  beside_2 = search;
+}

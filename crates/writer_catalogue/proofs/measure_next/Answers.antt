@@ -21,14 +21,14 @@ measure_record-requires c = search next_measurable
 
 pub returns-in-Read : goal.returns-in-Read
 returns-in-Read c = record {
-        value = search next_whole;
-        beside = search read_atoms;
-        beside_2 = search read_bonds;
-    }
+  value = search next_whole;
+  beside = search read_atoms;
+  beside_2 = search read_bonds;
+}
 
 pub returns-in-Refused : goal.returns-in-Refused
 returns-in-Refused c = record {
-        value = search next_refused;
-        beside = search read_atoms;
-        beside_2 = search read_bonds;
-    }
+  value = search next_refused;
+  beside = search read_atoms;
+  beside_2 = search read_bonds;
+}

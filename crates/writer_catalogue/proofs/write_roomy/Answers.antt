@@ -5,8 +5,8 @@ use Rattle.writer_catalogue.proofs.write_roomy.Goals as goal
 
 pub returns : goal.returns
 returns c = record {
-        value = search;
-        room_after = search;
-        atoms_after = search rows_emptied;
-        bonds_after = search rows_emptied;
-    }
+  value = search;
+  room_after = search;
+  atoms_after = search rows_emptied;
+  bonds_after = search rows_emptied;
+}
