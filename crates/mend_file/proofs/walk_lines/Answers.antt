@@ -37,9 +37,9 @@ enum_known-j c = search (rules, mending_laws)
 
 pub keep_line-m-requires : goal.keep_line-m-requires
 keep_line-m-requires c = record {
-        at_le_next = (piece_next _ _ _ c.piece_at-p.ensures, piece_within _ _ _ c.piece_at-p.ensures);
-        can_keep = keep_fits _ _ _ _ _ _ _ _ _ _ c.loop-m.invariant (search rules) _ c.piece_at-p.ensures _ c.deed_at.ensures c.in-Keep.is _ _ _ c.judge_line.ensures _ c.in-On.is;
-    }
+  at_le_next = (piece_next _ _ _ c.piece_at-p.ensures, piece_within _ _ _ c.piece_at-p.ensures);
+  can_keep = keep_fits _ _ _ _ _ _ _ _ _ _ c.loop-m.invariant (search rules) _ c.piece_at-p.ensures _ c.deed_at.ensures c.in-Keep.is _ _ _ c.judge_line.ensures _ c.in-On.is;
+}
 
 pub loop-m-smaller-in-On : goal.loop-m-smaller-in-On
 loop-m-smaller-in-On c = search (rules, mending_laws)

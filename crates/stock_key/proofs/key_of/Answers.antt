@@ -3,7 +3,7 @@ use borrow.Author.Rules.{rules}
 use Rattle.stock_key.proofs.key_of.Goals as goal
 
 pub word_of-requires : goal.word_of-requires
-word_of-requires c =    let st = c in
+word_of-requires c = let st = c in
     good_inside st.args.s.now st.args.supplier.now 4 st.args.pad _ (search rules) _ _ c.in-Good.is
 
 pub returns-in-Good : goal.returns-in-Good

@@ -2,25 +2,25 @@
 use borrow.Author.Rules.{rules}
 use Prim.Native.Nat.{◌+◌, ◌-◌, ◌≤◌}
 use native.Mathlib.Omega.{arith}
-use mathlib.Core.Logic.{⊎_elim}
 use mathlib.Core.Path.{◌≡◌}
 use Rattle.store_lots.specs.Looking.{Missed}
 use Rattle.store_lots.specs.Looking.{missed_start}
 use Rattle.store_lots.specs.Looking.{missed_next}
 use Rattle.store_lots.specs.Looking.{missed_all}
 use Rattle.store_lots.proofs.word_in_block.Goals as goal
+use Rattle.store_lots.proofs.word_in_block.Goals.{then-keys-i, else-keys-i}
 
 pub loop-k-init : goal.loop-k-init
 loop-k-init c = (search rules, λ e. missed_start _ _ _)
 
 pub loop-k-preserved : goal.loop-k-preserved
-loop-k-preserved c =    let l = c in (
-      search rules,
-      λ e. ⊎_elim
-          (λ w. absurd (omega (arith, e, w)))
-          (λ w. missed_next _ _ _ _ (l.loop-k.invariant.1 (omega (arith, e, w))) w.0.left)
-          c.if-keys-i.branch,
-    )
+loop-k-preserved c = (
+  search rules,
+  λ e. elim c.if-keys-i.branch [
+    | then-keys-i w ↦ absurd (omega (arith, e, w))
+    | else-keys-i w ↦ missed_next _ _ _ _ (c.loop-k.invariant.1 (omega (arith, e, w))) w.if-keys-i.false
+  ],
+)
 
 pub returns : goal.returns
 returns c = λ e. missed_all _ _ _ _ (c.loop-k.invariant.1 e) (search rules) (search rules)

@@ -6,7 +6,7 @@ pub past-requires : goal.past-requires
 past-requires c = search (rules, past_laws)
 
 pub returns-in-Whole : goal.returns-in-Whole
-returns-in-Whole c = search (rules, past_laws)
+returns-in-Whole c = search past_laws
 
 pub returns-in-Refused : goal.returns-in-Refused
-returns-in-Refused c = search (rules, past_laws)
+returns-in-Refused c = search past_laws

@@ -6,7 +6,7 @@ use Rattle.tally_file.specs.Counting.{Counting, counting_start, counting_ready, 
 use Rattle.tally_file.proofs.count_records.Goals as goal
 
 pub loop-cursor-init : goal.loop-cursor-init
-loop-cursor-init c =    let st = c in
+loop-cursor-init c = let st = c in
     counting_start st.args.s.now (memory st.args.names.now st.args.lengths.now st.args.counts.now) st.args.totals _ st.requires (search rules) c.new-cursor.ensures
 
 pub count_record-requires : goal.count_record-requires
@@ -25,7 +25,11 @@ pub overflow_add-result : goal.overflow_add-result
 overflow_add-result c = counting_fits _ _ _ _ _ _ c.loop-cursor.invariant
 
 pub returns-in-Refused : goal.returns-in-Refused
-returns-in-Refused c = counting_stop _ _ _ _ _ _ c.loop-cursor.invariant c.loop-cursor-test.true _ c.count_record.ensures.value _ c.count_record.ensures.stepped _ c.in-Refused.is
+returns-in-Refused c =
+    let p = counting_stop _ _ _ _ _ _ c.loop-cursor.invariant c.loop-cursor-test.true _ c.count_record.ensures.value _ c.count_record.ensures.stepped _ c.in-Refused.is in
+    record { value = p.0; left = p.1 }
 
 pub returns : goal.returns
-returns c = counting_over _ _ _ _ _ _ c.loop-cursor.invariant c.loop-cursor-test.false
+returns c =
+    let p = counting_over _ _ _ _ _ _ c.loop-cursor.invariant c.loop-cursor-test.false in
+    record { value = p.0; left = p.1 }

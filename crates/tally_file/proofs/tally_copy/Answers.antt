@@ -6,11 +6,11 @@ use borrow.Author.Rules.{rules}
 use Rattle.tally_file.proofs.tally_copy.Goals as goal
 
 pub copy_numbers-requires-then-is_done-2 : goal.copy_numbers-requires-then-is_done-2
-copy_numbers-requires-then-is_done-2 c =    let st = c in
+copy_numbers-requires-then-is_done-2 c = let st = c in
     (st.requires.counts, omega (arith, c.tally_arrays-r.ensures.left_list.sized.counts))
 
 pub returns-then-is_done : goal.returns-then-is_done
-returns-then-is_done c =    let st = c in
+returns-then-is_done c = let st = c in
     let m = memory st.args.names.now st.args.lengths.now st.args.counts.now in
     let e = copied_front m _ _ _ c.copy_bytes.ensures c.copy_numbers.ensures c.copy_numbers-2.ensures in
     let h = sym c.is_done.ensures ∙ c.if-is_done.true in
@@ -18,7 +18,7 @@ returns-then-is_done c =    let st = c in
     c.copy_bytes-then-is_done.ensures c.copy_numbers-then-is_done.ensures c.copy_numbers-then-is_done-2.ensures
 
 pub returns : goal.returns
-returns c =    let st = c in
+returns c = let st = c in
     let m = memory st.args.names.now st.args.lengths.now st.args.counts.now in
     let e = copied_front m _ _ _ c.copy_bytes.ensures c.copy_numbers.ensures c.copy_numbers-2.ensures in
     copy_not st.args.s.now m st.args.totals st.requires _ e _ c.tally_arrays-r.ensures.value (sym c.is_done.ensures ∙ c.if-is_done.false)

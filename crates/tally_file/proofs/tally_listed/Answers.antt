@@ -4,11 +4,13 @@ use borrow.Author.Rules.{rules}
 use Rattle.tally_file.proofs.tally_listed.Goals as goal
 
 pub count_records-requires : goal.count_records-requires
-count_records-requires c =    let st = c in
+count_records-requires c = let st = c in
     let m = memory st.args.names.now st.args.lengths.now st.args.counts.now in
     file_good st.args.s.now m st.args.totals _ c.check.ensures st.requires _ c.in-Accepted.is
 
 pub returns-in-Refused : goal.returns-in-Refused
-returns-in-Refused c =    let st = c in
+returns-in-Refused c =
+    let st = c in
     let m = memory st.args.names.now st.args.lengths.now st.args.counts.now in
-    file_bad st.args.s.now m st.args.totals _ c.check.ensures st.requires.sized _ _ _ c.in-Refused.is
+    let p = file_bad st.args.s.now m st.args.totals _ c.check.ensures st.requires.sized _ _ _ c.in-Refused.is in
+    record { value = p.0; left = p.1 }

@@ -13,7 +13,7 @@ pub returns-then-totals : goal.returns-then-totals
 returns-then-totals c = search (rules, good_above, good_many, good_long, good_looked, good_rest)
 
 pub good_names-requires : goal.good_names-requires
-good_names-requires c =    let st = c in
+good_names-requires c = let st = c in
     let m = memory st.args.names.now st.args.lengths.now st.args.counts.now in
     let h : st.args.totals.total ≤ most_records = omega arith in
     let k : st.args.totals.entries ≤ most_suppliers = omega arith in

@@ -7,7 +7,7 @@ use Rattle.tally_report.specs.Steps.{Putting, putting_start, putting_end, puttin
 use Rattle.tally_report.proofs.put_suppliers.Goals as goal
 
 pub loop-i-init : goal.loop-i-init
-loop-i-init c =    let st = c in
+loop-i-init c = let st = c in
     putting_start (memory st.args.names.now st.args.lengths.now st.args.counts.now) st.args.used st.args.room.now st.requires
 
 pub bounds-lengths-i : goal.bounds-lengths-i
