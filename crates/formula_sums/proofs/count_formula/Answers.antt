@@ -12,5 +12,6 @@ returns-then-is_formula c =
     }
 
 pub returns : goal.returns
-returns c =    let st = c in
-    line_none st.args.line.now c.is_formula.ensures c.if-is_formula.false _ refl
+returns c =
+    let k = line_none c.args.line.now c.is_formula.ensures c.if-is_formula.false _ refl in
+    record { value = k.0; counts_after = k.1 }
