@@ -13,10 +13,7 @@ returns-in-Bad c =
     let q = c.in-Bad.is in
     let j = c.judge.ensures in
     record {
-        value = judged_bad _ _ _ j _ _ _ q s.args.list.now;
-        list_after = (
-        judged_kept _ _ _ j _ _ _ q s.args.list.now,
-        kept_same _ s.requires,
-      );
-        kept = ;
+      value = judged_bad _ _ _ j _ _ _ q s.args.list.now;
+      list_after = judged_kept _ _ _ j _ _ _ q s.args.list.now;
+      kept = kept_same _ s.requires;
     }

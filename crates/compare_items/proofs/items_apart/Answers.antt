@@ -77,7 +77,7 @@ values_apart-w-requires c =    let v = c in
     let l = e in
     let s = l in
     let a = s.args in (
-      side_small_item _ _ _ _ _ _ _ _ _ l.loop-e.invariant _ e.line_at.ensures _ _ e.in-Line.is s.requires (omega (arith, s.well-formed)),
+      side_small_item _ _ _ _ _ _ _ _ _ l.loop-e.invariant _ e.line_at.ensures _ _ e.in-Line.is s.requires (omega (arith, s.well_formed)),
       item_next a.a.now _ _ e.line_at.ensures _ _ e.in-Line.is,
       item_next a.b.now _ _ f.line_at-in-loop-e.ensures _ _ f.in-Line-line_at.is,
     )
@@ -89,7 +89,7 @@ overflow_add-k c =    let v = c in
     let l = e in
     let s = l in
     let a = s.args in
-    side_fits _ _ _ _ _ _ _ _ _ l.loop-e.invariant _ e.line_at.ensures _ _ e.in-Line.is (omega (arith, s.well-formed))
+    side_fits _ _ _ _ _ _ _ _ _ l.loop-e.invariant _ e.line_at.ensures _ _ e.in-Line.is (omega (arith, s.well_formed))
 
 pub loop-e-smaller : goal.loop-e-smaller
 loop-e-smaller c = search (rules, side_laws)

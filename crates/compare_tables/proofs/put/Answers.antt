@@ -12,4 +12,4 @@ returns c =    let w = c in
     let t = w in
     let b = t in
     let a = b.args in
-    put_one a.list-1.now _ a.count _ a.p a.side a.left a.right _ _ (omega arith) c.up.ensures (to_z-of_z b.ranges.left) (to_z-of_z b.ranges.right) w.put_row.ensures
+    put_one a.list.now _ a.count _ a.p a.side a.left a.right _ _ (omega arith) c.up.ensures (to_z-of_z b.ranges.left) (to_z-of_z b.ranges.right) w.put_row.ensures

@@ -17,5 +17,5 @@ returns c =    let s₇ = c in
     let s₁ = s₂ in
     let b = s₁ in
     let a = b.args in
-    put_room a.list-1.now a.k (record { at = a.p; side = a.side; left = a.left; right = a.right }) (omega arith)
+    put_room a.list.now a.k (record { at = a.p; side = a.side; left = a.left; right = a.right }) (omega arith)
     s₁.store.ensures (plain _ b.requires.position) s₂.store-2.ensures (plain _ b.requires.part) s₃.store-3.ensures (plain _ b.requires.index) s₄.store-4.ensures (plain _ b.requires.field) s₅.store-5.ensures (plain _ (omega (arith, b.ranges.side.fits))) s₆.store-6.ensures (to_z-of_z b.ranges.left) s₇.store-7.ensures (to_z-of_z b.ranges.right)

@@ -11,7 +11,8 @@ returns-then-no-ne0 c =    let st = c in
     let t = st.args.atoms.now in
     let n = st.args.n in
     let ks = symbols_from t 0 n in
-    line_refused st.args.line.now ks c.count_formula-no.ensures.value c.if-no-ne0.true st.args.found.now st.requires.2
+    let k = line_refused st.args.line.now ks c.count_formula-no.ensures.value c.if-no-ne0.true st.args.found.now st.requires.2 in
+    record { value = k.0; found_after = k.1 }
 
 pub count_drawn-requires : goal.count_drawn-requires
 count_drawn-requires c =    let st = c in
@@ -23,12 +24,14 @@ returns-then-count_drawn c =    let st = c in
     let n = st.args.n in
     let ks = symbols_from t 0 n in
     let few = symbols_length t 0 n in
-    line_differs st.args.line.now ks c.count_formula-no.ensures.value c.if-no-ne0.false (omega (arith, st.requires.1)) c.count_drawn.ensures.value c.if-count_drawn.true
-    _ _ c.count_formula-no.ensures.counts_after c.count_drawn.ensures.drawn_after _ c.list_differences-count.ensures.value st.args.found.now _ st.requires.2 c.list_differences-count.ensures.found_after
+    let k = line_differs st.args.line.now ks c.count_formula-no.ensures.value c.if-no-ne0.false (omega (arith, st.requires.1)) c.count_drawn.ensures.value c.if-count_drawn.true
+        _ _ c.count_formula-no.ensures.counts_after c.count_drawn.ensures.drawn_after _ c.list_differences-count.ensures.value st.args.found.now _ st.requires.2 c.list_differences-count.ensures.found_after in
+    record { value = k.0; found_after = k.1 }
 
 pub returns : goal.returns
 returns c =    let st = c in
     let t = st.args.atoms.now in
     let n = st.args.n in
     let ks = symbols_from t 0 n in
-    line_other st.args.line.now ks c.count_formula-no.ensures.value c.if-no-ne0.false c.count_drawn.ensures.value c.if-count_drawn.false st.args.found.now st.requires.2
+    let k = line_other st.args.line.now ks c.count_formula-no.ensures.value c.if-no-ne0.false c.count_drawn.ensures.value c.if-count_drawn.false st.args.found.now st.requires.2 in
+    record { value = k.0; found_after = k.1 }
