@@ -14,7 +14,8 @@ list_pieces-requires c =    let joined = c.label_atoms.ensures in
 pub returns : goal.returns
 returns c =    let joined = c.label_atoms.ensures in
     let start = c in
-    let listed = c.list_pieces.ensures in (
-      split_made _ _ _ _ _ _ joined.1 (inside_in _ _ _ start.requires.0 _ (omega arith)) listed,
-      (joined.0, listed.head_room, listed.size_room),
-    )
+    let listed = c.list_pieces.ensures in
+    record {
+      split = split_made _ _ _ _ _ _ joined.1 (inside_in _ _ _ start.requires.0 _ (omega arith)) listed;
+      labels_len = (joined.0, listed.head_room, listed.size_room);
+    }
