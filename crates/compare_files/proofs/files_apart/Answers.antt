@@ -61,7 +61,7 @@ pub loop-a-preserved : goal.loop-a-preserved
 loop-a-preserved c =    let l = c in
     let t = c in
     let p = c.pair_apart-pair.ensures in
-    walking_next _ _ _ _ _ _ _ _ _ _ _ _ _ _ _ l.loop-a.invariant t.loop-a-test.true _ _ p.0 _ _ c.past-a.ensures c.past-b.ensures _ _ _ _ p.1
+    walking_next _ _ _ _ _ _ _ _ _ _ _ _ _ _ _ l.loop-a.invariant t.loop-a-test.true _ _ p.paired _ _ c.past-a.ensures c.past-b.ensures _ _ _ _ p.kept
 
 pub rest_records-d-requires : goal.rest_records-d-requires
 rest_records-d-requires c =    let l = c in
@@ -85,10 +85,7 @@ shape_of-ub c = search (rules, walking_laws)
 
 pub shape_of-list : goal.shape_of-list
 shape_of-list c =    let l = c in
-    omega (arith, c.list-3-1.given, c.list-2-1.given, walking_long _ _ _ _ _ _ _ _ _ _ _ _ _ _ _ l.loop-a.invariant)
+    omega (arith, walking_long _ _ _ _ _ _ _ _ _ _ _ _ _ _ _ l.loop-a.invariant)
 
 pub returns : goal.returns
-returns c = record {
-        apart = search walking_end;
-        kept = search walking_kept;
-    }
+returns c = record { apart = search (rules, walking_end); kept = search (rules, walking_kept) }
