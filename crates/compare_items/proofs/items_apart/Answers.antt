@@ -1,9 +1,6 @@
 use borrow.Author.Rules.{rules}
 use native.Mathlib.Omega.{arith}
-use Prim.Native.Nat.{◌-◌}
-use lib.ListN.{length}
-use Rattle.compare_rules.specs.Log.{log}
-use Rattle.compare_items.specs.Items.{Side, side_laws, side_long, side_small_item, side_fits, side_next, item_next}
+use Rattle.compare_items.specs.Items.{side_laws, side_long, side_small_item, side_fits, side_next, item_next}
 use Rattle.compare_items.proofs.items_apart.Goals as goal
 
 pub loop-e-init : goal.loop-e-init
@@ -22,7 +19,7 @@ pub rest_items-requires : goal.rest_items-requires
 rest_items-requires c = search (rules, side_laws)
 
 pub shape_of-list-in_default : goal.shape_of-list-in_default
-shape_of-list-in_default c =    let l = c in
+shape_of-list-in_default c = let l = c in
     let s = l in
     omega (arith, c.list-1.given, side_long _ _ _ _ _ _ _ _ _ l.loop-e.invariant)
 
@@ -42,7 +39,7 @@ pub rest_items-requires-in_default-line_at : goal.rest_items-requires-in_default
 rest_items-requires-in_default-line_at c = search (rules, side_laws)
 
 pub shape_of-list-in_default-line_at : goal.shape_of-list-in_default-line_at
-shape_of-list-in_default-line_at c =    let l = c in
+shape_of-list-in_default-line_at c = let l = c in
     let s = l in
     omega (arith, c.list-in_default-line_at-1.given, side_long _ _ _ _ _ _ _ _ _ l.loop-e.invariant)
 
@@ -71,7 +68,7 @@ pub names_apart-d-requires : goal.names_apart-d-requires
 names_apart-d-requires c = search (rules, side_laws)
 
 pub values_apart-w-requires : goal.values_apart-w-requires
-values_apart-w-requires c =    let v = c in
+values_apart-w-requires c = let v = c in
     let f = v in
     let e = v in
     let l = e in
@@ -83,7 +80,7 @@ values_apart-w-requires c =    let v = c in
     )
 
 pub overflow_add-k : goal.overflow_add-k
-overflow_add-k c =    let v = c in
+overflow_add-k c = let v = c in
     let f = v in
     let e = v in
     let l = e in
@@ -95,7 +92,7 @@ pub loop-e-smaller : goal.loop-e-smaller
 loop-e-smaller c = search (rules, side_laws)
 
 pub loop-e-preserved : goal.loop-e-preserved
-loop-e-preserved c =    let v = c in
+loop-e-preserved c = let v = c in
     let f = v in
     let e = v in
     let l = e in

@@ -1,4 +1,3 @@
-use borrow.Author.Rules.{rules}
 use Rattle.compare_rules.specs.Noted.{wider, wide_same, figures_alike, figures_apart}
 use Rattle.compare_tables.proofs.figures.Goals as goal
 
@@ -12,6 +11,6 @@ pub overflow_cast-y : goal.overflow_cast-y
 overflow_cast-y c = wider _ c.ranges.y
 
 pub returns : goal.returns
-returns c =    let e = c in
+returns c = let e = c in
     let b = e in
     figures_apart _ _ _ b.ranges.x b.ranges.y _ _ _ _ e.if-x-y.false (wide_same _ b.ranges.x) (wide_same _ b.ranges.y) c.put.ensures

@@ -8,7 +8,7 @@ pub returns-then-count-gt0 : goal.returns-then-count-gt0
 returns-then-count-gt0 c = search (rules, log_laws)
 
 pub returns : goal.returns
-returns c =    let w = c in
+returns c = let w = c in
     let t = w in
     let b = t in
     let a = b.args in

@@ -8,7 +8,7 @@ pub returns-then-list-k : goal.returns-then-list-k
 returns-then-list-k c = search (rules, log_laws)
 
 pub returns : goal.returns
-returns c =    let s₇ = c in
+returns c = let s₇ = c in
     let s₆ = s₇ in
     let s₅ = s₆ in
     let s₄ = s₅ in

@@ -1,7 +1,6 @@
 use borrow.Author.Rules.{rules}
 use native.Mathlib.Omega.{arith}
-use Prim.Native.Nat.{◌-◌}
-use Rattle.compare_tables.specs.SideBySide.{Tabling, table_laws, row_inside}
+use Rattle.compare_tables.specs.SideBySide.{table_laws, row_inside}
 use Rattle.compare_tables.proofs.table_apart.Goals as goal
 
 pub loop-i-init : goal.loop-i-init

@@ -1,8 +1,7 @@
 use borrow.Author.Rules.{rules}
 use native.Mathlib.Omega.{arith}
-use Prim.Native.Nat.{◌-◌}
 use Rattle.formula_rules.specs.Capped.{below_here}
-use Rattle.formula_drawn.specs.Tallying.{Tallying, tally_laws, tally_stop, tally_end}
+use Rattle.formula_drawn.specs.Tallying.{tally_laws, tally_stop, tally_end}
 use Rattle.formula_drawn.proofs.count_drawn.Goals as goal
 
 pub loop-i-init : goal.loop-i-init

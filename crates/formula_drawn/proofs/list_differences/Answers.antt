@@ -1,7 +1,6 @@
 use borrow.Author.Rules.{rules}
 use native.Mathlib.Omega.{arith}
-use Prim.Native.Nat.{◌-◌}
-use Rattle.formula_drawn.specs.Listing.{entry, Listing, listing_laws, listing_end}
+use Rattle.formula_drawn.specs.Listing.{entry, listing_laws, listing_end}
 use Rattle.formula_drawn.proofs.list_differences.Goals as goal
 
 pub loop-k-init : goal.loop-k-init

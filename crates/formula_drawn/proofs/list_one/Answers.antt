@@ -1,6 +1,5 @@
 use mathlib.Core.Path.{refl}
 use Rattle.formula_drawn.specs.Listing.{one_same, one_differs}
-use borrow.Author.Rules.{rules}
 use Rattle.formula_drawn.proofs.list_one.Goals as goal
 
 pub returns-then-written-drawn : goal.returns-then-written-drawn

@@ -1,10 +1,9 @@
 use native.Mathlib.Omega.{arith}
 use Rattle.formula_sums.specs.Adds.{shallow_empty, shallow_many, shallow_few, shallow_not}
-use borrow.Author.Rules.{rules}
 use Rattle.formula_sums.proofs.count_shallow.Goals as goal
 
 pub add_units-requires : goal.add_units-requires
-add_units-requires c =    let st = c in
+add_units-requires c = let st = c in
     let p = shallow_empty st.args.line.now c.is_formula.ensures c.if-is_formula.true st.args.counts.now st.requires in
     (omega arith, p.0, omega arith, p.1)
 

@@ -1,6 +1,5 @@
 -- `piece_list::list_atom` meets its contract.
 use Rattle.piece_list.specs.Listing.{listing_hit, listing_miss}
-use borrow.Author.Rules.{rules}
 use Rattle.piece_list.proofs.list_atom.Goals as goal
 
 pub returns-then-labels-i : goal.returns-then-labels-i

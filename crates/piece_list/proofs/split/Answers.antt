@@ -3,16 +3,15 @@ use native.Mathlib.Omega.{arith}
 use Rattle.piece_labels.specs.Table.{inside_in}
 use Rattle.piece_list.specs.Listing.{listing_start}
 use Rattle.piece_list.specs.Made.{labels_low, split_made}
-use borrow.Author.Rules.{rules}
 use Rattle.piece_list.proofs.split.Goals as goal
 
 pub list_pieces-requires : goal.list_pieces-requires
-list_pieces-requires c =    let joined = c.label_atoms.ensures in
+list_pieces-requires c = let joined = c.label_atoms.ensures in
     let start = c in
     listing_start _ _ _ _ start.requires.0.few (labels_low _ _ _ joined.1) start.requires.2 start.requires.3
 
 pub returns : goal.returns
-returns c =    let joined = c.label_atoms.ensures in
+returns c = let joined = c.label_atoms.ensures in
     let start = c in
     let listed = c.list_pieces.ensures in
     record {
