@@ -3,22 +3,22 @@ use borrow.Author.Rules.{rules}
 use Rattle.formula_record.proofs.compare_read.Goals as goal
 
 pub slice_bounds-compare_line-count : goal.slice_bounds-compare_line-count
-slice_bounds-compare_line-count c =    let st = c in
-    line_order st.args.s.now st.args.atoms.now st.args.n st.requires _ c.first_line.ensures _ _ c.in-Line.is
+slice_bounds-compare_line-count c =
+    line_order c.args.s.now c.args.atoms.now c.args.n c.requires _ c.first_line.ensures _ _ c.in-Line.is
 
 pub slice_bounds-compare_line-start : goal.slice_bounds-compare_line-start
-slice_bounds-compare_line-start c =    let st = c in
-    let h = line_order st.args.s.now st.args.atoms.now st.args.n st.requires _ c.first_line.ensures _ _ c.in-Line.is in
+slice_bounds-compare_line-start c =
+    let h = line_order c.args.s.now c.args.atoms.now c.args.n c.requires _ c.first_line.ensures _ _ c.in-Line.is in
     search (rules, h)
 
 pub slice_bounds-compare_line-end : goal.slice_bounds-compare_line-end
-slice_bounds-compare_line-end c =    let st = c in
-    let i = line_inside st.args.s.now st.args.atoms.now st.args.n st.requires _ c.first_line.ensures _ _ c.in-Line.is in
+slice_bounds-compare_line-end c =
+    let i = line_inside c.args.s.now c.args.atoms.now c.args.n c.requires _ c.first_line.ensures _ _ c.in-Line.is in
     search (rules, i)
 
 pub compare_line-requires : goal.compare_line-requires
-compare_line-requires c =    let st = c in
-    (st.requires.rows, st.requires.few, zeros_are)
+compare_line-requires c =
+    (c.requires.rows, c.requires.few, zeros_are)
 
 pub returns-in-Line : goal.returns-in-Line
 returns-in-Line c =

@@ -4,9 +4,8 @@ use Rattle.formula_sums.proofs.count_formula.Goals as goal
 
 pub returns-then-is_formula : goal.returns-then-is_formula
 returns-then-is_formula c =
-    let st = c in
     record {
-      value = line_formula st.args.line.now c.is_formula.ensures c.if-is_formula.true c.count_shallow.ensures.value;
+      value = line_formula c.args.line.now c.is_formula.ensures c.if-is_formula.true c.count_shallow.ensures.value;
       counts_after = c.count_shallow.ensures.counts_after;
     }
 

@@ -3,8 +3,8 @@ use Rattle.formula_sums.specs.Adds.{shallow_empty, shallow_many, shallow_few, sh
 use Rattle.formula_sums.proofs.count_shallow.Goals as goal
 
 pub add_units-requires : goal.add_units-requires
-add_units-requires c = let st = c in
-    let p = shallow_empty st.args.line.now c.is_formula.ensures c.if-is_formula.true st.args.counts.now st.requires in
+add_units-requires c =
+    let p = shallow_empty c.args.line.now c.is_formula.ensures c.if-is_formula.true c.args.counts.now c.requires in
     (omega arith, p.0, omega arith, p.1)
 
 pub returns-then-too_many : goal.returns-then-too_many
