@@ -1,5 +1,5 @@
 -- What is listed from the labels are the pieces.
-use Rattle.std.specs.Prelude.{ℕ, ◌≤◌, ◌≡◌, List, map, get_or, take}
+use Rattle.std.specs.Prelude.{ℕ, List, map, take}
 use Rattle.std.proofs.Common.{arith, sym, ap, ◌∙◌, subst}
 use Rattle.rules.specs.Forms.{Bond}
 use Rattle.piece_rules.specs.Pieces.{PiecesAbove, Inside, Split, sum}

@@ -43,33 +43,29 @@ pub pair_apart-pair-requires : goal.pair_apart-pair-requires
 pair_apart-pair-requires c = search (rules, walking_laws)
 
 pub past-a-requires : goal.past-a-requires
-past-a-requires c =    let l = c in
-    let t = c in
-    walking_old_past _ _ _ _ _ _ _ _ _ _ _ _ _ _ _ l.loop-a.invariant t.loop-a-test.true _ _ c.pair_apart-pair.ensures.paired
+past-a-requires c =
+    walking_old_past _ _ _ _ _ _ _ _ _ _ _ _ _ _ _ c.loop-a.invariant c.loop-a-test.true _ _ c.pair_apart-pair.ensures.paired
 
 pub past-b-requires : goal.past-b-requires
-past-b-requires c =    let l = c in
-    let t = c in
-    walking_new_past _ _ _ _ _ _ _ _ _ _ _ _ _ _ _ l.loop-a.invariant t.loop-a-test.true _ _ c.pair_apart-pair.ensures.paired
+past-b-requires c =
+    walking_new_past _ _ _ _ _ _ _ _ _ _ _ _ _ _ _ c.loop-a.invariant c.loop-a-test.true _ _ c.pair_apart-pair.ensures.paired
 
 pub loop-a-smaller : goal.loop-a-smaller
-loop-a-smaller c =    let l = c in
-    let t = c in
-    walking_less _ _ _ _ _ _ _ _ _ _ _ _ _ _ _ l.loop-a.invariant t.loop-a-test.true _ _ c.pair_apart-pair.ensures.paired _ _ c.past-a.ensures c.past-b.ensures
+loop-a-smaller c =
+    walking_less _ _ _ _ _ _ _ _ _ _ _ _ _ _ _ c.loop-a.invariant c.loop-a-test.true _ _ c.pair_apart-pair.ensures.paired _ _ c.past-a.ensures c.past-b.ensures
 
 pub loop-a-preserved : goal.loop-a-preserved
-loop-a-preserved c =    let l = c in
-    let t = c in
+loop-a-preserved c =
     let p = c.pair_apart-pair.ensures in
-    walking_next _ _ _ _ _ _ _ _ _ _ _ _ _ _ _ l.loop-a.invariant t.loop-a-test.true _ _ p.0 _ _ c.past-a.ensures c.past-b.ensures _ _ _ _ p.1
+    walking_next _ _ _ _ _ _ _ _ _ _ _ _ _ _ _ c.loop-a.invariant c.loop-a-test.true _ _ p.paired _ _ c.past-a.ensures c.past-b.ensures _ _ _ _ p.kept
 
 pub rest_records-d-requires : goal.rest_records-d-requires
-rest_records-d-requires c =    let l = c in
-    walking_rest_old _ _ _ _ _ _ _ _ _ _ _ _ _ _ _ l.loop-a.invariant (search rules)
+rest_records-d-requires c =
+    walking_rest_old _ _ _ _ _ _ _ _ _ _ _ _ _ _ _ c.loop-a.invariant (search rules)
 
 pub rest_records-requires : goal.rest_records-requires
-rest_records-requires c =    let l = c in
-    walking_rest_new _ _ _ _ _ _ _ _ _ _ _ _ _ _ _ l.loop-a.invariant (search rules)
+rest_records-requires c =
+    walking_rest_new _ _ _ _ _ _ _ _ _ _ _ _ _ _ _ c.loop-a.invariant (search rules)
 
 pub shape_of-ta : goal.shape_of-ta
 shape_of-ta c = search (rules, walking_laws)
@@ -84,11 +80,8 @@ pub shape_of-ub : goal.shape_of-ub
 shape_of-ub c = search (rules, walking_laws)
 
 pub shape_of-list : goal.shape_of-list
-shape_of-list c =    let l = c in
-    omega (arith, c.list-3-1.given, c.list-2-1.given, walking_long _ _ _ _ _ _ _ _ _ _ _ _ _ _ _ l.loop-a.invariant)
+shape_of-list c =
+    omega (arith, walking_long _ _ _ _ _ _ _ _ _ _ _ _ _ _ _ c.loop-a.invariant)
 
 pub returns : goal.returns
-returns c = record {
-        apart = search walking_end;
-        kept = search walking_kept;
-    }
+returns c = record { apart = search (rules, walking_end); kept = search (rules, walking_kept) }

@@ -28,9 +28,9 @@ slice_bounds-records_apart-end-4 c = search (rules, pair_laws)
 
 pub records_apart-c-requires : goal.records_apart-c-requires
 records_apart-c-requires c = record {
-        position_bound = (search rules, search pair_small, search pair_small);
-        n_in_bounds = (search pair_atoms, search pair_bonds, search pair_atoms, search pair_bonds);
-    }
+  position_bound = (search rules, search pair_small, search pair_small);
+  n_in_bounds = (search pair_atoms, search pair_bonds, search pair_atoms, search pair_bonds);
+}
 
 pub returns : goal.returns
 returns c = search (rules, pair_laws)

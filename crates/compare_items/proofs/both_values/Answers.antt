@@ -1,8 +1,5 @@
 use borrow.Author.Rules.{rules}
-use Prim.Native.Nat.{◌-◌}
-use lib.ListN.{length}
-use Rattle.compare_rules.specs.Log.{log}
-use Rattle.compare_items.specs.Pairing.{Pairing, pairing_laws}
+use Rattle.compare_items.specs.Pairing.{pairing_laws}
 use Rattle.compare_items.proofs.both_values.Goals as goal
 
 pub loop-e-init : goal.loop-e-init

@@ -1,8 +1,7 @@
-use borrow.Author.Rules.{rules}
 use Prim.Native.Nat.{◌-◌}
 use lib.ListN.{length}
 use Rattle.compare_rules.specs.Log.{log}
-use Rattle.compare_items.specs.Pairing.{Pairing, pairing_laws}
+use Rattle.compare_items.specs.Pairing.{Pairing}
 use Rattle.compare_items.proofs.both_values.Given as goal
 
 abbrev pub invariant-loop-e : goal.invariant-loop-e

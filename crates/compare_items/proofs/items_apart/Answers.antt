@@ -1,9 +1,6 @@
 use borrow.Author.Rules.{rules}
 use native.Mathlib.Omega.{arith}
-use Prim.Native.Nat.{◌-◌}
-use lib.ListN.{length}
-use Rattle.compare_rules.specs.Log.{log}
-use Rattle.compare_items.specs.Items.{Side, side_laws, side_long, side_small_item, side_fits, side_next, item_next}
+use Rattle.compare_items.specs.Items.{side_laws, side_long, side_small_item, side_fits, side_next, item_next}
 use Rattle.compare_items.proofs.items_apart.Goals as goal
 
 pub loop-e-init : goal.loop-e-init
@@ -22,9 +19,8 @@ pub rest_items-requires : goal.rest_items-requires
 rest_items-requires c = search (rules, side_laws)
 
 pub shape_of-list-in_default : goal.shape_of-list-in_default
-shape_of-list-in_default c =    let l = c in
-    let s = l in
-    omega (arith, c.list-1.given, side_long _ _ _ _ _ _ _ _ _ l.loop-e.invariant)
+shape_of-list-in_default c =
+    omega (arith, side_long _ _ _ _ _ _ _ _ _ c.loop-e.invariant)
 
 pub returns-in_default : goal.returns-in_default
 returns-in_default c = search (rules, side_laws)
@@ -42,9 +38,8 @@ pub rest_items-requires-in_default-line_at : goal.rest_items-requires-in_default
 rest_items-requires-in_default-line_at c = search (rules, side_laws)
 
 pub shape_of-list-in_default-line_at : goal.shape_of-list-in_default-line_at
-shape_of-list-in_default-line_at c =    let l = c in
-    let s = l in
-    omega (arith, c.list-in_default-line_at-1.given, side_long _ _ _ _ _ _ _ _ _ l.loop-e.invariant)
+shape_of-list-in_default-line_at c =
+    omega (arith, side_long _ _ _ _ _ _ _ _ _ c.loop-e.invariant)
 
 pub returns-in_default-line_at : goal.returns-in_default-line_at
 returns-in_default-line_at c = search (rules, side_laws)
@@ -71,35 +66,23 @@ pub names_apart-d-requires : goal.names_apart-d-requires
 names_apart-d-requires c = search (rules, side_laws)
 
 pub values_apart-w-requires : goal.values_apart-w-requires
-values_apart-w-requires c =    let v = c in
-    let f = v in
-    let e = v in
-    let l = e in
-    let s = l in
-    let a = s.args in (
-      side_small_item _ _ _ _ _ _ _ _ _ l.loop-e.invariant _ e.line_at.ensures _ _ e.in-Line.is s.requires (omega (arith, s.well-formed)),
-      item_next a.a.now _ _ e.line_at.ensures _ _ e.in-Line.is,
-      item_next a.b.now _ _ f.line_at-in-loop-e.ensures _ _ f.in-Line-line_at.is,
+values_apart-w-requires c =
+    let a = c.args in (
+      side_small_item _ _ _ _ _ _ _ _ _ c.loop-e.invariant _ c.line_at.ensures _ _ c.in-Line.is c.requires (omega (arith, c.well_formed)),
+      item_next a.a.now _ _ c.line_at.ensures _ _ c.in-Line.is,
+      item_next a.b.now _ _ c.line_at-in-loop-e.ensures _ _ c.in-Line-line_at.is,
     )
 
 pub overflow_add-k : goal.overflow_add-k
-overflow_add-k c =    let v = c in
-    let f = v in
-    let e = v in
-    let l = e in
-    let s = l in
-    let a = s.args in
-    side_fits _ _ _ _ _ _ _ _ _ l.loop-e.invariant _ e.line_at.ensures _ _ e.in-Line.is (omega (arith, s.well-formed))
+overflow_add-k c =
+    let a = c.args in
+    side_fits _ _ _ _ _ _ _ _ _ c.loop-e.invariant _ c.line_at.ensures _ _ c.in-Line.is (omega (arith, c.well_formed))
 
 pub loop-e-smaller : goal.loop-e-smaller
 loop-e-smaller c = search (rules, side_laws)
 
 pub loop-e-preserved : goal.loop-e-preserved
-loop-e-preserved c =    let v = c in
-    let f = v in
-    let e = v in
-    let l = e in
-    let s = l in
-    let a = s.args in
-    side_next _ _ _ _ _ _ _ _ _ l.loop-e.invariant _ e.line_at.ensures _ _ e.in-Line.is _ f.line_at-in-loop-e.ensures _ _ f.in-Line-line_at.is
-    _ _ _ _ v.names_apart-d.ensures c.values_apart-w.ensures
+loop-e-preserved c =
+    let a = c.args in
+    side_next _ _ _ _ _ _ _ _ _ c.loop-e.invariant _ c.line_at.ensures _ _ c.in-Line.is _ c.line_at-in-loop-e.ensures _ _ c.in-Line-line_at.is
+    _ _ _ _ c.names_apart-d.ensures c.values_apart-w.ensures

@@ -1,9 +1,7 @@
-use borrow.Author.Rules.{rules}
-use native.Mathlib.Omega.{arith}
 use Prim.Native.Nat.{◌-◌}
 use lib.ListN.{length}
 use Rattle.compare_rules.specs.Log.{log}
-use Rattle.compare_items.specs.Items.{Side, side_laws, side_long, side_small_item, side_fits, side_next, item_next}
+use Rattle.compare_items.specs.Items.{Side}
 use Rattle.compare_items.proofs.items_apart.Given as goal
 
 abbrev pub invariant-loop-e : goal.invariant-loop-e

@@ -1,7 +1,5 @@
 use borrow.Author.Rules.{rules}
-use Prim.Native.Nat.{◌-◌}
-use lib.ListN.{length}
-use Rattle.compare_items.specs.Resting.{Passing, passing_laws}
+use Rattle.compare_items.specs.Resting.{passing_laws}
 use Rattle.compare_items.proofs.past_item.Goals as goal
 
 pub loop-next-init : goal.loop-next-init

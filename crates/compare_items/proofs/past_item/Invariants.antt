@@ -1,7 +1,6 @@
-use borrow.Author.Rules.{rules}
 use Prim.Native.Nat.{◌-◌}
 use lib.ListN.{length}
-use Rattle.compare_items.specs.Resting.{Passing, passing_laws}
+use Rattle.compare_items.specs.Resting.{Passing}
 use Rattle.compare_items.proofs.past_item.Given as goal
 
 abbrev pub invariant-loop-next : goal.invariant-loop-next

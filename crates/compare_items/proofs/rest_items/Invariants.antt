@@ -1,8 +1,7 @@
-use borrow.Author.Rules.{rules}
 use Prim.Native.Nat.{◌-◌}
 use lib.ListN.{length}
 use Rattle.compare_rules.specs.Log.{log}
-use Rattle.compare_items.specs.Items.{Left, left_laws}
+use Rattle.compare_items.specs.Items.{Left}
 use Rattle.compare_items.proofs.rest_items.Given as goal
 
 abbrev pub invariant-loop-next : goal.invariant-loop-next

@@ -1,8 +1,5 @@
 use borrow.Author.Rules.{rules}
-use Prim.Native.Nat.{◌-◌}
-use lib.ListN.{length}
-use Rattle.compare_rules.specs.Log.{log}
-use Rattle.compare_items.specs.Resting.{Resting, resting_laws}
+use Rattle.compare_items.specs.Resting.{resting_laws}
 use Rattle.compare_items.proofs.rest_values.Goals as goal
 
 pub loop-next-init : goal.loop-next-init

@@ -1,8 +1,7 @@
-use borrow.Author.Rules.{rules}
 use Prim.Native.Nat.{◌-◌}
 use lib.ListN.{length}
 use Rattle.compare_rules.specs.Log.{log}
-use Rattle.compare_items.specs.Resting.{Resting, resting_laws}
+use Rattle.compare_items.specs.Resting.{Resting}
 use Rattle.compare_items.proofs.rest_values.Given as goal
 
 abbrev pub invariant-loop-next : goal.invariant-loop-next

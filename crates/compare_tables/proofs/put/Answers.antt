@@ -8,8 +8,6 @@ pub returns-then-count-gt0 : goal.returns-then-count-gt0
 returns-then-count-gt0 c = search (rules, log_laws)
 
 pub returns : goal.returns
-returns c =    let w = c in
-    let t = w in
-    let b = t in
-    let a = b.args in
-    put_one a.list-1.now _ a.count _ a.p a.side a.left a.right _ _ (omega arith) c.up.ensures (to_z-of_z b.ranges.left) (to_z-of_z b.ranges.right) w.put_row.ensures
+returns c =
+    let a = c.args in
+    put_one a.list.now _ a.count _ a.p a.side a.left a.right _ _ (omega arith) c.up.ensures (to_z-of_z c.ranges.left) (to_z-of_z c.ranges.right) c.put_row.ensures

@@ -8,14 +8,7 @@ pub returns-then-list-k : goal.returns-then-list-k
 returns-then-list-k c = search (rules, log_laws)
 
 pub returns : goal.returns
-returns c =    let s₇ = c in
-    let s₆ = s₇ in
-    let s₅ = s₆ in
-    let s₄ = s₅ in
-    let s₃ = s₄ in
-    let s₂ = s₃ in
-    let s₁ = s₂ in
-    let b = s₁ in
-    let a = b.args in
-    put_room a.list-1.now a.k (record { at = a.p; side = a.side; left = a.left; right = a.right }) (omega arith)
-    s₁.store.ensures (plain _ b.requires.position) s₂.store-2.ensures (plain _ b.requires.part) s₃.store-3.ensures (plain _ b.requires.index) s₄.store-4.ensures (plain _ b.requires.field) s₅.store-5.ensures (plain _ (omega (arith, b.ranges.side.fits))) s₆.store-6.ensures (to_z-of_z b.ranges.left) s₇.store-7.ensures (to_z-of_z b.ranges.right)
+returns c =
+    let a = c.args in
+    put_room a.list.now a.k (record { at = a.p; side = a.side; left = a.left; right = a.right }) (omega arith)
+    c.store.ensures (plain _ c.requires.position) c.store-2.ensures (plain _ c.requires.part) c.store-3.ensures (plain _ c.requires.index) c.store-4.ensures (plain _ c.requires.field) c.store-5.ensures (plain _ (omega (arith, c.ranges.side.fits))) c.store-6.ensures (to_z-of_z c.ranges.left) c.store-7.ensures (to_z-of_z c.ranges.right)

@@ -1,7 +1,5 @@
 use borrow.Author.Rules.{rules}
-use Prim.Native.Nat.{◌-◌}
-use lib.ListN.{length}
-use Rattle.compare_tables.specs.SideBySide.{Rowing, row_laws}
+use Rattle.compare_tables.specs.SideBySide.{row_laws}
 use Rattle.compare_tables.proofs.row_apart.Goals as goal
 
 pub loop-k-init : goal.loop-k-init

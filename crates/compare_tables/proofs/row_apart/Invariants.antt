@@ -1,7 +1,6 @@
-use borrow.Author.Rules.{rules}
 use Prim.Native.Nat.{◌-◌}
 use lib.ListN.{length}
-use Rattle.compare_tables.specs.SideBySide.{Rowing, row_laws}
+use Rattle.compare_tables.specs.SideBySide.{Rowing}
 use Rattle.compare_tables.proofs.row_apart.Given as goal
 
 abbrev pub invariant-loop-k : goal.invariant-loop-k

@@ -1,7 +1,5 @@
-use borrow.Author.Rules.{rules}
-use native.Mathlib.Omega.{arith}
 use Prim.Native.Nat.{◌-◌}
-use Rattle.compare_tables.specs.SideBySide.{Tabling, table_laws, row_inside}
+use Rattle.compare_tables.specs.SideBySide.{Tabling}
 use Rattle.compare_tables.proofs.table_apart.Given as goal
 
 abbrev pub invariant-loop-i : goal.invariant-loop-i

@@ -1,7 +1,5 @@
-use borrow.Author.Rules.{rules}
 use Prim.Native.Nat.{◌-◌}
-use Rattle.formula_rules.specs.Capped.{below_here}
-use Rattle.formula_drawn.specs.Tallying.{Tallying, tally_laws, tally_stop, tally_end}
+use Rattle.formula_drawn.specs.Tallying.{Tallying}
 use Rattle.formula_drawn.proofs.count_drawn.Given as goal
 
 abbrev pub invariant-loop-i : goal.invariant-loop-i

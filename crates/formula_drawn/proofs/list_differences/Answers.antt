@@ -1,6 +1,6 @@
 use borrow.Author.Rules.{rules}
-use Prim.Native.Nat.{◌-◌}
-use Rattle.formula_drawn.specs.Listing.{entry, Listing, listing_laws, listing_end}
+use native.Mathlib.Omega.{arith}
+use Rattle.formula_drawn.specs.Listing.{entry, listing_laws, listing_end}
 use Rattle.formula_drawn.proofs.list_differences.Goals as goal
 
 pub loop-k-init : goal.loop-k-init
@@ -31,5 +31,6 @@ pub loop-k-preserved : goal.loop-k-preserved
 loop-k-preserved c = search (rules, listing_laws)
 
 pub returns : goal.returns
-returns c =    let st = c in
-    listing_end (entry st.args.written.now) (entry st.args.drawn.now) st.args.found.now _ _ _ c.loop-k.invariant (search rules)
+returns c =
+    let k = listing_end (entry c.args.written.now) (entry c.args.drawn.now) c.args.found.now c.loop-k.found c.loop-k.count c.loop-k.k c.loop-k.invariant (omega arith) in
+    record { value = k.0; found_after = k.1 }

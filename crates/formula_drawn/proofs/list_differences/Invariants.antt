@@ -1,6 +1,5 @@
-use borrow.Author.Rules.{rules}
 use Prim.Native.Nat.{◌-◌}
-use Rattle.formula_drawn.specs.Listing.{entry, Listing, listing_laws, listing_end}
+use Rattle.formula_drawn.specs.Listing.{entry, Listing}
 use Rattle.formula_drawn.proofs.list_differences.Given as goal
 
 abbrev pub invariant-loop-k : goal.invariant-loop-k

@@ -1,7 +1,4 @@
 use borrow.Author.Rules.{rules}
-use Prim.Native.Nat.{◌-◌}
-use mathlib.Core.Path.{◌≡◌}
-use Rattle.formula_rules.specs.Judged.{crowded}
 use Rattle.formula_sums.specs.Adds.{crowds}
 use Rattle.formula_sums.proofs.too_many.Goals as goal
 

@@ -1,8 +1,6 @@
-use borrow.Author.Rules.{rules}
 use Prim.Native.Nat.{◌-◌}
 use mathlib.Core.Path.{◌≡◌}
 use Rattle.formula_rules.specs.Judged.{crowded}
-use Rattle.formula_sums.specs.Adds.{crowds}
 use Rattle.formula_sums.proofs.too_many.Given as goal
 
 abbrev pub invariant-loop-i : goal.invariant-loop-i

@@ -1,7 +1,6 @@
 -- `piece_list::list_pieces` meets its contract.
 use borrow.Author.Rules.{rules}
-use Prim.Native.Nat.{◌-◌}
-use Rattle.piece_list.specs.Listing.{Listing, listing_end}
+use Rattle.piece_list.specs.Listing.{listing_end}
 use Rattle.piece_list.proofs.list_pieces.Goals as goal
 
 pub loop-i-init : goal.loop-i-init

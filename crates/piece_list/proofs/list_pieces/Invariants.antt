@@ -1,6 +1,5 @@
-use borrow.Author.Rules.{rules}
 use Prim.Native.Nat.{◌-◌}
-use Rattle.piece_list.specs.Listing.{Listing, listing_end}
+use Rattle.piece_list.specs.Listing.{Listing}
 use Rattle.piece_list.proofs.list_pieces.Given as goal
 
 abbrev pub invariant-loop-i : goal.invariant-loop-i

@@ -1,8 +1,5 @@
-use borrow.Author.Rules.{rules}
 use Prim.Native.Nat.{◌+◌, ◌-◌}
-use mathlib.Core.Logic.{⊎_elim}
-use mathlib.Core.Path.{◌∙◌}
-use Rattle.piece_list.proofs.Gathering.{Gathering, gathering_start, gathering_miss, gathering_hit, gathering_end}
+use Rattle.piece_list.proofs.Gathering.{Gathering}
 use Rattle.piece_list.proofs.size_of.Given as goal
 
 abbrev pub invariant-loop-j : goal.invariant-loop-j
