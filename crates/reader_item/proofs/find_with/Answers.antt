@@ -7,4 +7,4 @@ pub hunt-requires : goal.hunt-requires
 hunt-requires c = search (rules, walked_laws)
 
 pub returns-in-Refused : goal.returns-in-Refused
-returns-in-Refused c = search (rules, walked_laws)
+returns-in-Refused c = search walked_laws

@@ -4,13 +4,13 @@ use borrow.Author.Rules.{rules}
 use Rattle.reader_record.proofs.read_cleared.Goals as goal
 
 pub clear_after-requires : goal.clear_after-requires
-clear_after-requires c = search (rules, cleared_laws)
+clear_after-requires c = search cleared_laws
 
 pub returns : goal.returns
 returns c = record {
-        read_value = search (rules, cleared_laws);
-        asked_value = search (rules, cleared_laws);
-        atoms_after = search (rules, cleared_laws);
-        bonds_after = search (rules, cleared_laws);
-        rows_marked = search (rules, cleared_laws);
+        read_value = search cleared_laws;
+        asked_value = search cleared_laws;
+        atoms_after = search cleared_laws;
+        bonds_after = search cleared_laws;
+        rows_marked = search cleared_laws;
     }

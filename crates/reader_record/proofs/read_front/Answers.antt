@@ -4,20 +4,20 @@ use borrow.Author.Rules.{rules}
 use Rattle.reader_record.proofs.read_front.Goals as goal
 
 pub mean-requires : goal.mean-requires
-mean-requires c = search (rules, walked_laws)
+mean-requires c = search walked_laws
 
 pub returns-in-Whole : goal.returns-in-Whole
 returns-in-Whole c = record {
-        read_value = search (rules, walked_laws);
-        asked_value = search (rules, walked_laws);
-        rows_left = search (rules, walked_laws);
-        rows_marked = search (rules, walked_laws);
+        read_value = search walked_laws;
+        asked_value = search walked_laws;
+        rows_left = search walked_laws;
+        rows_marked = search walked_laws;
     }
 
 pub returns-in-Refused : goal.returns-in-Refused
 returns-in-Refused c = record {
-        read_value = search (rules, walked_laws);
-        asked_value = search (rules, walked_laws);
-        rows_left = search (rules, walked_laws);
-        rows_marked = search (rules, walked_laws);
+        read_value = search walked_laws;
+        asked_value = search walked_laws;
+        rows_left = search walked_laws;
+        rows_marked = search walked_laws;
     }
