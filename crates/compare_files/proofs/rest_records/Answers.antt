@@ -1,7 +1,5 @@
 use borrow.Author.Rules.{rules}
-use Prim.Native.Nat.{◌-◌}
-use Rattle.compare_rules.specs.Log.{log}
-use Rattle.compare_files.specs.Walking.{Resting, resting_laws}
+use Rattle.compare_files.specs.Walking.{resting_laws}
 use Rattle.compare_files.proofs.rest_records.Goals as goal
 
 pub loop-k-init : goal.loop-k-init

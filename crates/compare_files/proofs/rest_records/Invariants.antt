@@ -1,7 +1,6 @@
-use borrow.Author.Rules.{rules}
 use Prim.Native.Nat.{◌-◌}
 use Rattle.compare_rules.specs.Log.{log}
-use Rattle.compare_files.specs.Walking.{Resting, resting_laws}
+use Rattle.compare_files.specs.Walking.{Resting}
 use Rattle.compare_files.proofs.rest_records.Given as goal
 
 abbrev pub invariant-loop-k : goal.invariant-loop-k

@@ -3,7 +3,6 @@ use Rattle.formula_rules.specs.Judged.{empty_below}
 use Rattle.formula_drawn.specs.Drawn.{symbols_from}
 use Rattle.formula_drawn.specs.Tallying.{symbols_length}
 use Rattle.formula_record.specs.Steps.{line_refused, line_other, line_differs}
-use borrow.Author.Rules.{rules}
 use Rattle.formula_record.proofs.compare_line.Goals as goal
 
 pub returns-then-no-ne0 : goal.returns-then-no-ne0

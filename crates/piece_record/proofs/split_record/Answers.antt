@@ -2,7 +2,6 @@
 use borrow.Author.Rules.{rules}
 use mathlib.Core.Path.{refl}
 use Rattle.piece_record.specs.Promised.{read_table, promise_split, promise_refused}
-use borrow.Author.Rules.{rules}
 use Rattle.piece_record.proofs.split_record.Goals as goal
 
 pub split_read-requires : goal.split_read-requires
