@@ -1,5 +1,5 @@
 use borrow.Author.Rules.{rules}
-use Rattle.mend_file.specs.Mending.{Mending, turns, mending_laws, mending_kept, mending_tail, keep_fits, piece_next, piece_within}
+use Rattle.mend_file.specs.Mending.{mending_laws, mending_kept, mending_tail, keep_fits, piece_next, piece_within}
 use Rattle.mend_file.proofs.walk_lines.Goals as goal
 
 pub new-judge-requires : goal.new-judge-requires

@@ -1,5 +1,4 @@
-use borrow.Author.Rules.{rules}
-use Rattle.mend_file.specs.Mending.{Mending, turns, mending_laws, mending_kept, mending_tail, keep_fits, piece_next, piece_within}
+use Rattle.mend_file.specs.Mending.{Mending, turns}
 use Rattle.mend_file.proofs.walk_lines.Given as goal
 
 abbrev pub invariant-loop-m : goal.invariant-loop-m

@@ -1,7 +1,5 @@
-use borrow.Author.Rules.{rules}
 use Prim.Native.Nat.{◌-◌}
 use Rattle.reader_pairs.specs.Keys.{Searching}
-use Rattle.mend_judge.specs.Bonds.{repeat_laws}
 use Rattle.mend_judge.proofs.repeats.Given as goal
 
 abbrev pub invariant-loop-j : goal.invariant-loop-j

@@ -1,7 +1,5 @@
 use borrow.Author.Rules.{rules}
-use Prim.Native.Nat.{◌-◌}
-use lib.ListN.{length}
-use Rattle.mend_lines.specs.Deeds.{Scanning, scan_laws}
+use Rattle.mend_lines.specs.Deeds.{scan_laws}
 use Rattle.mend_lines.proofs.blank_from.Goals as goal
 
 pub loop-i-init : goal.loop-i-init

@@ -1,7 +1,6 @@
-use borrow.Author.Rules.{rules}
 use Prim.Native.Nat.{◌-◌}
 use lib.ListN.{length}
-use Rattle.mend_lines.specs.Deeds.{Scanning, scan_laws}
+use Rattle.mend_lines.specs.Deeds.{Scanning}
 use Rattle.mend_lines.proofs.blank_from.Given as goal
 
 abbrev pub invariant-loop-i : goal.invariant-loop-i

@@ -1,7 +1,5 @@
 use borrow.Author.Rules.{rules}
-use Prim.Native.Nat.{◌-◌}
-use lib.ListN.{length}
-use Rattle.mend_out.specs.Out.{Laying, lay_laws}
+use Rattle.mend_out.specs.Out.{lay_laws}
 use Rattle.mend_out.proofs.lay.Goals as goal
 
 pub loop-k-init : goal.loop-k-init

@@ -1,7 +1,6 @@
-use borrow.Author.Rules.{rules}
 use Prim.Native.Nat.{◌-◌}
 use lib.ListN.{length}
-use Rattle.mend_out.specs.Out.{Laying, lay_laws}
+use Rattle.mend_out.specs.Out.{Laying}
 use Rattle.mend_out.proofs.lay.Given as goal
 
 abbrev pub invariant-loop-k : goal.invariant-loop-k

@@ -1,7 +1,5 @@
 -- `store_lots::find_in` meets its contract.
-use Rattle.store_lots.specs.Looking.{Looking}
 use Rattle.store_lots.specs.Looking.{looking_laws}
-use Prim.Native.Nat.{◌-◌}
 use borrow.Author.Rules.{rules}
 use Rattle.store_lots.proofs.find_in.Goals as goal
 

@@ -1,7 +1,5 @@
 -- `store_lots::find_lot` meets its contract.
-use Rattle.store_lots.specs.Looking.{Looking}
 use Rattle.store_lots.specs.Looking.{block_laws}
-use Prim.Native.Nat.{◌-◌}
 use borrow.Author.Rules.{rules}
 use Rattle.store_lots.proofs.find_lot.Goals as goal
 

@@ -1,7 +1,5 @@
 use Rattle.store_lots.specs.Looking.{Looking}
-use Rattle.store_lots.specs.Looking.{block_laws}
 use Prim.Native.Nat.{◌-◌}
-use borrow.Author.Rules.{rules}
 use Rattle.store_lots.proofs.find_lot.Given as goal
 
 abbrev pub invariant-loop-i : goal.invariant-loop-i

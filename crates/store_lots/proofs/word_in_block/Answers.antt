@@ -1,9 +1,6 @@
 -- `store_lots::word_in_block` meets its contract.
 use borrow.Author.Rules.{rules}
-use Prim.Native.Nat.{◌+◌, ◌-◌, ◌≤◌}
 use native.Mathlib.Omega.{arith}
-use mathlib.Core.Path.{◌≡◌}
-use Rattle.store_lots.specs.Looking.{Missed}
 use Rattle.store_lots.specs.Looking.{missed_start}
 use Rattle.store_lots.specs.Looking.{missed_next}
 use Rattle.store_lots.specs.Looking.{missed_all}

@@ -1,12 +1,6 @@
-use borrow.Author.Rules.{rules}
 use Prim.Native.Nat.{◌+◌, ◌-◌, ◌≤◌}
-use native.Mathlib.Omega.{arith}
-use mathlib.Core.Logic.{⊎_elim}
 use mathlib.Core.Path.{◌≡◌}
 use Rattle.store_lots.specs.Looking.{Missed}
-use Rattle.store_lots.specs.Looking.{missed_start}
-use Rattle.store_lots.specs.Looking.{missed_next}
-use Rattle.store_lots.specs.Looking.{missed_all}
 use Rattle.store_lots.proofs.word_in_block.Given as goal
 
 abbrev pub invariant-loop-k : goal.invariant-loop-k

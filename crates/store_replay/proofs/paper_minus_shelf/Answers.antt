@@ -1,6 +1,5 @@
 -- `store_replay::paper_minus_shelf` meets its contract.
 use Rattle.store_replay.specs.Stepping.{difference_fits, difference_is}
-use borrow.Author.Rules.{rules}
 use Rattle.store_replay.proofs.paper_minus_shelf.Goals as goal
 
 pub overflow_sub-result : goal.overflow_sub-result

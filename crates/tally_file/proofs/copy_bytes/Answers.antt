@@ -1,6 +1,5 @@
 use borrow.Author.Rules.{rules}
-use Rattle.tally_file.specs.Copies.{Copying, copy_laws}
-use Prim.Native.Nat.{◌-◌}
+use Rattle.tally_file.specs.Copies.{copy_laws}
 use Rattle.tally_file.proofs.copy_bytes.Goals as goal
 
 pub loop-i-init : goal.loop-i-init

@@ -1,5 +1,4 @@
-use borrow.Author.Rules.{rules}
-use Rattle.tally_file.specs.Copies.{Copying, copy_laws}
+use Rattle.tally_file.specs.Copies.{Copying}
 use Prim.Native.Nat.{◌-◌}
 use Rattle.tally_file.proofs.copy_numbers.Given as goal
 

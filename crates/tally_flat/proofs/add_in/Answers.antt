@@ -1,7 +1,6 @@
 use native.Mathlib.Omega.{arith}
 use Rattle.tally_flat.specs.Flat.{memory}
 use Rattle.tally_flat.specs.Adding.{here_inside, here_now, here_told, new_near, new_told}
-use borrow.Author.Rules.{rules}
 use Rattle.tally_flat.proofs.add_in.Goals as goal
 
 pub add_here-requires : goal.add_here-requires

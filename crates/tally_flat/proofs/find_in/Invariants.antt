@@ -1,5 +1,4 @@
-use borrow.Author.Rules.{rules}
-use Rattle.tally_flat.specs.Steps.{Looking, looking_start, looking_end, looking_lengths, looking_short, looking_bytes, looking_cast, looking_sum, looking_before, looking_here, looking_new}
+use Rattle.tally_flat.specs.Steps.{Looking}
 use Prim.Native.Nat.{◌-◌}
 use Rattle.tally_flat.proofs.find_in.Given as goal
 

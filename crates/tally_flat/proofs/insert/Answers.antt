@@ -4,7 +4,6 @@ use lib.ListN.{length}
 use Rattle.tally_flat.specs.Flat.{memory}
 use Rattle.tally_flat.specs.Windows.{shifted_length}
 use Rattle.tally_flat.specs.Steps.{insert_told}
-use borrow.Author.Rules.{rules}
 use Rattle.tally_flat.proofs.insert.Goals as goal
 
 pub put_name-requires : goal.put_name-requires

@@ -1,5 +1,4 @@
-use borrow.Author.Rules.{rules}
-use Rattle.tally_flat.specs.Steps.{Moving, moving_start, moving_end, moving_next}
+use Rattle.tally_flat.specs.Steps.{Moving}
 use Rattle.tally_rules.specs.Tally.{longest}
 use Rattle.tally_flat.proofs.move_names.Given as goal
 

@@ -1,5 +1,5 @@
 use borrow.Author.Rules.{rules}
-use Rattle.tally_flat.specs.Steps.{Moving, moving_start, moving_end, moving_next}
+use Rattle.tally_flat.specs.Steps.{moving_start, moving_end, moving_next}
 use Rattle.tally_flat.proofs.move_numbers.Goals as goal
 
 pub loop-j-init : goal.loop-j-init

@@ -1,5 +1,4 @@
-use borrow.Author.Rules.{rules}
-use Rattle.tally_flat.specs.Steps.{Moving, moving_start, moving_end, moving_next}
+use Rattle.tally_flat.specs.Steps.{Moving}
 use Rattle.tally_flat.proofs.move_numbers.Given as goal
 
 abbrev pub invariant-loop-j : goal.invariant-loop-j

@@ -1,7 +1,5 @@
 use borrow.Author.Rules.{rules}
-use Rattle.tally_flat.specs.Steps.{Ordering, ordering_laws}
-use Prim.Native.Nat.{◌-◌}
-use lib.ListN.{length}
+use Rattle.tally_flat.specs.Steps.{ordering_laws}
 use Rattle.tally_flat.proofs.order_of.Goals as goal
 
 pub loop-i-init : goal.loop-i-init

@@ -1,5 +1,4 @@
-use borrow.Author.Rules.{rules}
-use Rattle.tally_flat.specs.Steps.{Ordering, ordering_laws}
+use Rattle.tally_flat.specs.Steps.{Ordering}
 use Prim.Native.Nat.{◌-◌}
 use lib.ListN.{length}
 use Rattle.tally_flat.proofs.order_of.Given as goal

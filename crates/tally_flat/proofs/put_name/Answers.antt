@@ -1,7 +1,5 @@
 use borrow.Author.Rules.{rules}
-use Rattle.tally_flat.specs.Steps.{Putting, putting_start, putting_end, putting_next}
-use Prim.Native.Nat.{◌-◌}
-use Rattle.tally_rules.specs.Tally.{longest}
+use Rattle.tally_flat.specs.Steps.{putting_start, putting_end, putting_next}
 use Rattle.tally_flat.proofs.put_name.Goals as goal
 
 pub loop-j-init : goal.loop-j-init

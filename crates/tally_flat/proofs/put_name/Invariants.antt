@@ -1,5 +1,4 @@
-use borrow.Author.Rules.{rules}
-use Rattle.tally_flat.specs.Steps.{Putting, putting_start, putting_end, putting_next}
+use Rattle.tally_flat.specs.Steps.{Putting}
 use Prim.Native.Nat.{◌-◌}
 use Rattle.tally_rules.specs.Tally.{longest}
 use Rattle.tally_flat.proofs.put_name.Given as goal

@@ -1,6 +1,5 @@
 use borrow.Author.Rules.{rules}
-use Rattle.tally_good.specs.Steps.{Adding, adding_laws}
-use Prim.Native.Nat.{◌-◌}
+use Rattle.tally_good.specs.Steps.{adding_laws}
 use Rattle.tally_good.proofs.adds_up.Goals as goal
 
 pub returns-then-total-missing : goal.returns-then-total-missing

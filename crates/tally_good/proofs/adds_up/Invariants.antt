@@ -1,5 +1,4 @@
-use borrow.Author.Rules.{rules}
-use Rattle.tally_good.specs.Steps.{Adding, adding_laws}
+use Rattle.tally_good.specs.Steps.{Adding}
 use Prim.Native.Nat.{◌-◌}
 use Rattle.tally_good.proofs.adds_up.Given as goal
 

@@ -1,5 +1,4 @@
-use borrow.Author.Rules.{rules}
-use Rattle.tally_good.specs.Steps.{Risen, rising_laws}
+use Rattle.tally_good.specs.Steps.{Risen}
 use Prim.Native.Nat.{◌-◌}
 use Rattle.tally_good.proofs.rising_names.Given as goal
 

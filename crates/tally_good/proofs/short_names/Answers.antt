@@ -1,6 +1,5 @@
 use borrow.Author.Rules.{rules}
-use Rattle.tally_good.specs.Steps.{Shorts, short_laws}
-use Prim.Native.Nat.{◌-◌}
+use Rattle.tally_good.specs.Steps.{short_laws}
 use Rattle.tally_good.proofs.short_names.Goals as goal
 
 pub loop-i-init : goal.loop-i-init

@@ -1,5 +1,4 @@
-use borrow.Author.Rules.{rules}
-use Rattle.tally_good.specs.Steps.{Shorts, short_laws}
+use Rattle.tally_good.specs.Steps.{Shorts}
 use Prim.Native.Nat.{◌-◌}
 use Rattle.tally_good.proofs.short_names.Given as goal
 

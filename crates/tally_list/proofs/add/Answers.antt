@@ -1,5 +1,5 @@
 -- `tally_list::add` meets its contract: the change that is decided leaves the list that the rules say.
-use Rattle.std.proofs.Common.{ℕ, ◌+◌, ◌-◌, ◌*◌, ◌≡◌, ◌≤◌, ◌<◌, sym, ap, ◌∙◌, subst, arith, length, get_or, take}
+use Rattle.std.proofs.Common.{ℕ, ◌≡◌, sym, ap, ◌∙◌, subst, arith, get_or, take}
 use Rattle.std.proofs.lemmas.List.{get_or_default}
 use mathlib.Core.List.{List}
 use Rattle.tally_rules.specs.declared.Tally.{Tally}

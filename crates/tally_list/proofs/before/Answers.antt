@@ -1,5 +1,4 @@
 use Rattle.tally_list.specs.Same.{before_told}
-use borrow.Author.Rules.{rules}
 use Rattle.tally_list.proofs.before.Goals as goal
 
 pub returns : goal.returns

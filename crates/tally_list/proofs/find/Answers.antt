@@ -1,5 +1,5 @@
 -- `tally_list::find` meets its contract: what stands at i is the head of what is left of the list.
-use Rattle.std.proofs.Common.{ℕ, suc, ◌+◌, ◌≡◌, ◌≤◌, ◌<◌, ◌∷◌, Bool, true, false, refl, sym, ap, ◌∙◌, subst, arith, add-one, length, get_or, take, drop, get_or-take, length-take-le}
+use Rattle.std.proofs.Common.{ℕ, suc, ◌+◌, ◌≡◌, ◌≤◌, ◌<◌, ◌∷◌, Bool, true, false, sym, ap, ◌∙◌, arith, add-one, length, get_or, take, drop, get_or-take, length-take-le}
 use Rattle.std.proofs.lemmas.List.{get_or_default}
 use lib.ListN.{drop_of_length-le}
 use lib.Seq.{drop-cons}

@@ -1,5 +1,5 @@
 -- `tally_list::insert_tally` meets its contract: each turn is one step of the shift.
-use Rattle.std.proofs.Common.{ℕ, suc, ◌+◌, ◌-◌, ◌≡◌, ◌≤◌, ◌<◌, refl, sym, ap, ◌∙◌, arith, length, get_or, set}
+use Rattle.std.proofs.Common.{ℕ, suc, ◌+◌, ◌-◌, ◌≡◌, ◌≤◌, ◌<◌, sym, ap, ◌∙◌, arith, length, get_or, set}
 use Rattle.std.proofs.lemmas.List.{get_or_default}
 use mathlib.Core.List.{List}
 use Rattle.tally_rules.specs.declared.Tally.{Tally}

@@ -1,7 +1,5 @@
-use Prim.Native.Nat.{◌-◌}
-use lib.ListN.{length}
 use borrow.Author.Rules.{rules}
-use Rattle.tally_list.specs.Changing.{Filling, filling_start, filling_next, filling_end}
+use Rattle.tally_list.specs.Changing.{filling_start, filling_next, filling_end}
 use Rattle.tally_list.proofs.new_tally.Goals as goal
 
 pub loop-i-init : goal.loop-i-init

@@ -1,6 +1,5 @@
 use Rattle.tally_flat.specs.Flat.{memory}
 use Rattle.tally_report.specs.Steps.{good_lines, good_room, good_report}
-use borrow.Author.Rules.{rules}
 use Rattle.tally_report.proofs.put_good.Goals as goal
 
 pub put_suppliers-e-requires : goal.put_suppliers-e-requires

@@ -1,5 +1,4 @@
 use Rattle.tally_report.specs.Steps.{line_told}
-use borrow.Author.Rules.{rules}
 use Rattle.tally_report.proofs.put_line.Goals as goal
 
 pub returns : goal.returns

@@ -1,6 +1,5 @@
 use Rattle.tally_flat.specs.Flat.{memory, Sized}
 use Rattle.tally_report.specs.Steps.{none_room, none_names, none_lengths, none_counts, none_good, ready_good}
-use borrow.Author.Rules.{rules}
 use Rattle.tally_report.proofs.put_report.Goals as goal
 
 pub returns-then-room-lt-REPORT : goal.returns-then-room-lt-REPORT

@@ -1,9 +1,8 @@
 -- `tally_report::put_suppliers` meets its contract.
 use borrow.Author.Rules.{rules}
-use Prim.Native.Nat.{◌-◌}
 use mathlib.Core.Path.{refl}
 use Rattle.tally_flat.specs.Flat.{memory}
-use Rattle.tally_report.specs.Steps.{Putting, putting_start, putting_end, putting_size, putting_lengths, putting_counts, putting_cast, putting_sum, putting_bytes, putting_room, putting_next}
+use Rattle.tally_report.specs.Steps.{putting_start, putting_end, putting_size, putting_lengths, putting_counts, putting_cast, putting_sum, putting_bytes, putting_room, putting_next}
 use Rattle.tally_report.proofs.put_suppliers.Goals as goal
 
 pub loop-i-init : goal.loop-i-init

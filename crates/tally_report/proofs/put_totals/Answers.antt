@@ -1,5 +1,4 @@
 use Rattle.tally_report.specs.Steps.{totals_told, totals_room}
-use borrow.Author.Rules.{rules}
 use Rattle.tally_report.proofs.put_totals.Goals as goal
 
 pub put_line-requires : goal.put_line-requires

@@ -1,6 +1,5 @@
 -- `writer_copy::put_got` meets its contract.
 use Rattle.writer_copy.specs.Copying.{got_headers, got_items, got_items_end, got_sound, got_done, got_refused}
-use borrow.Author.Rules.{rules}
 use Rattle.writer_copy.proofs.put_got.Goals as goal
 
 pub slice_bounds-put_read-end : goal.slice_bounds-put_read-end

@@ -1,7 +1,6 @@
 -- `writer_copy::suffices` meets its contract.
 use native.Mathlib.Omega.{arith}
 use Rattle.writer_copy.specs.Most.{surely_not, surely_is}
-use borrow.Author.Rules.{rules}
 use Rattle.writer_copy.proofs.suffices.Goals as goal
 
 pub returns-then-room-lt-MOST : goal.returns-then-room-lt-MOST
