@@ -6,7 +6,7 @@ use Rattle.text.specs.Text.{Bytes}
 use Rattle.reader_items.specs.declared.ItemAt.{ItemAt}
 use Rattle.reader_items.specs.Step.{step_of}
 use Rattle.reader_items.specs.Promise.{Stepped}
-use Rattle.reader_items.specs.Stepping.{step_numbered}
+use Rattle.reader_items.proofs.Stepping.{step_numbered}
 use Rattle.capellanote.specs.Answer.{number, by_first, first_refused}
 
 -- 0; 1 for an item, 0 for the end of the record; start and end of the name and of the values, what comes next, lines

@@ -12,16 +12,17 @@ use Rattle.text.specs.Text.{Bytes}
 use Rattle.text.specs.Laws.{false_true}
 use Rattle.rules.specs.Record.{Raw, GoodSDfile, limit, atom_places, bond_places}
 use Rattle.rules.specs.Meaning.{meaning}
-use Rattle.rules.specs.Unique.{one_sdfile}
+use Rattle.rules.proofs.Unique.{one_sdfile}
 use Rattle.judge_file.specs.Place.{sdfile}
 use Rattle.judge_file.specs.Verdict.{Verdict, accepted, refused, verdict}
 use Rattle.judge_file.specs.SameVerdict.{accepted_refused, same_accepted, same_reason}
-use Rattle.judge_file.specs.Promise.{accepted_sd}
+use Rattle.judge_file.proofs.Promise.{accepted_sd}
 use Rattle.reader_walk.specs.Promise.{RefusedAt, refused_at_lem, at_refused}
 use Rattle.reader_answer.specs.Promise.{Roomy}
 use Rattle.writer_answer.specs.CataloguePromise.{both}
 use Rattle.compare_rules.specs.Differences.{Difference, exchanged}
-use Rattle.compare_rules.specs.Files.{files_apart, none_same_files, exchange_files}
+use Rattle.compare_rules.specs.Files.{files_apart}
+use Rattle.compare_rules.proofs.Files.{none_same_files, exchange_files}
 use Rattle.compare_rules.specs.Listed.{flat}
 use Rattle.compare_files.specs.declared.Compared.{Compared}
 use Rattle.compare_files.specs.Compare.{within, first, files_for, Work, roomy, compared_for, answer_by, list_by, emptied, work_after}

@@ -8,7 +8,8 @@ use Rattle.rules.specs.Record.{Item, Values}
 use Rattle.rules.specs.Canon.{ItemPart}
 use Rattle.judge_line.specs.Got.{Got, got, bad}
 use Rattle.judge_line.specs.Judge.{item_of, ItemOrEnd, title, close}
-use Rattle.judge_line.specs.AgreeItem.{title_is_lem, value_told, blank_told}
+use Rattle.judge_line.specs.AgreeItem.{value_told, blank_told}
+use Rattle.judge_line.proofs.AgreeItem.{title_is_lem}
 
 -- ---- The definition
 

@@ -14,7 +14,7 @@ use Rattle.reader_item.specs.Find as F
 use Rattle.reader_item.specs.Find.{Spot, spot_of, said_by, found_by, found_of}
 use Rattle.reader_item.specs.Promise.{NoneNamed, RefusedAt}
 use Rattle.reader_item.specs.Beyond.{FirstNamed}
-use Rattle.reader_item.specs.Agree.{refused_is}
+use Rattle.reader_item.proofs.Agree.{refused_is}
 use Rattle.reader_answer.specs.declared.RecordRead.{RecordRead}
 use Rattle.reader_answer.specs.Promise.{Begins, Roomy, ReadPromise}
 use Rattle.reader_answer.specs.Told.{begins_outcome, outcome_begins, outcome_refused}
@@ -23,7 +23,8 @@ use Rattle.formula_rules.specs.Formula.{Trees}
 use Rattle.formula_rules.specs.Total.{count_trees}
 use Rattle.formula_rules.specs.Verdict.{Verdict, counts, Judged, differences}
 use Rattle.formula_rules.specs.Verdict as W
-use Rattle.formula_rules.specs.Judged.{verdict_of, judged, one_verdict}
+use Rattle.formula_rules.specs.Judged.{verdict_of}
+use Rattle.formula_rules.proofs.Judged.{judged, one_verdict}
 use Rattle.formula_drawn.specs.Drawn.{only_elements, how_many}
 use Rattle.formula_record.specs.Said.{Said, formula_name, symbols, Value, nowhere, none, first, value_in, value_of, by_verdict, by_value, by_outcome, said_of, told_of, found_in, room, answer_of, found_after}
 use Rattle.formula_record.specs.Promise.{numbers_of, OnlyElements, Compares, ComparePromise}

@@ -7,7 +7,7 @@ use Rattle.text.specs.Text.{Bytes}
 use Rattle.rules.specs.Forms.{Atom}
 use Rattle.rules.specs.Record.{Raw, Molecule}
 use Rattle.rules.specs.Meaning.{meaning, atoms_from}
-use Rattle.rules.specs.Rewritten.{record_good}
+use Rattle.rules.proofs.Rewritten.{record_good}
 use Rattle.reader_tables.specs.Row.{flat}
 use Rattle.judge_file.specs.Place.{sdfile}
 use Rattle.judge_file.specs.Verdict.{accepted}

@@ -16,7 +16,7 @@ use Rattle.reader_walk.specs.Stands.{molecule_lines}
 use Rattle.reader_item.specs.Find as F
 use Rattle.reader_item.specs.Find.{Spot, spot_of, said_by, found_by, found_of}
 use Rattle.reader_item.specs.Promise.{NoneNamed, RefusedAt}
-use Rattle.reader_item.specs.Agree.{refused_is}
+use Rattle.reader_item.proofs.Agree.{refused_is}
 use Rattle.reader_item.specs.Beyond.{FirstNamed}
 use Rattle.reader_answer.specs.declared.RecordRead.{RecordRead}
 use Rattle.reader_answer.specs.Promise.{Reply, numbers_of, Begins, Roomy, ReadPromise}
@@ -29,9 +29,10 @@ use Rattle.formula_rules.specs.Total.{count_trees}
 use Rattle.formula_rules.specs.Verdict.{Few, Verdict, counts, Judged, Difference, differing, differences, numbers}
 use Rattle.formula_rules.specs.Verdict as W
 use Rattle.formula_rules.specs.Parse.{formula_of}
-use Rattle.formula_rules.specs.Complete.{formula_complete}
+use Rattle.formula_rules.proofs.Complete.{formula_complete}
 use Rattle.formula_rules.specs.Sums.{Below}
-use Rattle.formula_rules.specs.Judged.{empty, sums_of, counts_of, sum_exact, verdict_of, number_of, judged}
+use Rattle.formula_rules.specs.Judged.{empty, sums_of, counts_of, verdict_of, number_of}
+use Rattle.formula_rules.proofs.Judged.{sum_exact, judged}
 use Rattle.formula_drawn.specs.Drawn.{symbols_from, only_elements, how_many, tallied}
 use Rattle.formula_drawn.specs.Tallying.{tally_entry, symbols_length}
 use Rattle.formula_drawn.specs.Listing.{entry}

@@ -10,7 +10,6 @@ pub mod Element
 pub mod Parse
 pub mod Ends
 pub mod Fuel
-pub mod Sound
 pub mod Complete
 -- the counts added into a table, capped
 pub mod Sums

@@ -15,7 +15,8 @@ use Rattle.formula_rules.specs.Ends.{CountView, count_view}
 use Rattle.formula_rules.specs.Fuel.{group_none}
 use Rattle.formula_rules.specs.Sums.{sat, Below, add_tree, read_units, read_unit, added_units, added_unit}
 use Rattle.formula_rules.specs.Capped.{sat_small, sat_big}
-use Rattle.formula_rules.specs.Judged.{empty, empty_below, crowded, sums_of, counts_none, verdict_of, shallow_of, counts_of, number_of}
+use Rattle.formula_rules.specs.Judged.{empty, empty_below, crowded, sums_of, verdict_of, shallow_of, counts_of, number_of}
+use Rattle.formula_rules.proofs.Judged.{counts_none}
 use Rattle.formula_text.specs.Steps.{units_open, units_symbol, units_none, group_step}
 use Rattle.formula_text.specs.Told.{told_unit, told_units}
 use Rattle.formula_text.specs.declared.Parsed.{Parsed}

@@ -6,7 +6,7 @@ use Rattle.std.proofs.Common.{arith}
 use Rattle.text.specs.Text.{Line, bytes}
 use Rattle.rules.specs.Forms.{Counts, Atom, Bond, Property}
 use Rattle.rules.specs.Record.{Headers, Molecule, Item, Raw, SDfile}
-use Rattle.judge_pairs.specs.Free.{free_pair}
+use Rattle.judge_pairs.proofs.Free.{free_pair}
 use Rattle.judge_file.specs.Place.{FileKind, molfile, sdfile, to_atoms, to_bonds, after_end}
 use Rattle.judge_file.specs.Place.{Place, first, second, third, counts, atoms, bonds, properties, over, items, values, next}
 use Rattle.judge_file.specs.Takes.{Takes}

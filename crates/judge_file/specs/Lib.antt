@@ -9,7 +9,6 @@ pub mod Owed
 pub mod Onward
 pub mod Backward
 pub mod Runs
-pub mod Agree
 pub mod Marked
 pub mod Witness
 pub mod Ahead
@@ -19,7 +18,6 @@ pub mod Promise
 pub mod One
 pub mod Front
 pub mod OneRun
-pub mod OneAgree
 pub mod Walk
 pub mod WalkText
 pub mod Samples

@@ -18,7 +18,7 @@ use Rattle.rules.specs.Forms.{FirstHeaderLine, Counts, CountsLine, Atom, AtomLin
 use Rattle.rules.specs.SamplesHold.{coded}
 use Rattle.judge_line.specs.Got.{need}
 use Rattle.judge_line.specs.Judge.{first_header_of, contains, begins}
-use Rattle.judge_line.specs.Agree.{header_agrees}
+use Rattle.judge_line.proofs.Agree.{header_agrees}
 
 -- ---- Lines that are the same in each file
 

@@ -17,7 +17,7 @@ use Rattle.field_numbers.specs.declared.NumberRead.{NumberRead}
 use Rattle.field_numbers.specs.declared.SignedRead.{SignedRead}
 use Rattle.field_coordinates.specs.Coordinate.{Coordinate}
 use Rattle.field_coordinates.specs.Read.{coordinate_in}
-use Rattle.field_coordinates.specs.Agree.{coordinate_agrees}
+use Rattle.field_coordinates.proofs.Agree.{coordinate_agrees}
 use Rattle.field_coordinates.specs.declared.CoordinateRead.{CoordinateRead}
 use Rattle.field_symbols.specs.Symbol.{Symbol}
 use Rattle.field_symbols.specs.Read.{symbol_in}

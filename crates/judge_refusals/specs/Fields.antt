@@ -9,11 +9,11 @@ use Rattle.std.proofs.Math.Path.{refl}
 use mathlib.Core.List.{List, [], ◌∷◌, ◌++◌}
 use Rattle.std.proofs.Math.Bool.{true, false}
 use Rattle.std.proofs.Math.ListN.{length-drop}
-use borrow.Author.Tests.{eqb-true, eqb-false, leb-true, leb-false}
-use Rattle.text.specs.Text.{Bytes, Line, byte, Each}
-use Rattle.text.specs.Columns.{column, columns, Space, Has, Allowed, Within}
-use Rattle.text.specs.Find.{first_from, is_bad, is_ink, bad_column, ink_column}
-use Rattle.text.specs.Agree.{bad_none, good_byte, byte_good, no_ink, space_no_ink}
+use borrow.Author.Tests.{eqb-true, eqb-false}
+use Rattle.text.specs.Text.{Bytes, Line, byte}
+use Rattle.text.specs.Columns.{column, columns, Space, Has}
+use Rattle.text.specs.Find.{first_from, is_ink, ink_column}
+use Rattle.text.specs.Agree.{no_ink, space_no_ink}
 use Rattle.text.specs.declared.Found.{Found}
 use Rattle.text.specs.Laws.{never_both}
 use Rattle.field_numbers.specs.Number.{Integer, Number, Signed, Listed, SignedListed}
@@ -29,11 +29,11 @@ use Rattle.field_symbols.specs.Read.{symbol_in}
 use Rattle.field_symbols.specs.declared.SymbolRead.{SymbolRead}
 use Rattle.judge_line.specs.Got.{Got, got, bad, then, need}
 use Rattle.judge_line.specs.GotLaws.{bad_got}
-use Rattle.judge_line.specs.Field.{number_got, number_at, signed_got, signed_at, elem, listed_at, elem_signed, signed_listed_at, coordinate_got, coordinate_at, symbol_got, symbol_at, space_at, none_found, has, within}
+use Rattle.judge_line.specs.Field.{number_got, number_at, signed_got, signed_at, elem, listed_at, elem_signed, signed_listed_at, coordinate_got, coordinate_at, symbol_got, symbol_at, space_at, none_found, has}
 use Rattle.judge_line.specs.Field as F
 use Rattle.judge_line.specs.AgreeField.{all_pass, number_got_lem, number_is, signed_got_lem, signed_is, listed_got, listed_is, signed_listed_got, signed_listed_is, coordinate_got_lem, coordinate_is, symbol_got_lem, symbol_is, has_got, has_is}
 use Rattle.judge_refusals.specs.Demand.{Demand, ◌else◌at_column◌, ◌and_then◌, All, Some}
-use Rattle.judge_refusals.specs.Refusals.{each_for, each, fitting, number, signed, signed_listed, coordinate, symbol, space, spaces_from_lem}
+use Rattle.judge_refusals.specs.Refusals.{each_for, number, signed, signed_listed, coordinate, symbol, space, spaces_from_lem}
 use Rattle.judge_refusals.specs.Tells.{Tells, value, refusal, past, need_tells, no_more}
 
 -- where something else was found, there is no such value
@@ -201,7 +201,7 @@ module _ (p : ℕ → Bool) (P : ℕ → Type 0) (good : (b : ℕ) → p b ≡ f
   one_tells x b i true f h here t = refusal (inl ((λ q. never_both (p b) h (ill b (subst P here q))), refl, refl))
   one_tells x b i false f h here t = past (P (column l i) else e at_column i ∷ []) (subst P (sym here) (good b h), tt) (t refl)
 
-  first_tells : {A : Type 0} {ds : List Demand} {x : Got A} (xs : Bytes) (i w : ℕ) → length xs ≤ w → ((k : ℕ) → column l (i + k) ≡ get_or xs k (byte " ")) →
+  pub first_tells : {A : Type 0} {ds : List Demand} {x : Got A} (xs : Bytes) (i w : ℕ) → length xs ≤ w → ((k : ℕ) → column l (i + k) ≡ get_or xs k (byte " ")) →
       (first_from p i xs ≡ Found.Nothing → Tells ds x) → Tells (each_for P e l i w ++ ds) (none_found e (first_from p i xs) x)
   unfolding first_from
   first_tells [] i w s h t = past (each_for P e l i w) (past_end i w h) (t refl)
@@ -217,22 +217,7 @@ module _ {A : Type 0} {ds : List Demand} {x : Got A} (l : Line) where
       first_tells is_ink Space no_ink space_no_ink refl 15 l (drop (i - 1) l) i (81 - i) (omega (arith, length-drop (i - 1) l))
       (λ k. let e : i + k - 1 ≡ i - 1 + k = omega arith in rw e (sym (get_or-drop (i - 1) l k (byte " ")))) (λ h. t)
 
-  allowed_tells : (w : ℕ) → length l ≤ w → (Each Allowed l → Tells ds x) → Tells (each Allowed 4 l 1 w and_then ds) (none_found 4 (bad_column l) x)
-  unfolding bad_column
-  allowed_tells w short t =
-      first_tells is_bad Allowed good_byte byte_good (omega arith) 4 l l 1 (suc w - 1) (omega arith) (λ k. let e : 1 + k - 1 ≡ k = omega arith in rw e) (λ h. t ((bad_none l).0 h))
-
-  pub within_tells : (w : ℕ) → (Within w l → Tells ds x) → Tells (fitting w l and_then ds) (within w l x)
-  unfolding within
-  within_tells w t =
-      need_tells (leb (length l) w) (leb-true (length l) w) (λ f h. omega (arith, leb-false (length l) w f)) λ h.
-      let short = leb-true (length l) w h in
-      allowed_tells w short (λ a. t (record { short = short; allowed = a }))
-
 module _ {A : Type 0} (l : Line) (a : A) where
   -- the last demands of a line
   pub spaces_last : (i : ℕ) → 1 ≤ i → length l ≤ 80 → Tells (spaces_from_lem l i) (F.spaces_from l i (got a))
   spaces_last i one short = no_more (spaces_from_lem l i) (spaces_tells l i one short (value tt))
-
-  pub within_last : (w : ℕ) → Tells (fitting w l) (within w l (got a))
-  within_last w = no_more (fitting w l) (within_tells l w (λ h. value tt))

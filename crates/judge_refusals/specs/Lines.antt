@@ -1,8 +1,8 @@
 -- The lines of a record are judged as the demands on them say.
-use Rattle.std.specs.Prelude.{ℕ, ◌*◌, ◌-◌, ◌≡◌, refl, ◌≢◌, true, false, not, eqb, leb}
+use Rattle.std.specs.Prelude.{ℕ, ◌≡◌, refl, ◌≢◌, true, false, not, eqb}
 use Rattle.std.proofs.Common.{arith, ◌∙◌}
 use Rattle.std.proofs.Math.Path.{subst}
-use borrow.Author.Tests.{eqb-true, eqb-false, leb-true, leb-false, not-true, not-false}
+use borrow.Author.Tests.{eqb-true, eqb-false, not-true, not-false}
 use Rattle.text.specs.Text.{Line}
 use Rattle.text.specs.Columns.{Within}
 use Rattle.text.specs.Laws.{never_both}
@@ -10,16 +10,16 @@ use Rattle.field_numbers.specs.Number.{Number, Listed}
 use Rattle.field_numbers.specs.Agree.{one_number}
 use Rattle.rules.specs.Forms.{stereos, centres}
 use Rattle.judge_line.specs.Got.{got}
-use Rattle.judge_line.specs.Judge.{reserved, first_header_of, counts_of, atom_of, bond_of}
+use Rattle.judge_line.specs.Judge.{reserved, first_header_of, atom_of, bond_of}
 use Rattle.judge_line.specs.AgreeField.{number_got_lem}
-use Rattle.judge_line.specs.Agree.{header_agrees}
+use Rattle.judge_line.proofs.Agree.{header_agrees}
 use Rattle.judge_line.specs.GotLaws.{need_got, need_is}
 use Rattle.judge_line.specs.AgreeLine.{stereos_low, centres_between}
 use Rattle.field_coordinates.specs.Agree.{ten_columns}
 use Rattle.judge_refusals.specs.Demand.{Some}
-use Rattle.judge_refusals.specs.Refusals.{Unreserved, no_reserved_tag, counts_demands, atom_demands, bond_demands}
+use Rattle.judge_refusals.specs.Refusals.{Unreserved, no_reserved_tag, atom_demands, bond_demands}
 use Rattle.judge_refusals.specs.Tells.{Tells, value, then_tells, need_tells}
-use Rattle.judge_refusals.specs.Fields.{number_tells, signed_tells, listed_tells, signed_listed_tells, coordinate_tells, symbol_tells, space_tells, has_tells, spaces_tells, spaces_last}
+use Rattle.judge_refusals.specs.Fields.{number_tells, signed_tells, listed_tells, signed_listed_tells, coordinate_tells, symbol_tells, space_tells, spaces_tells, spaces_last}
 
 -- ---- 1. Header lines
 
@@ -39,26 +39,6 @@ module _ (l : Line) (w : Within 80 l) where
   pub header_tells : Tells (no_reserved_tag l) (first_header_of l)
   unfolding first_header_of
   header_tells = need_tells (not (reserved l)) free not_free λ t. value tt
-
--- ---- 2. The counts line
-
-pub counts_tells : (limit : ℕ) (l : Line) → Within 80 l → Tells (counts_demands limit l) (counts_of limit l)
-unfolding counts_of
-counts_tells limit l w =
-    then_tells (number_tells l 1 3 0 limit) λ n h₁.
-    then_tells (number_tells l 4 6 0 limit) λ m h₂.
-    let n_is = number_got_lem l 1 3 0 limit n h₁ in
-    let m_is = number_got_lem l 4 6 0 limit m h₂ in
-    need_tells (leb (2 * m) (n * (n - 1))) (λ t. (n, (m, (n_is, m_is, leb-true (2 * m) (n * (n - 1)) t))))
-    (λ t d.
-    let p = d.1.1.2 in
-    let q = leb-false (2 * m) (n * (n - 1)) t in
-    absurd (omega (arith, rw (one_number d.1.1.0 n_is, one_number d.1.1.1 m_is) at p))) λ t.
-    then_tells (number_tells l 7 9 0 0) λ lists h₃.
-    then_tells (number_tells l 13 15 0 1) λ chiral h₄.
-    then_tells (number_tells l 16 18 0 0) λ stext h₅.
-    has_tells l 34 39 " V2000"
-    (spaces_last l _ 40 (omega arith) w.short)
 
 -- ---- 3. Atom lines
 

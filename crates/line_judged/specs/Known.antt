@@ -10,7 +10,8 @@ use Rattle.text.specs.declared.LineAt.{LineAt}
 use Rattle.text.specs.declared.Found.{Found}
 use Rattle.rules.specs.Forms.{DataHeader, RecordEnd}
 use Rattle.judge_line.specs.Judge.{is_close}
-use Rattle.judge_line.specs.AgreeItem.{close_is, not_close}
+use Rattle.judge_line.specs.AgreeItem.{not_close}
+use Rattle.judge_line.proofs.AgreeItem.{close_is}
 
 -- ---- Whole lines
 

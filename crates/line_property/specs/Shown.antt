@@ -17,7 +17,8 @@ use Rattle.rules.specs.Entries.{listed_append, atoms_of, kinds_same}
 use Rattle.judge_line.specs.Got.{got}
 use Rattle.judge_line.specs.Field.{elem}
 use Rattle.judge_line.specs.Judge.{property_of, property}
-use Rattle.judge_line.specs.Agree.{NewEntries, property_agrees}
+use Rattle.judge_line.specs.Agree.{NewEntries}
+use Rattle.judge_line.proofs.Agree.{property_agrees}
 use Rattle.line_property.specs.Listed.{places, slot, noted, enter, emptied, seen_of, noted_in, Shows}
 use Rattle.line_property.specs.Emptied.{emptied_size, emptied_at}
 use Rattle.line_property.specs.Proper.{ProperEntries, ProperLine, Proper, proper_more, listed_proper, line_proper}

@@ -26,9 +26,11 @@ use Rattle.mend_rules.specs.Mend.{Action, keep, put, lose, item_line, all_blank,
 use Rattle.mend_rules.specs.Named.{Fix, fix, line_put, blank_dropped, lf_added, line_end, none, fixes_from}
 use Rattle.mend_rules.specs.Listed.{numbers, numbers_length, numbers_append}
 use Rattle.mend_rules.specs.Text.{pieces, joined, unfinished, mended_pieces, mended_text, fixes}
-use Rattle.mend_rules.specs.Still.{Still, still_start, still_kept, still_lost, still_put, still_refused, over_pieces, over_fixes, over_verdict}
+use Rattle.mend_rules.specs.Still.{Still, still_start, over_pieces, over_fixes}
+use Rattle.mend_rules.proofs.Still.{still_kept, still_lost, still_put, still_refused, over_verdict}
 use Rattle.mend_rules.specs.Pieces.{PieceIs, Begins, begins_first, no_piece}
-use Rattle.mend_rules.specs.Sizes.{joined_append, text_size, list_size}
+use Rattle.mend_rules.specs.Sizes.{joined_append, text_size}
+use Rattle.mend_rules.proofs.Sizes.{list_size}
 use Rattle.mend_judge.specs.declared.Judge.{Judge}
 use Rattle.mend_judge.specs.declared.Judged.{Judged}
 use Rattle.mend_judge.specs.Standing.{fresh, after_blank, Stands, Standing, Placed, Tells, Judges}

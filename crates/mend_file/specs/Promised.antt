@@ -7,7 +7,7 @@ use Rattle.rules.specs.Record.{Raw, GoodSDfile, limit}
 use Rattle.judge_file.specs.Place.{sdfile}
 use Rattle.judge_file.specs.Verdict.{accepted, refused, verdict}
 use Rattle.judge_file.specs.SameVerdict.{accepted_refused, same_reason}
-use Rattle.judge_file.specs.Promise.{accepted_sd}
+use Rattle.judge_file.proofs.Promise.{accepted_sd}
 use Rattle.reader_walk.specs.Promise.{RefusedAt, refused_at_lem}
 use Rattle.mend_rules.specs.Text.{mended_text, fixes}
 use Rattle.mend_rules.specs.Listed.{numbers, numbers_length}

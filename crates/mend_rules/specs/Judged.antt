@@ -2,7 +2,7 @@
 use Rattle.std.specs.Prelude.{ℕ, suc, Bool, true, false, cond, ◌&&◌}
 use Rattle.std.proofs.Math.Path.{◌≡◌, refl}
 use Rattle.std.proofs.Common.{◌∙◌, arith}
-use mathlib.Core.List.{List, [], ◌∷◌, ◌++◌, map}
+use mathlib.Core.List.{List, [], ◌∷◌, ◌++◌}
 use Rattle.text.specs.Text.{Line}
 use Rattle.text.specs.Find.{is_blank}
 use Rattle.rules.specs.Record.{Raw}
@@ -10,10 +10,12 @@ use Rattle.judge_line.specs.Got.{Got, got, bad}
 use Rattle.judge_file.specs.Place.{sdfile, Place, first, second, third, counts, atoms, bonds, properties, over, items, values}
 use Rattle.judge_file.specs.Place.{Turn, next, done, turn_of}
 use Rattle.judge_file.specs.Verdict.{stopped, run}
-use Rattle.judge_file.specs.Runs.{run_next, run_done, run_stop}
-use Rattle.judge_file.specs.Takes.{Takes, takes_turn}
+use Rattle.judge_file.specs.Runs.{run_next, run_stop}
+use Rattle.judge_file.proofs.Runs.{run_done}
+use Rattle.judge_file.specs.Takes.{Takes}
+use Rattle.judge_file.proofs.Takes.{takes_turn}
 use Rattle.judge_file.specs.Witness.{blank_line}
-use Rattle.mend_rules.specs.Mend.{Action, keep, put, lose, all_blank, some, action_at, emptied, Left, went, fell, left_by, left, actions_of, applied, walk_from}
+use Rattle.mend_rules.specs.Mend.{Action, keep, put, lose, all_blank, some, action_at, emptied, went, fell, left_by, left}
 
 module _ (limit : ℕ) where
   -- ---- a line that stays
@@ -66,20 +68,3 @@ module _ (limit : ℕ) where
   run_put (items m is) xs i l ls t h = not_put (is_blank l) lose (λ z. absurd (let z : ◌≡◌ {A = ℕ} 0 1 = cc in omega arith)) h
   run_put (values m is name vs) xs i l ls t h =
       run_next sdfile limit (values m is name vs) _ xs i [] t (takes_turn sdfile limit (Takes.blank_line blank_line))
-
-  -- ---- the walk
-
-  pub judged_as : (p : Place) (xs : List Raw) (j : ℕ) (ls : List Line) →
-      run sdfile limit p xs j (applied (actions_of limit p xs ls) ls) ≡ walk_from limit p xs j ls
-  unfolding applied actions_of walk_from run
-  judged_as p xs j [] = refl
-  judged_as p xs j (l ∷ ls) = go (λ q ys k. judged_as q ys k ls) (action_at p xs l ls) refl (left limit p xs l) refl (left limit (emptied p) xs l) refl
-    where
-      go : ((q : Place) (ys : List Raw) (k : ℕ) → run sdfile limit q ys k (applied (actions_of limit q ys ls) ls) ≡ walk_from limit q ys k ls) →
-          (a : Action) → action_at p xs l ls ≡ a → (f : Left) → left limit p xs l ≡ f → (g : Left) → left limit (emptied p) xs l ≡ g →
-          run sdfile limit p xs j (applied (actions_of limit p xs (l ∷ ls)) (l ∷ ls)) ≡ walk_from limit p xs j (l ∷ ls)
-      go r keep e (went q ys) f k g = rw (e, f, actions_of, walk_from, applied) (run_went p xs j l (applied (actions_of limit q ys ls) ls) q ys f ∙ r q ys (suc j))
-      go r keep e (fell n c) f k g = rw (e, f, actions_of, walk_from, applied) (run_fell p xs j l (applied (map (λ t. keep) ls) ls) n c f)
-      go r put e k f (went q ys) g = rw (e, g, actions_of, walk_from, applied) (run_put p xs j l ls (l ∷ applied (actions_of limit q ys ls) ls) e ∙ run_went (emptied p) xs (suc j) l (applied (actions_of limit q ys ls) ls) q ys g ∙ r q ys (suc (suc j)))
-      go r put e k f (fell n c) g = rw (e, g, actions_of, walk_from, applied) (run_put p xs j l ls (l ∷ applied (map (λ t. keep) ls) ls) e ∙ run_fell (emptied p) xs (suc j) l (applied (map (λ t. keep) ls) ls) n c g)
-      go r lose e k f m g = rw (e, actions_of, walk_from, applied) (r p xs j)

@@ -1,12 +1,10 @@
 -- How long the mended text and the list can get.
-use Rattle.std.specs.Prelude.{ℕ, suc, ◌+◌, ◌*◌, ◌≤◌, ◌≡◌, refl, List, [], ◌∷◌, ◌++◌, Bool, true, false, cond, ◌&&◌, length}
+use Rattle.std.specs.Prelude.{ℕ, ◌+◌, ◌*◌, ◌≤◌, ◌≡◌, refl, List, [], ◌∷◌, ◌++◌, length}
 use Rattle.std.proofs.Common.{arith, sym, ap, ◌∙◌, append-nil, append_assoc, length-append}
-use Rattle.std.proofs.Math.Bool.{and-false}
 use Rattle.text.specs.Text.{Bytes, LF}
 use Rattle.text.specs.Cut.{split}
 use Rattle.mend_rules.specs.Mend.{Action, keep, put, lose, applied}
-use Rattle.mend_rules.specs.Named.{deeds, fixes_from}
-use Rattle.mend_rules.specs.Text.{tail_of, pieces, joined, actions, mended_pieces, mended_text, fixes, unfinished, joined_split, actions_many}
+use Rattle.mend_rules.specs.Text.{tail_of, pieces, joined, actions, mended_pieces, mended_text, joined_split}
 
 pub joined_append : (a b : List Bytes) → joined (a ++ b) ≡ joined a ++ joined b
 unfolding joined
@@ -56,27 +54,3 @@ text_size limit s =
     let a = applied_size (actions limit s) (pieces s) in
     let p = pieces_size s in
     (omega (arith, a.0, p.0, p.1), omega (arith, a.1, p.1))
-
--- at most one fix for each line, and the LF
-deeds_size : (i : ℕ) (a : Action) (b : Bool) → length (deeds i a b) ≤ 1 + cond b 1 0
-deeds_size i keep true = omega arith
-deeds_size i keep false = omega arith
-deeds_size i put true = omega arith
-deeds_size i put false = omega arith
-deeds_size i lose true = omega arith
-deeds_size i lose false = omega arith
-
-deeds_few : (i : ℕ) (a : Action) (b : Bool) → length (deeds i a b) ≤ 2
-deeds_few i a true = deeds_size i a true
-deeds_few i a false = omega (arith, deeds_size i a false)
-
-fixes_size : (u : Bool) (i : ℕ) (t : List Action) → length (fixes_from u i t) ≤ length t + 1
-unfolding fixes_from
-fixes_size u i [] = omega arith
-fixes_size u i (a ∷ []) = omega (arith, length-append (deeds i a (u && true)) [], deeds_few i a (u && true))
-fixes_size u i (a ∷ (b ∷ t)) =
-    rw (and-false u) (omega (arith, deeds_size i a false, length-append (deeds i a false) (fixes_from u (suc i) (b ∷ t)), fixes_size u (suc i) (b ∷ t)))
-
-pub list_size : (limit : ℕ) (s : Bytes) → length (fixes limit s) ≤ length s + 1
-unfolding fixes
-list_size limit s = omega (arith, fixes_size (unfinished (split s).rest) 1 (actions limit s), actions_many limit s, (pieces_size s).1)

@@ -26,10 +26,6 @@ module _ (kind : FileKind) (s : Bytes) where
   unfolding read_as
   enough la lb r h k e = rw (le-ltb la atom_places h, le-ltb lb bond_places k) e
 
-  pub atoms_short : (lb : ℕ) (t : List ℤ) → length t < atom_places → t ≡ atoms_as kind lb s t
-  unfolding atoms_as
-  atoms_short lb t h = rw (lt-ltb (length t) atom_places h)
-
   pub atoms_beside : (lb : ℕ) (t : List ℤ) → atom_places ≤ length t → lb < bond_places → t ≡ atoms_as kind lb s t
   unfolding atoms_as
   atoms_beside lb t h k = rw (le-ltb (length t) atom_places h, lt-ltb lb bond_places k)
@@ -50,18 +46,12 @@ module _ (kind : FileKind) (s : Bytes) where
   unfolding bonds_as
   bonds_enough la t u h k e = rw (le-ltb la atom_places h, le-ltb (length t) bond_places k) e
 
-pub ruleset room_laws = (short_atoms, short_bonds, enough, atoms_short, atoms_beside, atoms_enough, bonds_beside, bonds_short, bonds_enough)
-
 -- ---- Kinds
 
 module _ (kind : ℕ) (s : Bytes) where
   pub kind_mol : (la lb : ℕ) (r : RecordRead) → kind ≡ 0 → r ≡ read_as molfile la lb s → r ≡ read_of kind la lb s
   unfolding read_of
   kind_mol la lb r e h = h ∙ ap (λ (k : ℕ). read_of k la lb s) (sym e)
-
-  pub kind_sd : (la lb : ℕ) (r : RecordRead) → kind ≡ 1 → r ≡ read_as sdfile la lb s → r ≡ read_of kind la lb s
-  unfolding read_of
-  kind_sd la lb r e h = h ∙ ap (λ (k : ℕ). read_of k la lb s) (sym e)
 
   pub atoms_mol : (lb : ℕ) (t u : List ℤ) → kind ≡ 0 → u ≡ atoms_as molfile lb s t → u ≡ atoms_after kind lb s t
   unfolding atoms_after
@@ -95,5 +85,3 @@ module _ (kind : ℕ) (s : Bytes) where
   pub bonds_none : (la : ℕ) (t : List ℤ) → (kind ≡ 0 → ⊥) → (kind ≡ 1 → ⊥) → t ≡ bonds_after kind la s t
   unfolding bonds_after
   bonds_none la t z o = by_none kind t (λ (k : FileKind). bonds_as k la s t) z o
-
-pub ruleset kind_laws = (kind_mol, kind_sd, atoms_mol, atoms_sd, bonds_mol, bonds_sd, kind_none, atoms_none, bonds_none)

@@ -12,11 +12,11 @@ use Rattle.judge_file.specs.Place.{FileKind, molfile, sdfile}
 use Rattle.judge_file.specs.Verdict.{Verdict, verdict}
 use Rattle.judge_file.specs.Front.{parts_front, record_front, record_before}
 use Rattle.judge_file.specs.One.{One, one_record}
-use Rattle.judge_refusals.specs.Because.{one_because}
+use Rattle.judge_refusals.proofs.Because.{one_because}
 use Rattle.judge_refusals.specs.NoRecord.{NoRecord}
-use Rattle.judge_file.specs.OneAgree.{one_whole, one_refused, one_short}
+use Rattle.judge_file.proofs.OneAgree.{one_whole, one_refused, one_short}
 use Rattle.judge_file.specs.WalkText.{after_lines, after_cut}
-use Rattle.judge_file.specs.Promise.{accepted_mol}
+use Rattle.judge_file.proofs.Promise.{accepted_mol}
 use Rattle.reader_walk.specs.Outcome.{whole, refused, of_one, of_verdict, outcome_of}
 use Rattle.reader_walk.specs.Stands.{molecule_lines}
 use Rattle.reader_walk.specs.Asked.{apart}

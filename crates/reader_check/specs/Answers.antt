@@ -7,7 +7,7 @@ use Rattle.rules.specs.Record.{Raw, limit}
 use Rattle.line_counts_bonds.specs.declared.Counts.{Counts}
 use Rattle.judge_file.specs.Place.{molfile, sdfile}
 use Rattle.judge_file.specs.Verdict.{Verdict, accepted, refused, verdict}
-use Rattle.judge_file.specs.Promise.{accepted_mol}
+use Rattle.judge_file.proofs.Promise.{accepted_mol}
 use Rattle.reader_end.specs.declared.Walked.{Walked}
 use Rattle.reader_walk.specs.Outcome.{of_verdict, outcome_of}
 use Rattle.reader_walk.specs.Walked.{walked_by, walk_of}

@@ -8,9 +8,10 @@ use Rattle.rules.specs.Record.{Raw, Parts1to5, Record, limit}
 use Rattle.judge_file.specs.Place.{sdfile}
 use Rattle.judge_file.specs.Verdict.{Verdict, verdict}
 use Rattle.judge_file.specs.One.{One, one_record}
-use Rattle.judge_file.specs.OneAgree.{one_whole, one_refused, one_short}
+use Rattle.judge_file.proofs.OneAgree.{one_whole, one_refused, one_short}
 use Rattle.judge_file.specs.Front.{record_front}
-use Rattle.judge_file.specs.WalkText.{after_lines, file_text, verdict_text, text_room, text_end, text_whole, text_refused, text_short}
+use Rattle.judge_file.specs.WalkText.{after_lines, file_text, text_end}
+use Rattle.judge_file.proofs.WalkText.{verdict_text, text_room, text_whole, text_refused, text_short}
 use Rattle.reader_walk.specs.Outcome.{Outcome, whole, refused, of_one, outcome_of}
 use Rattle.reader_cursor.specs.declared.Cursor.{Cursor}
 use Rattle.reader_cursor.specs.Walk.{fresh, past, Countable, Walk, over, short, stopped, walk_from, file_walk, records_of, cursor_of, ended_by, verdict_by, stop_at}

@@ -15,9 +15,10 @@ use Rattle.rules.specs.Record.{Raw, limit}
 use Rattle.judge_line.specs.Got.{Got, got, bad}
 use Rattle.judge_file.specs.Place.{sdfile, Place, first, Turn, next, done, turn_of}
 use Rattle.judge_file.specs.One.{One, one_from, one_record}
-use Rattle.judge_file.specs.OneAgree.{one_whole}
+use Rattle.judge_file.proofs.OneAgree.{one_whole}
 use Rattle.judge_file.specs.WalkText.{after_lines, after_none, after_next}
-use Rattle.judge_file.specs.OneRun.{one_next, one_done, one_stop}
+use Rattle.judge_file.specs.OneRun.{one_next, one_stop}
+use Rattle.judge_file.proofs.OneRun.{one_done}
 use Rattle.reader_feed.specs.Fed.{Piece, piece_by, piece_of}
 
 -- ---- The lines of a longer text begin with those of the shorter one

@@ -8,7 +8,7 @@ use Rattle.rules.specs.Record.{Raw, Record, SDfile, GoodSDfile, limit}
 use Rattle.rules.specs.Viable.{Viable, ARecord, first_dead}
 use Rattle.rules.specs.PartLaws.{file_record}
 use Rattle.judge_file.specs.One.{One, one_record}
-use Rattle.judge_file.specs.OneAgree.{one_whole, one_refused, one_short}
+use Rattle.judge_file.proofs.OneAgree.{one_whole, one_refused, one_short}
 use Rattle.judge_file.specs.Front.{record_front}
 use Rattle.judge_file.specs.WalkText.{after_lines, after_within, after_cut}
 use Rattle.reader_feed.specs.Fed.{Piece, piece_of}

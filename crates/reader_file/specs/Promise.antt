@@ -13,7 +13,7 @@ use Rattle.reader_answer.specs.declared.RecordRead.{RecordRead}
 use Rattle.reader_answer.specs.Read.{read_of, atoms_after, bonds_after}
 use Rattle.reader_answer.specs.Promise.{Reply, Roomy, Reads}
 use Rattle.reader_answer.specs.Promise as P
-use Rattle.reader_answer.specs.Promised.{promise}
+use Rattle.reader_answer.proofs.Promised.{promise}
 use Rattle.reader_file.specs.declared.Next.{Next}
 use Rattle.reader_file.specs.Next.{Within, next_by, next_at, atoms_at, bonds_at, next_on, atoms_on, bonds_on, next_of, atoms_next, bonds_next}
 use Rattle.reader_file.specs.Stepping.{outside, read_there, atoms_there, bonds_there, end_next, end_atoms, end_bonds}

@@ -11,7 +11,7 @@ use Rattle.judge_file.specs.Place.{sdfile}
 use Rattle.judge_file.specs.Verdict.{Verdict, accepted, verdict}
 use Rattle.judge_file.specs.SameVerdict.{accepted_refused, same_reason}
 use Rattle.judge_file.specs.WalkText.{after_lines}
-use Rattle.judge_file.specs.Promise.{accepted_sd}
+use Rattle.judge_file.proofs.Promise.{accepted_sd}
 use Rattle.reader_walk.specs.Outcome.{Outcome, whole, refused, outcome_of}
 use Rattle.reader_walk.specs.Walked.{walked_by, walk_of}
 use Rattle.reader_walk.specs.Promise.{said_by}
@@ -22,6 +22,7 @@ use Rattle.reader_cursor.specs.After.{After, after_start, after_good, after_verd
 use Rattle.reader_answer.specs.declared.RecordRead.{RecordRead}
 use Rattle.reader_answer.specs.Read.{rows_in, answered, atoms_by, bonds_by, read_of, atoms_after, bonds_after}
 use Rattle.reader_answer.specs.TablesRead as R
+use Rattle.reader_answer.proofs.TablesRead as Rp
 use Rattle.reader_answer.specs.Promise.{Begins}
 use Rattle.reader_answer.specs.Told.{lines_of, reply_of, begins_told, begins_outcome, outcome_begins, begins_one, told_begins}
 use Rattle.reader_answer.specs.Promised.{read_back, begins_said, same_read}
@@ -35,7 +36,7 @@ use Rattle.reader_file.specs.Visits.{Last, Visit, Visits, Ends, Visited}
 
 module _ (la lb : ℕ) (ra : atom_places ≤ la) (rb : bond_places ≤ lb) where
   read_is : (s : Bytes) → read_of 1 la lb s ≡ answered (walk_of sdfile s)
-  read_is s = sym (R.kind_sd 1 s la lb (answered (walk_of sdfile s)) refl (R.enough sdfile s la lb (answered (walk_of sdfile s)) ra rb refl))
+  read_is s = sym (Rp.kind_sd 1 s la lb (answered (walk_of sdfile s)) refl (R.enough sdfile s la lb (answered (walk_of sdfile s)) ra rb refl))
 
   read_reply : (s : Bytes) (x : Raw) → Begins sdfile s x → read_of 1 la lb s ≡ read_back (reply_of sdfile s x)
   read_reply s x g = read_is s ∙ same_read (answered (walk_of sdfile s)) (read_back (reply_of sdfile s x)) (begins_said sdfile s x g)

@@ -16,7 +16,8 @@ use Rattle.reader_item.specs.Promise.{FirstItem, ItemIn, Joined, Stretch, FoundA
 use Rattle.reader_item.specs.Position.{end_is}
 use Rattle.reader_item.specs.First.{first_lead}
 use Rattle.reader_item.specs.Joined.{lines_then}
-use Rattle.reader_item.specs.Agree.{the_record, is_found, is_refused}
+use Rattle.reader_item.specs.Agree.{the_record}
+use Rattle.reader_item.proofs.Agree.{is_found, is_refused}
 use Rattle.reader_item.specs.Beyond.{first_named}
 use Rattle.reader_first_line.specs.First.{line_from, first_by, first_of}
 use Rattle.reader_first_line.specs.Promise.{FirstAt, FirstPromise}

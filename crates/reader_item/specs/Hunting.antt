@@ -9,11 +9,12 @@ use Rattle.text.specs.declared.LineAt.{LineAt}
 use Rattle.rules.specs.Record.{Item, Raw, Values, Items, Record, limit}
 use Rattle.judge_line.specs.Got.{got}
 use Rattle.judge_line.specs.Judge.{title, close, item_of}
-use Rattle.judge_line.specs.AgreeItem.{title_is_lem, close_line_is, value_is_lem, blank_line_is}
+use Rattle.judge_line.specs.AgreeItem.{blank_line_is}
+use Rattle.judge_line.proofs.AgreeItem.{title_is_lem, close_line_is, value_is_lem}
 use Rattle.line_judged.specs.Known.{Standing, HeaderOrEnd}
 use Rattle.judge_file.specs.Place.{sdfile}
 use Rattle.judge_file.specs.One.{One, one_record}
-use Rattle.judge_file.specs.OneAgree.{one_whole}
+use Rattle.judge_file.proofs.OneAgree.{one_whole}
 use Rattle.judge_file.specs.WalkText.{after_lines, after_cut}
 use Rattle.reader_walk.specs.Outcome.{Outcome, whole, outcome_of, of_one}
 use Rattle.reader_walk.specs.Stands.{molecule_lines}
@@ -26,11 +27,10 @@ use Rattle.reader_item.specs.declared.Found.{Found}
 use Rattle.reader_item.specs.declared.Part.{Part}
 use Rattle.reader_item.specs.declared.Title.{Title}
 use Rattle.reader_item.specs.declared.Values.{Values as Stretch}
-use Rattle.reader_item.specs.Find.{from_of, to_of, Said, item, refused, numbers_of, Spot, after, nowhere, spot_of, said_by, found_by, found_of, stretch_of}
+use Rattle.reader_item.specs.Find.{from_of, to_of, item, refused, numbers_of, Spot, after, nowhere, spot_of, said_by, found_by, found_of, stretch_of}
 use Rattle.reader_item.specs.Find.{titled_as, title_by, values_ahead, values_at, ItemsStart, ValuesFrom}
 use Rattle.reader_item.specs.NeverRefused.{item_known, items_stand, items_line}
-use Rattle.reader_item.specs.Promise.{Promised}
-use Rattle.reader_item.specs.Position.{after_join, after_low, stretch_within, Past, past_values, past_molecule}
+use Rattle.reader_item.specs.Position.{after_join, after_low, Past, past_values, past_molecule}
 
 -- ---- A line of the items, with the lines after it
 
@@ -254,37 +254,6 @@ module _ (s name : Bytes) (w : Walked) (e : w ≡ walk_of sdfile s) where
 pub ruleset walked_laws = (walked_items, walked_refused, left_length, left_length_2)
 
 -- ---- The part of the text
-
-found_within : (s name : Bytes) (o : Outcome) (a b : ℕ) → found_by s name o ≡ item a b → (a ≤ b) × (b ≤ length s)
-found_within s name (whole x k) a b h = go (spot_of name (molecule_lines x.molecule) x.items) h
-  where
-    go : (p : Spot) → said_by s p ≡ item a b → (a ≤ b) × (b ≤ length s)
-    go (after j m) q =
-        let at = after_lines s 0 j in
-        let w = stretch_within s at m (after_low s 0 j (omega arith)).1 in
-        let f : from_of at m ≡ a = cc in
-        let t : to_of s at m ≡ b = cc in
-        (omega (arith, w.0), omega (arith, w.1))
-    go nowhere q = absurd (let z : ◌≡◌ {A = ℕ} 0 1 = cc in omega arith)
-found_within s name (Outcome.refused e i c) a b h = absurd (let z : ◌≡◌ {A = ℕ} 0 1 = cc in omega arith)
-
-part_within : (s name : Bytes) (x : Said) → found_of s name ≡ x → ((stretch_of x).from ≤ (stretch_of x).to) × ((stretch_of x).to ≤ length s)
-unfolding found_of
-part_within s name (item a b) e = found_within s name (outcome_of sdfile s) a b e
-part_within s name (refused n i c) e = (omega arith, omega arith)
-
--- the stretch d of what was found, x
-module _ (s name : Bytes) (x : Said) (d : Part) (h : Promised s name x) (e : d ≡ stretch_of x) where
-  both : (d.from ≤ d.to) × (d.to ≤ length s)
-  both = subst (λ (y : Part). (y.from ≤ y.to) × (y.to ≤ length s)) (sym e) (part_within s name x (sym h.judged))
-
-  pub part_order : d.from ≤ d.to
-  part_order = both.0
-
-  pub part_inside : d.to ≤ length s
-  part_inside = both.1
-
-pub ruleset part_laws = (part_order, part_inside)
 
 module _ (x : Found) where
   pub part_item : (a b : ℕ) → x ≡ Found.Item a b → ◌≡◌ {A = Part} (record { from = a; to = b }) (stretch_of (numbers_of x))

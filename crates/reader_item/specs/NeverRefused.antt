@@ -11,7 +11,8 @@ use Rattle.rules.specs.PartLaws.{no_items, no_values}
 use Rattle.judge_line.specs.Got.{got, bad}
 use Rattle.judge_line.specs.GotLaws.{bad_got}
 use Rattle.judge_line.specs.Judge.{title, close, item_of, value, blank, value_of}
-use Rattle.judge_line.specs.AgreeItem.{title_is_lem, close_line_is, value_is_lem, blank_line_is, value_told, blank_told}
+use Rattle.judge_line.specs.AgreeItem.{blank_line_is, value_told, blank_told}
+use Rattle.judge_line.proofs.AgreeItem.{title_is_lem, close_line_is, value_is_lem}
 use Rattle.line_judged.specs.Known.{Standing, HeaderOrEnd}
 
 -- ---- A line that begins items, or values

@@ -11,18 +11,17 @@ use Rattle.text.specs.Agree.{same_bytes_lem, columns_whole}
 use Rattle.text.specs.declared.LineAt.{LineAt}
 use Rattle.rules.specs.Record.{Values}
 use Rattle.judge_line.specs.Got.{Got, got}
-use Rattle.judge_line.specs.Judge.{is_close, item_of, ValueOrBlank, value, blank, value_of}
-use Rattle.judge_line.specs.AgreeItem.{title_is_lem, close_is}
+use Rattle.judge_line.specs.Judge.{is_close, item_of, ValueOrBlank, blank, value_of}
+use Rattle.judge_line.proofs.AgreeItem.{title_is_lem, close_is}
 use Rattle.judge_line.specs.AgreeText.{none_of}
 use Rattle.line_judged.specs.Known.{Standing, HeaderOrEnd, Header, Named}
 use Rattle.judge_file.specs.WalkText.{after_lines, after_none}
 use Rattle.reader_walk.specs.Walking.{after_more}
 use Rattle.reader_item.specs.declared.Title.{Title}
 use Rattle.reader_item.specs.declared.Values.{Values as Stretch}
-use Rattle.reader_item.specs.Find.{line_end, from_of, to_of}
+use Rattle.reader_item.specs.Find.{from_of, to_of}
 use Rattle.reader_item.specs.Find.{titled_as, title_by, is_value, values_ahead, values_at, ValuesFrom}
-use Rattle.reader_item.specs.Position.{end_is}
-use Rattle.reader_item.specs.NeverRefused.{values_stand, values_line, value_known, blank_known}
+use Rattle.reader_item.specs.NeverRefused.{values_stand, values_line, blank_known}
 
 -- ---- A name held against another
 
@@ -106,31 +105,16 @@ module _ (s : Bytes) (at from to i : ℕ) (g : Passing s at from to i) where
     pub passing_less : length s - n < length s - i
     passing_less = let w = line_within s i e n l in omega (arith, w.0, w.1, w.2)
 
-    further : after_lines s at (suc g.passed) ≡ n
+    pub further : after_lines s at (suc g.passed) ≡ n
     further = after_more s at g.passed i e n g.place l
 
-    here : Values (take (e - i) (drop i s) ∷ (cut (drop n s)).lines) g.left.vs g.left.rest
+    pub here : Values (take (e - i) (drop i s) ∷ (cut (drop n s)).lines) g.left.vs g.left.rest
     here = values_line s i e n l g.left.is
 
-    ahead_is : (v : Got ValueOrBlank) → value_of (take (e - i) (drop i s)) ≡ v → values_ahead (cut (drop i s)).lines ≡ cond (is_value v) (suc (values_ahead (cut (drop n s)).lines)) 0
+    pub ahead_is : (v : Got ValueOrBlank) → value_of (take (e - i) (drop i s)) ≡ v → values_ahead (cut (drop i s)).lines ≡ cond (is_value v) (suc (values_ahead (cut (drop n s)).lines)) 0
     unfolding values_ahead
     ahead_is v h = rw (line_cut s i e n l, h)
 
     module _ (b : Bool) (q : b ≡ is_blank (take (e - i) (drop i s))) where
-      pub passing_next : b ≡ false → Passing s at at e n
-      passing_next k =
-          let v = value_known here (sym q ∙ k) in
-          let z : values_ahead (cut (drop i s)).lines ≡ suc (values_ahead (cut (drop n s)).lines) = ahead_is (got value) v.2 in
-          record {
-            left = record { vs = v.0; rest = g.left.rest; is = v.1 };
-            passed = suc g.passed;
-            place = further;
-            ahead = omega (arith, g.ahead);
-            from_is = refl;
-            to_is = sym (end_is s i e n l) ∙ ap (line_end s) (sym g.place);
-          }
-
       pub passing_blank : b ≡ true → ◌≡◌ {A = Stretch} (record { from = from; to = to; next = n }) (values_at s at)
       passing_blank k = over n (ahead_is (got blank) (blank_known here (sym q ∙ k))) further
-
-pub ruleset passing_laws = (passing_start, passing_line, passing_low, passing_high, passing_less, passing_next, passing_blank)

@@ -9,7 +9,7 @@ use Rattle.rules.specs.Forms.{Atom, Bond, Property}
 use Rattle.rules.specs.Record.{Molecule, Atoms, Bonds, Properties, Values, Parts1to5}
 use Rattle.judge_file.specs.WalkText.{after_lines, after_none, after_next, after_last}
 use Rattle.reader_walk.specs.Stands.{molecule_lines}
-use Rattle.reader_item.specs.Find.{line_end, from_of, to_of}
+use Rattle.reader_item.specs.Find.{line_end}
 
 -- ---- Positions
 
@@ -53,14 +53,6 @@ end_within s at h = go (line_at s at) refl
     go : (x : LineAt) → line_at s at ≡ x → (at ≤ line_end s at) × (line_end s at ≤ length s)
     go (LineAt.Line e n) q = let w = line_within s at e n q in let z = end_is s at e n q in (omega (arith, w.0), omega (arith, w.1, w.2))
     go LineAt.Unfinished q = let z : line_end s at ≡ at = rw (q, line_end) in (omega arith, omega arith)
-
--- a stretch of value lines lies in the text
-pub stretch_within : (s : Bytes) (at k : ℕ) → at ≤ length s → (from_of at k ≤ to_of s at k) × (to_of s at k ≤ length s)
-stretch_within s at zero h = (omega arith, omega arith)
-stretch_within s at (suc k) h =
-    let a = after_low s at k h in
-    let b = end_within s (after_lines s at k) a.1 in
-    (omega (arith, a.0, b.0), b.1)
 
 -- ---- The lines of a part
 

@@ -78,13 +78,13 @@ module _ (s : Bytes) (at from to i line : ℕ) (g : Running s at from to i line)
     pub running_fits : length s * 1 < 2 ^ 63 → Fits w64 (line + 1)
     running_fits h = let w = line_within s i e n l_is in record { fits = omega (arith, g.low, g.line_is, w.0, w.1, w.2) }
 
-    further : after_lines s at (suc g.passed) ≡ n
+    pub further : after_lines s at (suc g.passed) ≡ n
     further = after_more s at g.passed i e n g.place l_is
 
-    abbrev here : Line
+    abbrev pub here : Line
     here = take (e - i) (drop i s)
 
-    lines_are : (cut (drop i s)).lines ≡ here ∷ (cut (drop n s)).lines
+    pub lines_are : (cut (drop i s)).lines ≡ here ∷ (cut (drop n s)).lines
     lines_are = ap (λ (c : Cut). c.lines) (line_cut s i e n l_is)
 
     module _ (v : ValueRead) (f : value_got v ≡ value_is here) where
@@ -103,21 +103,12 @@ module _ (s : Bytes) (at from to i line : ℕ) (g : Running s at from to i line)
                 ∙ run_value g.passed here (cut (drop n s)).lines (sym f ∙ ap value_got h);
           }
 
-      pub running_blank : v ≡ ValueRead.Blank → ValuesAt.Over from to n line ≡ values_from s at
-      unfolding values_from
-      running_blank h =
-          let run : values_run 0 (cut (drop at s)).lines ≡ over g.passed =
-          g.same ∙ ap (values_run g.passed) lines_are ∙ run_blank g.passed here (cut (drop n s)).lines (sym f ∙ ap value_got h) in
-          rw (run, g.from_is, g.to_is, g.line_is, further)
-
       pub running_bad : (num c : ℕ) → v ≡ ValueRead.Bad num c → ValuesAt.Refused num line c ≡ values_from s at
       unfolding values_from
       running_bad num c h =
           let run : values_run 0 (cut (drop at s)).lines ≡ stopped num (g.passed + 2) c =
           g.same ∙ ap (values_run g.passed) lines_are ∙ run_bad g.passed here (cut (drop n s)).lines num c (sym f ∙ ap value_got h) in
           rw (run, g.line_is)
-
-pub ruleset running_laws = (running_start, running_cut, running_low, running_high, running_less, running_fits, running_value, running_blank, running_bad)
 
 -- ---- With the name
 

@@ -17,11 +17,12 @@ use Rattle.judge_line.specs.Got.{Got, got, bad, then}
 use Rattle.judge_line.specs.GotLaws.{got_inj, then_got}
 use Rattle.judge_line.specs.Field.{within}
 use Rattle.judge_line.specs.Judge.{ItemOrEnd, title, close, item_of, value, blank, value_of}
-use Rattle.judge_line.specs.Agree.{within_got, within_is, title_agrees, close_agrees, value_agrees, blank_agrees}
+use Rattle.judge_line.specs.Agree.{within_got, within_is}
+use Rattle.judge_line.proofs.Agree.{title_agrees, close_agrees, value_agrees, blank_agrees}
 use Rattle.judge_refusals.specs.Demand.{◌and_then◌}
 use Rattle.judge_refusals.specs.Refusals.{fitting, header_or_end, value_or_blank}
 use Rattle.judge_refusals.specs.Tells.{Tells, then_tells}
-use Rattle.judge_refusals.specs.Fields.{within_last}
+use Rattle.judge_refusals.proofs.Fields.{within_last}
 use Rattle.judge_refusals.specs.Lists.{item_tells, value_tells}
 use Rattle.line_text.specs.Answer.{item_got, item_in, value_got}
 use Rattle.line_text.specs.Within.{title_order, title_end}

@@ -1,4 +1,3 @@
 pub mod Look
 pub mod Promise
 pub mod Looking
-pub mod Good

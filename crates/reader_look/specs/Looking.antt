@@ -11,7 +11,8 @@ use Rattle.text.specs.Cut.{line_within}
 use Rattle.text.specs.declared.LineAt.{LineAt}
 use Rattle.text.specs.Laws.{true_false}
 use Rattle.reader_items.specs.Promise.{Stepped}
-use Rattle.reader_items.specs.Stepping.{ItemWithin, item_within, end_within}
+use Rattle.reader_items.specs.Stepping.{ItemWithin}
+use Rattle.reader_items.proofs.Stepping.{item_within, end_within}
 use Rattle.reader_items.specs.declared.ItemAt.{ItemAt}
 use Rattle.reader_look.specs.declared.Looked.{Looked}
 use Rattle.reader_look.specs.declared.Reached.{Reached}
@@ -37,10 +38,6 @@ module _ (l : Line) (lines : ℕ) where
 pub ruleset begins_laws = (begins_early, begins_arrow, begins_dollar)
 
 module _ (q : Sought) (from to : ℕ) where
-  pub first_kept : (a b : ℕ) → q ≡ Sought.At a b → Sought.At a b ≡ keep_first q from to
-  unfolding keep_first
-  first_kept a b h = ap (λ (x : Sought). keep_first x from to) (sym h)
-
   pub first_new : q ≡ Sought.Nowhere → Sought.At from to ≡ keep_first q from to
   unfolding keep_first
   first_new h = ap (λ (x : Sought). keep_first x from to) (sym h)
@@ -52,8 +49,6 @@ module _ (q : Sought) (from to : ℕ) where
   pub kept_other : (t : Bool) → t ≡ false → q ≡ keep q t from to
   unfolding keep
   kept_other t h = rw h
-
-pub ruleset keep_laws = (first_kept, first_new, kept_named, kept_other)
 
 module _ (q : Sought) (n k : ℕ) where
   pub looked_item : (a b : ℕ) → q ≡ Sought.At a b → Looked.Item a b n k ≡ looked_by q n k

@@ -7,7 +7,7 @@ use Rattle.text.specs.Laws.{true_false}
 use Rattle.rules.specs.Forms.{Bond}
 use Rattle.rules.specs.Record.{SamePair, along, against}
 use Rattle.judge_pairs.specs.Taken.{same_pair, pair_taken}
-use Rattle.judge_pairs.specs.Agree.{same_sound, same_complete}
+use Rattle.judge_pairs.proofs.Agree.{same_sound, same_complete}
 use Rattle.judge_pairs.specs.Compared.{FirstSame}
 use Rattle.judge_line.specs.Field.{elem}
 

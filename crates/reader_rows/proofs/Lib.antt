@@ -1,2 +1,4 @@
 pub mod Clearing
 pub mod Asked
+pub mod Marked
+pub mod Rowed

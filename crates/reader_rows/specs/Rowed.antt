@@ -1,14 +1,13 @@
 -- The lent rows while bonds are read: none where the list is searched, else rows that say the pairs of the bonds read.
-use Rattle.std.specs.Prelude.{ℕ, zero, suc, ◌+◌, ◌/◌, ◌%◌, ◌≤◌, ◌<◌, ◌≡◌, refl, List, [], ◌∷◌, Bool, true, false, cond, not, eqb, length, get_or, take, drop, set}
+use Rattle.std.specs.Prelude.{ℕ, zero, suc, ◌+◌, ◌/◌, ◌%◌, ◌≤◌, ◌<◌, ◌≡◌, refl, List, [], ◌∷◌, Bool, true, false, cond, not, eqb, length, get_or, take, set}
 use Rattle.std.proofs.Common.{arith, add-one, sym, ap, ◌∙◌, drop_of_length-le, take-suc-set, get_or-take, length-take-le, eq-eqb}
 use Rattle.text.specs.Laws.{true_false}
-use Rattle.rules.specs.Forms.{Bond}
 use Rattle.rules.specs.Record.{limit}
 use Rattle.sets_words.specs.Bits.{has_bit, in_row}
 use Rattle.judge_line.specs.Field.{elem}
-use Rattle.reader_pairs.specs.Keys.{keys_of, AllSmall, Searching}
-use Rattle.reader_rows.specs.Says.{row_places, Says, emptied}
-use Rattle.reader_rows.specs.Marked.{with_key, PairKey, marked, AllPairs, Blank, marked_none, pairs_none, marked_more, pairs_more, marked_length, marked_past, marked_asks, marked_says, emptied_blank, emptied_length}
+use Rattle.reader_pairs.specs.Keys.{Searching}
+use Rattle.reader_rows.specs.Says.{row_places, emptied}
+use Rattle.reader_rows.specs.Marked.{with_key, PairKey, marked, AllPairs, Blank, marked_none, pairs_none, marked_more, pairs_more, emptied_blank, emptied_length}
 
 -- rows of no words: the list is searched
 pub data Lent (ws : List ℕ) : Type 0 where
@@ -57,37 +56,6 @@ rowed_more ws₀ ws ws' keys n key g p h e =
       pairs = pairs_more (take n keys) key g.pairs p;
     })
 
-module _ (ws₀ ws ks : List ℕ) (g : Rowed ws₀ ws ks) where
-  pub rowed_size : length ws ≡ length ws₀
-  rowed_size = ap length g.is ∙ marked_length ws₀ ks
-
-  pub rowed_past : drop row_places ws ≡ drop row_places ws₀
-  rowed_past = ap (drop row_places) g.is ∙ marked_past ws₀ ks g.pairs
-
-  pub rowed_fits : (key : ℕ) → PairKey key → Fitting ws key
-  rowed_fits key p = record { pair = p; room = λ n. go g.lent (λ z. n (rowed_size ∙ z)) }
-    where
-      go : Lent ws₀ → (length ws₀ ≡ 0 → ⊥) → row_places ≤ length ws
-      go (Lent.none z) n = absurd (n z)
-      go (Lent.blank room empty) n = omega (arith, rowed_size)
-
-  pub rowed_tells : (key : ℕ) → PairKey key → (length ws ≡ 0 → ⊥) → has_bit ws (in_row (key / 1024) (key % 1024)) ≡ elem key ks
-  rowed_tells key p n = go g.lent
-    where
-      go : Lent ws₀ → has_bit ws (in_row (key / 1024) (key % 1024)) ≡ elem key ks
-      go (Lent.none z) = absurd (n (rowed_size ∙ z))
-      go (Lent.blank room empty) =
-          ap (λ (us : List ℕ). has_bit us (in_row (key / 1024) (key % 1024))) g.is ∙ marked_asks ws₀ ks empty room g.pairs key p
-
-pub rowed_asks : (ws₀ ws keys : List ℕ) (count key : ℕ) → Rowed ws₀ ws (take count keys) → PairKey key → count ≤ limit → length keys ≡ limit → Asking ws keys count key
-rowed_asks ws₀ ws keys count key g p few room =
-    record {
-      fits = rowed_fits ws₀ ws (take count keys) g key p;
-      few = few;
-      key_room = room;
-      tells = rowed_tells ws₀ ws (take count keys) g key p;
-    }
-
 -- ---- A pair that the rows do not say is not among the keys
 
 elem_at : (key : ℕ) (xs : List ℕ) (k : ℕ) → k < length xs → get_or xs k 0 ≡ key → elem key xs ≡ true
@@ -121,13 +89,3 @@ new_none ws keys count key t g e h = go (eqb (length ws) 0) refl (has_bit ws (in
     go true es u eu q = true_false q
     go false es true eu q = true_false q
     go false es false eu q = new_missed ws keys count key (sym (g.tells (nonzero es)) ∙ eu) (omega (arith, g.few, g.key_room))
-
--- ---- Rows and list say the same pairs
-
--- after every bond
-pub rowed_says : (ws₀ ws ks : List ℕ) → Rowed ws₀ ws ks → row_places ≤ length ws₀ → (bs : List Bond) → AllSmall bs → ks ≡ keys_of bs → Says ws bs
-rowed_says ws₀ ws ks g room bs small e = go g.lent
-  where
-    go : Lent ws₀ → Says ws bs
-    go (Lent.none z) = absurd (omega arith)
-    go (Lent.blank more empty) = rw g.is (marked_says ws₀ ks empty room g.pairs bs small e)

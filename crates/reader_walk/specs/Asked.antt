@@ -12,11 +12,12 @@ use Rattle.judge_line.specs.Got.{Got, got, bad, then, need}
 use Rattle.judge_line.specs.GotLaws.{bad_got}
 use Rattle.judge_line.specs.Field.{within, none_found}
 use Rattle.judge_line.specs.Judge.{bond_of}
-use Rattle.judge_line.specs.Agree.{within_got, within_is, bond_agrees}
+use Rattle.judge_line.specs.Agree.{within_got, within_is}
+use Rattle.judge_line.proofs.Agree.{bond_agrees}
 use Rattle.judge_pairs.specs.Compared.{Asked, its_own, not_its_own}
 use Rattle.judge_file.specs.Place.{FileKind, molfile, sdfile, turn_of}
 use Rattle.judge_file.specs.Place.{Place, first, second, third, counts, atoms, bonds, properties, over, items, values, Turn, next, done}
-use Rattle.judge_file.specs.Takes.{turn_takes}
+use Rattle.judge_file.proofs.Takes.{turn_takes}
 use Rattle.judge_file.specs.Verdict.{at, run}
 use Rattle.judge_file.specs.Runs.{at_place}
 use Rattle.judge_refusals.specs.Because.{Leads, leads_run}

@@ -21,7 +21,7 @@ use Rattle.judge_pairs.specs.Taken.{pair_taken}
 use Rattle.judge_line.specs.Got.{Got, got, bad, then, need}
 use Rattle.judge_line.specs.Field.{within, none_found}
 use Rattle.judge_line.specs.Agree.{within_got, within_is}
-use Rattle.judge_line.specs.AgreeLine.{counts_got_lem, atom_got_lem, bond_got_lem}
+use Rattle.judge_line.proofs.AgreeLine.{counts_got_lem, atom_got_lem, bond_got_lem}
 use Rattle.judge_line.specs.Judge.{first_header_of, counts_of, atom_of, bond_of, property_of, item_of, value_of}
 use Rattle.judge_line.specs.Judge as L
 use Rattle.line_counts_bonds.specs.Answer.{counts_is}

@@ -11,9 +11,11 @@ use Rattle.judge_file.specs.Verdict.{Run, at, run, Verdict, accepted, finish, co
 use Rattle.judge_file.specs.One.{One, one_from, one_record}
 use Rattle.judge_file.specs.From.{alone}
 use Rattle.judge_file.specs.Runs.{run_next, run_stop}
-use Rattle.judge_file.specs.Takes.{Takes, turn_takes}
+use Rattle.judge_file.specs.Takes.{Takes}
+use Rattle.judge_file.proofs.Takes.{turn_takes}
 use Rattle.judge_file.specs.Sound.{Sound, sound_takes}
-use Rattle.judge_file.specs.OneRun.{one_next, one_done, one_stop}
+use Rattle.judge_file.specs.OneRun.{one_next, one_stop}
+use Rattle.judge_file.proofs.OneRun.{one_done}
 
 pub data Outcome : Type 0 where
   whole : Raw → ℕ → Outcome  -- the record, and how many lines it takes

@@ -21,7 +21,8 @@ use Rattle.reader_line.specs.declared.Taken.{Taken}
 use Rattle.reader_end.specs.declared.Walked.{Walked}
 use Rattle.reader_pairs.specs.Keys.{pair_key, Searching, searching_next, searching_found, searching_end, searching_first}
 use Rattle.reader_rows.specs.Marked.{with_key, PairKey}
-use Rattle.reader_rows.specs.Rowed.{Rowed, Asking, Fitting, rowed_size, rowed_past, rowed_asks}
+use Rattle.reader_rows.specs.Rowed.{Rowed, Asking, Fitting}
+use Rattle.reader_rows.proofs.Rowed.{rowed_size, rowed_past, rowed_asks}
 use Rattle.reader_walk.specs.Outcome.{refused, outcome_of}
 use Rattle.reader_walk.specs.Asked.{rows_asked, asked_is}
 use Rattle.reader_line.specs.LineTaken.{bond_more, Took, Keeping}

@@ -8,12 +8,17 @@ use Rattle.rules.specs.Viable.{Viable, FirstDead, first_dead}
 use Rattle.judge_file.specs.Place.{FileKind, molfile, sdfile, first}
 use Rattle.judge_file.specs.Verdict.{stopped, run, Verdict, accepted, refused, mapped, verdict}
 use Rattle.judge_file.specs.SameVerdict.{accepted_refused, same_reason}
-use Rattle.judge_file.specs.Runs.{stop, run_append, run_stop}
-use Rattle.judge_file.specs.Refuse.{AFile, refuses}
-use Rattle.judge_file.specs.Marked.{refused_marked}
-use Rattle.judge_file.specs.Ending.{Judged, judged}
-use Rattle.judge_refusals.specs.Because.{Because, stop_because}
-use Rattle.judge_file.specs.Promise.{Good, accepted_sd, accepted_mol, Refusal, refused_text, refusal_bad}
+use Rattle.judge_file.specs.Runs.{run_stop}
+use Rattle.judge_file.proofs.Runs.{stop, run_append}
+use Rattle.judge_file.specs.Refuse.{AFile}
+use Rattle.judge_file.proofs.Refuse.{refuses}
+use Rattle.judge_file.proofs.Marked.{refused_marked}
+use Rattle.judge_file.specs.Ending.{Judged}
+use Rattle.judge_file.proofs.Ending.{judged}
+use Rattle.judge_refusals.specs.Because.{Because}
+use Rattle.judge_refusals.proofs.Because.{stop_because}
+use Rattle.judge_file.specs.Promise.{Good, Refusal, refusal_bad}
+use Rattle.judge_file.proofs.Promise.{accepted_sd, accepted_mol, refused_text}
 
 -- ---- The promise: what is said of a text is how many records it has, or number, line and column of a refusal
 

@@ -26,7 +26,8 @@ use Rattle.judge_file.specs.Place.{molfile, turn_of}
 use Rattle.judge_file.specs.Place as J
 use Rattle.judge_file.specs.Place.{first, second, third, counts, atoms, bonds, properties, over, items, values, next}
 use Rattle.judge_file.specs.Sound.{Sound, sound_takes}
-use Rattle.judge_file.specs.Takes.{Takes, turn_takes}
+use Rattle.judge_file.specs.Takes.{Takes}
+use Rattle.judge_file.proofs.Takes.{turn_takes}
 use Rattle.judge_file.specs.WalkText.{after_lines, after_none, after_next, after_last}
 use Rattle.reader_state.specs.declared.Reader.{Reader}
 use Rattle.reader_state.specs.LineRead as W
@@ -40,7 +41,8 @@ use Rattle.reader_end.specs.declared.Walked.{Walked}
 use Rattle.reader_pairs.specs.Keys.{key_of, keys_of, SmallEnds, AllSmall, taken_keys}
 use Rattle.reader_rows.specs.Says.{row_places, Says}
 use Rattle.reader_rows.specs.Marked.{with_key, PairKey, marked, key_pair}
-use Rattle.reader_rows.specs.Rowed.{Lent, Rowed, Fitting, rowed_start, rowed_more, rowed_size, rowed_past, rowed_fits, rowed_says}
+use Rattle.reader_rows.specs.Rowed.{Lent, Rowed, Fitting, rowed_start, rowed_more}
+use Rattle.reader_rows.proofs.Rowed.{rowed_size, rowed_past, rowed_fits, rowed_says}
 use Rattle.reader_walk.specs.Outcome.{Outcome, whole, refused, outcome_of, record_from, from_next, from_done, from_bad, outcome_from, mol_open}
 use Rattle.reader_line.specs.LineTaken.{no_notes, bond_back, counts_back, headed_at, ended_at, atom_more, bond_more, taken_by, atoms_by, Ready, Took}
 use Rattle.reader_walk.specs.Asked.{with_own, asked_at, asked_from, asked_of, rows_asked, asked_next, asked_done, asked_bad, asked_start, asked_is, none_own, whole_record}

@@ -7,8 +7,8 @@ use Rattle.text.specs.Cut.{Cut, cut, cut_is, lines_cut}
 use Rattle.rules.specs.Record.{Raw, GoodSDfile, limit}
 use Rattle.rules.specs.PartLaws.{file_record}
 use Rattle.judge_file.specs.One.{One, one_record}
-use Rattle.judge_file.specs.OneAgree.{one_refused, one_short}
-use Rattle.judge_refusals.specs.Because.{one_because}
+use Rattle.judge_file.proofs.OneAgree.{one_refused, one_short}
+use Rattle.judge_refusals.proofs.Because.{one_because}
 use Rattle.judge_refusals.specs.NoRecord.{NoRecord}
 use Rattle.reader_feed.specs.Fed.{Piece, piece_of}
 use Rattle.reader_feed.specs.Pieces.{piece_room}

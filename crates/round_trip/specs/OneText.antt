@@ -8,11 +8,12 @@ use Rattle.text.specs.Written.{text}
 use Rattle.rules.specs.Record.{Raw, GoodSDfile}
 use Rattle.rules.specs.Meaning.{Reading, meaning}
 use Rattle.rules.specs.Canon.{canon_file}
-use Rattle.rules.specs.Unique.{one_sdfile}
+use Rattle.rules.proofs.Unique.{one_sdfile}
 use Rattle.reader_answer.specs.Promise.{Roomy}
 use Rattle.writer_answer.specs.declared.Catalogue.{Catalogue}
 use Rattle.writer_answer.specs.Catalogue.{catalogue_text}
-use Rattle.writer_answer.specs.CataloguePromise.{Promise, numbers_of, written, text_stands, text_only, text_again}
+use Rattle.writer_answer.specs.CataloguePromise.{Promise, numbers_of, written, text_stands}
+use Rattle.writer_answer.proofs.CataloguePromise.{text_only, text_again}
 
 -- what a file's records mean, one after the other
 abbrev pub reading_of : List Raw → List Reading

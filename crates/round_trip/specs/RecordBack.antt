@@ -9,9 +9,11 @@ use Rattle.reader_tables.specs.Row.{flat}
 use Rattle.judge_file.specs.Place.{sdfile}
 use Rattle.reader_answer.specs.Read.{rows_in, read_of, atoms_after, bonds_after}
 use Rattle.reader_answer.specs.Promise.{Reply, numbers_of, Begins, Told, Roomy, Reads}
-use Rattle.reader_answer.specs.Promised.{read_back, promise, same_read}
+use Rattle.reader_answer.specs.Promised.{read_back, same_read}
+use Rattle.reader_answer.proofs.Promised.{promise}
 use Rattle.reader_answer.specs.Told.{reply_of, told_reply, begins_told}
-use Rattle.reader_answer.specs.Follows.{Alike, after_record}
+use Rattle.reader_answer.specs.Follows.{Alike}
+use Rattle.reader_answer.proofs.Follows.{after_record}
 use Rattle.writer_record.specs.Write.{Given, canon_text}
 use Rattle.writer_record.specs.Promise.{Accepted, text_stands}
 use Rattle.reader_cursor.specs.declared.Cursor.{Cursor}

@@ -1,35 +1,21 @@
 -- Laws of the two parts that a writer is handed beside the tables: each has one reading, is good to write, and stands so in a record.
 use Rattle.std.specs.Prelude.{◌≡◌, refl, List, [], ◌∷◌, ◌++◌}
-use Rattle.std.proofs.Common.{sym, ap, ap₂, ◌∙◌, subst, append_assoc}
+use Rattle.std.proofs.Common.{sym, ap, ◌∙◌, append_assoc}
 use Rattle.text.specs.Text.{Line}
 use Rattle.rules.specs.Forms.{RecordEnd}
 use Rattle.rules.specs.Record.{Headers, Item, Values, Items}
-use Rattle.rules.specs.Canon.{HeaderPart, ItemPart, GoodHeaders, GoodItems}
-use Rattle.rules.specs.OneForm.{one_header}
-use Rattle.rules.specs.Unique.{values_one}
+use Rattle.rules.specs.Canon.{HeaderPart, ItemPart, GoodHeaders}
 use Rattle.rules.specs.After.{values_after}
-use Rattle.rules.specs.Rewritten.{good_name, good_values}
 
 -- ---- Each part has one reading
 
 pub header_part_one : {t : List Line} {h k : Headers} → HeaderPart t h → HeaderPart t k → h ≡ k
 header_part_one (HeaderPart.three a b c) (HeaderPart.three d e f) = refl
 
-pub item_part_one : {t : List Line} {is js : List Item} → ItemPart t is → ItemPart t js → is ≡ js
-item_part_one ItemPart.none ItemPart.none = refl
-item_part_one (ItemPart.more h v p) (ItemPart.more {is = js} k w q) =
-    let e = values_one v w in
-    ap₂ ◌∷◌ (λ i. record { name = one_header h k i; values = e.0 i }) (item_part_one p (subst (λ (z : List Line). ItemPart z js) (sym e.1) q))
-
 -- ---- and is good to write
 
 pub header_part_good : {t : List Line} {h : Headers} → HeaderPart t h → GoodHeaders h
 header_part_good (HeaderPart.three a b c) = record { first = a; second = b; third = c }
-
-pub item_part_good : {t : List Line} {is : List Item} → ItemPart t is → GoodItems is
-unfolding GoodItems
-item_part_good ItemPart.none = tt
-item_part_good (ItemPart.more h v p) = (record { name = good_name h; values = good_values v }, item_part_good p)
 
 -- ---- The items of a record are such a part, and then the line that ends the record
 

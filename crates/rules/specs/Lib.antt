@@ -16,7 +16,6 @@ pub mod Texts
 pub mod Fields
 pub mod Written
 pub mod Entries
-pub mod CanonBack
 pub mod CanonGood
 pub mod Rewritten
 pub mod Handed

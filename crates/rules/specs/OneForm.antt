@@ -7,7 +7,7 @@ use Rattle.field_numbers.specs.Agree.{one_number, one_listed, one_signed, one_si
 use Rattle.field_coordinates.specs.Agree.{one_coordinate}
 use Rattle.field_symbols.specs.Agree.{one_symbol}
 use Rattle.rules.specs.Forms.{Counts, CountsLine, Atom, AtomLine, Bond, BondLine, Kind, CHG, RAD, ISO, tag, Entry, EntryNumber, EntriesFrom}
-use Rattle.rules.specs.Forms.{Property, PropertyLine, EndLine, DataHeader, BlankLine, ValueLine, RecordEnd}
+use Rattle.rules.specs.Forms.{Property, PropertyLine, EndLine, DataHeader, RecordEnd}
 
 pub one_counts : {limit : ℕ} {l : Line} {c d : Counts} → CountsLine limit l c → CountsLine limit l d → c ≡ d
 one_counts p q = λ i. record { atoms = one_number p.atoms q.atoms i; bonds = one_number p.bonds q.bonds i; chiral = one_number p.chiral q.chiral i }
@@ -81,10 +81,6 @@ one_property {n} {l} {x} {y} p q =
     let k = one_kind l x.kind y.kind p.tagged q.tagged in
     let r = one_entries n x.kind l 10 x.entries y.entries (one_number p.count q.count) p.entries (subst (λ (j : Kind). EntriesFrom n j l 10 y.entries) (sym k) q.entries) in
     λ i. record { kind = k i; entries = r i }
-
--- ---- items
-pub value_or_blank_lem : {X : Type 0} {l : Line} → ValueLine l → BlankLine l → X
-value_or_blank_lem v b = absurd (v.not_blank b.blank)
 
 -- the first byte
 pub header_or_end_lem : {X : Type 0} {l : Line} {name : Bytes} → DataHeader l name → RecordEnd l → X

@@ -14,12 +14,11 @@ use Rattle.field_symbols.specs.Symbol.{names, Symbol}
 use Rattle.field_symbols.specs.Write.{symbol_back, symbol_length, symbol_allowed}
 use Rattle.rules.specs.Forms.{Counts, CountsLine, Atom, AtomLine, Bond, BondLine, stereos, centres}
 use Rattle.rules.specs.Forms.{Kind, CHG, RAD, ISO, tag, Entry, EntryNumber, EntriesFrom, Property, PropertyLine, EndLine, DataHeader, BlankLine, RecordEnd}
-use Rattle.rules.specs.Record.{Molecule, Item, Raw, NoPairTwice, listed, NoAtomTwice, Atoms, Bonds, Properties, Values, Items, Parts1to5, Record, SDfile}
+use Rattle.rules.specs.Record.{Molecule, Raw, NoPairTwice, listed, NoAtomTwice, Atoms, Bonds, Properties, Parts1to5}
 use Rattle.rules.specs.Write.{joined, counts_fields, counts_text, atom_fields, atom_text, bond_fields, bond_text, entry_fields, property_fields, property_text, end_text, header_text, close_text}
-use Rattle.rules.specs.Write.{molecule_lines, items_lines, record_lines, file_lines}
+use Rattle.rules.specs.Write.{molecule_lines}
 use Rattle.rules.specs.Fields.{Every, one_every, Fields, upto, total, joined_within, joined_past, field_at, field_after, number_in_lem, listed_in, signed_in_lem, signed_listed_in}
-use Rattle.rules.specs.Canon.{FromTo, GoodHeaders, GoodName, GoodValues, GoodItems}
-use Rattle.rules.specs.After.{parts_after, record_after}
+use Rattle.rules.specs.Canon.{FromTo, GoodHeaders, GoodName, GoodItems}
 
 three : (k : ℕ) → (length (number_text 3 k) ≡ 3) × Each Allowed (number_text 3 k)
 three k = (number_length 3 k, number_allowed 3 k)
@@ -421,31 +420,10 @@ molecule_written limit m small g =
     (subst (λ (k : ℕ). Bonds n k after_atoms m.bonds after_bonds) g.m_bonds (bonds_written n m.bonds after_bonds n_small g.bonds))
     g.no_pair_twice (properties_written n m.properties n_small g.properties) g.no_atom_twice
 
-values_written : (vs rest : List Line) → GoodValues vs → Values (vs ++ ([] ∷ rest)) vs rest
-unfolding GoodValues
-values_written [] rest g = Values.end blank_written
-values_written (v ∷ vs) rest g = Values.more g.0 (values_written vs rest g.1)
-
-pub items_written : (is : List Item) → GoodItems is → Items (items_lines is) is []
-unfolding GoodItems items_lines
-items_written [] g = Items.end close_written
-items_written (i ∷ is) g =
-    Items.more (header_written i.name g.0.name) (values_written i.values (items_lines is) g.0.values) (items_written is g.1)
-
 pub record GoodRecord (limit : ℕ) (x : Raw) : Type 0 where
   pub molecule : GoodMolecule limit x.molecule
   pub items : GoodItems x.items
 
-pub record_written : (limit : ℕ) (x : Raw) → limit ≤ 999 → GoodRecord limit x → Record limit (record_lines x) x []
-unfolding record_lines
-record_written limit x small g =
-    Record.record_of (parts_after (molecule_written limit x.molecule small g.molecule) (items_lines x.items)) (items_written x.items g.items)
-
 unfoldable pub GoodRecords : ℕ → List Raw → Type 0
 GoodRecords limit [] = Unit {0}
 GoodRecords limit (x ∷ xs) = GoodRecord limit x × GoodRecords limit xs
-
-pub file_written : (limit : ℕ) (xs : List Raw) → limit ≤ 999 → GoodRecords limit xs → SDfile limit (file_lines xs) xs
-unfolding file_lines GoodRecords
-file_written limit [] small g = SDfile.none
-file_written limit (x ∷ xs) small g = SDfile.more (record_after (record_written limit x small g.0) (file_lines xs)) (file_written limit xs small g.1)

@@ -10,7 +10,7 @@ use Rattle.std.proofs.lemmas.Bool.{false≢true}
 use borrow.Author.Tests.{lt-ltb, le-ltb}
 use Rattle.store_log.specs.Log.{Bytes, Kind, Event}
 use Rattle.store_log.specs.Store.{Store, same_bytes, known, place_of, most_lots, Told}
-use Rattle.store_log.specs.Lots.{same_bytes_lem}
+use Rattle.store_log.proofs.Lots.{same_bytes_lem}
 use Rattle.store_log.specs.Entries.{OneEach}
 use Rattle.store_event.specs.declared.Key.{Key}
 use Rattle.store_event.specs.Scan.{key_at}

@@ -8,7 +8,7 @@ use Rattle.std.proofs.lemmas.Bool.{false≢true, eqb-false}
 use Rattle.std.proofs.Math.ListN.{length, length-set, length-append}
 use Rattle.store_log.specs.Log.{Bytes}
 use Rattle.store_log.specs.Store.{Store, same_bytes, known, place_of}
-use Rattle.store_log.specs.Lots.{same_bytes_lem}
+use Rattle.store_log.proofs.Lots.{same_bytes_lem}
 use Rattle.store_log.specs.Entries.{OneEach}
 use Rattle.store_lots.specs.Memory.{Words}
 use Rattle.stock_rules.specs.Key.{Fault, Which, Keyed}

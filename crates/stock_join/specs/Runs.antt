@@ -9,13 +9,15 @@ use Rattle.rules.specs.Record.{Raw, GoodSDfile}
 use Rattle.store_log.specs.Log.{Bytes, Event}
 use Rattle.store_log.specs.Store.{Store, Told}
 use Rattle.store_log.specs.Read.{read_all, replay_log}
-use Rattle.store_log.specs.Entries.{OneEach, one_each}
-use Rattle.store_log.specs.Limits.{sound}
+use Rattle.store_log.specs.Entries.{OneEach}
+use Rattle.store_log.proofs.Entries.{one_each}
+use Rattle.store_log.proofs.Limits.{sound}
 use Rattle.store_lots.specs.Memory.{Words}
 use Rattle.store_replay.specs.Runs.{Replays}
 use Rattle.stock_rules.specs.Key.{Keyed, Terms, record_key}
 use Rattle.stock_rules.specs.Join.{Entry, entries_in, entries_from, entries_of, picked, LotLine, Join, lot_lines, join_of}
-use Rattle.stock_rules.specs.EachOnce.{any_record, under, records_in, records_under}
+use Rattle.stock_rules.specs.EachOnce.{any_record, under, records_in}
+use Rattle.stock_rules.proofs.EachOnce.{records_under}
 use Rattle.stock_key.specs.declared.KeyRead.{KeyRead}
 use Rattle.stock_key.specs.Promise.{read_of}
 use Rattle.stock_join.specs.declared.Join as J

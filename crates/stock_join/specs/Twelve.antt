@@ -12,7 +12,8 @@ use Rattle.text.specs.Find.{same_bytes}
 use Rattle.rules.specs.Record.{Item, Raw, Values, Items, Record, SDfile, limit}
 use Rattle.store_event.specs.Twelve.{AllBytes}
 use Rattle.stock_rules.specs.Key.{Part, filled, line_of, part_of, key_by, Terms, record_key}
-use Rattle.stock_rules.specs.OneKey.{key_whole, key_length}
+use Rattle.stock_rules.specs.OneKey.{key_whole}
+use Rattle.stock_rules.proofs.OneKey.{key_length}
 use Rattle.stock_join.specs.Promise.{TwelveIn}
 
 abbrev Small : Bytes → Type 0

@@ -12,12 +12,12 @@ use borrow.Author.Tests.{ne_eqb, lt-ltb, le-ltb, ltb-true, ltb-false}
 use Rattle.text.specs.Text.{Bytes, Line, Lines}
 use Rattle.text.specs.Cut.{lines_same}
 use Rattle.rules.specs.Record.{Raw, Record, limit}
-use Rattle.rules.specs.Unique.{record_one}
+use Rattle.rules.proofs.Unique.{record_one}
 use Rattle.judge_refusals.specs.NoRecord.{NoRecord}
 use Rattle.reader_item.specs.declared.Found.{Found}
 use Rattle.reader_item.specs.Find.{Said, item, refused, found_of}
 use Rattle.reader_item.specs.Promise.{RefusedAt}
-use Rattle.reader_item.specs.Agree.{promised}
+use Rattle.reader_item.proofs.Agree.{promised}
 use Rattle.reader_first_line.specs.declared.FirstLine.{FirstLine}
 use Rattle.reader_first_line.specs.First.{line_from, first_of}
 use Rattle.reader_first_line.specs.Promise.{FirstAt}
@@ -26,7 +26,7 @@ use Rattle.store_event.specs.declared.Key.{Key}
 use Rattle.store_event.specs.Scan.{word_at, key_at}
 use Rattle.stock_rules.specs.Key.{Part, ends_in, filled, key_of, part_of, Which, Keyed, Terms, record_key}
 use Rattle.stock_rules.specs.Key as K
-use Rattle.stock_rules.specs.OneKey.{filled_length}
+use Rattle.stock_rules.proofs.OneKey.{filled_length}
 use Rattle.stock_key.specs.declared.Fault.{Fault}
 use Rattle.stock_key.specs.declared.TextAt.{TextAt}
 use Rattle.stock_key.specs.declared.KeyRead.{KeyRead}

@@ -11,7 +11,8 @@ use borrow.Author.Tests.{ltb-true, ltb-false}
 use Rattle.text.specs.Text.{Bytes}
 use Rattle.store_event.specs.Scan.{word_at, key_at}
 use Rattle.stock_rules.specs.Key.{filled}
-use Rattle.stock_rules.specs.OneKey.{filled_text, filled_pad}
+use Rattle.stock_rules.specs.OneKey.{filled_pad}
+use Rattle.stock_rules.proofs.OneKey.{filled_text}
 use Rattle.stock_key.specs.Read.{byte_of, word_of}
 
 -- ---- A text that stands in a record

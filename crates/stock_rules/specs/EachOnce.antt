@@ -1,13 +1,14 @@
 -- Each record of the catalogue is counted under exactly one lot, or listed exactly once in one of the two lists; and the papers of the lots make the log's books.
 use Rattle.std.specs.Prelude.{ℕ, ◌+◌, ◌≡◌, refl, List, [], ◌∷◌, map, Bool, true, false, cond, not, length}
-use Rattle.std.proofs.Common.{arith, sym, ap, ap₂, ◌∙◌}
+use Rattle.std.proofs.Common.{arith, ap, ◌∙◌}
 use Rattle.store_log.specs.Log.{Bytes, Event, Close, Logged}
 use Rattle.store_log.specs.Store.{Store, same_bytes, known, Told}
 use Rattle.store_log.specs.Replay.{received_by, issued_by, sum_of, papers_in}
 use Rattle.store_log.specs.Read.{read_all, replay_log}
-use Rattle.store_log.specs.Books.{log_books}
-use Rattle.store_log.specs.Lots.{same_bytes_lem}
-use Rattle.store_log.specs.Entries.{OneEach, one_each}
+use Rattle.store_log.proofs.Books.{log_books}
+use Rattle.store_log.proofs.Lots.{same_bytes_lem}
+use Rattle.store_log.specs.Entries.{OneEach}
+use Rattle.store_log.proofs.Entries.{one_each}
 use Rattle.stock_rules.specs.Key.{Keyed}
 use Rattle.stock_rules.specs.Join.{Entry, has_key, is_never, is_keyless, picked, records_of, never_in, keyless_in, LotLine, lot_lines, join_of}
 
@@ -131,23 +132,6 @@ pub all_picked : (es : List Entry) → picked any_record es ≡ es
 unfolding picked
 all_picked [] = refl
 all_picked (e ∷ es) = ap (λ (ds : List Entry). e ∷ ds) (all_picked es)
-
-pub records_under : (vs : List Event) (ts : List Told) (ls : Store) (es : List Entry) → records_in (lot_lines vs ts ls es) ≡ under any_record ls es
-unfolding lot_lines records_in under
-records_under vs ts [] es = refl
-records_under vs ts (l ∷ ls) es = ap₂ ◌+◌ (sym (ap length (all_picked (records_of l.key es)))) (records_under vs ts ls es)
-
--- the three numbers make the number of records
-pub three_numbers : (log : Bytes) (es : List Entry) → records_in (join_of log es).lots + length (join_of log es).never + length (join_of log es).keyless ≡ length es
-unfolding join_of
-three_numbers log es =
-    let ls = (replay_log log).store in
-    let e = each_once any_record ls (log_each log) es in
-    let a = records_under (read_all log).events (replay_log log).told ls es in
-    let b = ap length (all_picked (never_in ls es)) in
-    let c = ap length (all_picked (keyless_in es)) in
-    let d = ap length (all_picked es) in
-    omega (arith, a, b, c, d, e)
 
 -- the lots of the join are those of the store, so their papers are the log's accepted receipts minus its accepted issues
 pub join_lots : (vs : List Event) (ts : List Told) (ls : Store) (es : List Entry) → map (λ (l : LotLine). l.lot) (lot_lines vs ts ls es) ≡ ls

@@ -9,7 +9,7 @@ use Rattle.std.proofs.Math.ListN.{get_or}
 use borrow.Author.Tests.{eq-eqb, eqb-true, ltb-true, ltb-false}
 use Rattle.store_log.specs.Log.{Bytes}
 use Rattle.store_log.specs.Store.{same_bytes}
-use Rattle.store_log.specs.Lots.{same_bytes_lem, bytes_same}
+use Rattle.store_log.proofs.Lots.{same_bytes_lem, bytes_same}
 use Rattle.store_event.specs.declared.Key.{Key}
 use Rattle.store_lots.specs.Memory.{Words, same_key_at}
 use Rattle.store_event.specs.Scan.{word_at, key_at}

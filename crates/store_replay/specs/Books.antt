@@ -5,7 +5,7 @@ use Rattle.store_log.specs.Log.{Bytes, Event, Close, Logged}
 use Rattle.store_log.specs.Store.{Store}
 use Rattle.store_log.specs.Replay.{received_by, issued_by, sum_of, papers_in}
 use Rattle.store_log.specs.Read.{replay_log}
-use Rattle.store_log.specs.Books.{log_books}
+use Rattle.store_log.proofs.Books.{log_books}
 use Rattle.store_lots.specs.Memory.{Words}
 use Rattle.store_lots.specs.Holds.{HoldsFrom}
 use Rattle.store_replay.specs.Runs.{Replays}

@@ -29,7 +29,8 @@ use Rattle.tally_rules.specs.declared.Totals.{Totals}
 use Rattle.tally_rules.specs.Tally.{most_suppliers, Supplier, supplier_of}
 use Rattle.tally_rules.specs.Book.{Book, Good, record_on, tally_from, tallied}
 use Rattle.tally_rules.specs.Book as B
-use Rattle.tally_rules.specs.Kept.{OneMore, record_more, tally_next, tally_stop}
+use Rattle.tally_rules.specs.Kept.{OneMore, tally_next, tally_stop}
+use Rattle.tally_rules.proofs.Kept.{record_more}
 use Rattle.tally_flat.specs.Flat.{Memory, Sized, tallies_from, tallies_in, laid}
 use Rattle.tally_flat.specs.Memory.{tallies_length, tallies_take}
 use Rattle.tally_good.specs.Judge.{book_of, good_book}

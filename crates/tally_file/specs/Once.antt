@@ -12,7 +12,7 @@ use Rattle.text.specs.Text.{Bytes}
 use Rattle.rules.specs.Record.{Raw, GoodSDfile, limit}
 use Rattle.judge_file.specs.Place.{sdfile}
 use Rattle.judge_file.specs.Verdict.{Verdict, verdict}
-use Rattle.judge_file.specs.Promise.{accepted_sd}
+use Rattle.judge_file.proofs.Promise.{accepted_sd}
 use Rattle.reader_walk.specs.Promise.{Checked, said_by, verdict_checked, checked_one}
 use Rattle.tally_rules.specs.declared.Tally.{Tally}
 use Rattle.tally_rules.specs.declared.Totals.{Totals}

@@ -16,7 +16,7 @@ use Rattle.reader_answer.specs.declared.RecordRead.{RecordRead}
 use Rattle.reader_answer.specs.Read.{answered, read_as, read_of, atoms_after, bonds_after, RowsLeft}
 use Rattle.reader_answer.specs.Promise.{Roomy, kind_number}
 use Rattle.reader_answer.specs.Rows.{RowsPromise}
-use Rattle.reader_answer.specs.Promised.{after_left}
+use Rattle.reader_answer.proofs.Promised.{after_left}
 use Rattle.writer_tables.specs.Tables.{writable_tables}
 use Rattle.writer_record.specs.declared.Written.{Written}
 use Rattle.writer_record.specs.Write as W
@@ -26,7 +26,8 @@ use Rattle.writer_record.specs.Promise as WP
 use Rattle.writer_record.specs.Promise.{Accepted, record_agrees, promise_done, promise_refused, accepted_ready, accepted_laid}
 use Rattle.writer_answer.specs.declared.Copied.{Copied}
 use Rattle.writer_answer.specs.Copy.{text_of, fitting, answer_by, room_by, copy_of, room_after}
-use Rattle.writer_answer.specs.CopyPromise.{Promise, Seen, seen, promise}
+use Rattle.writer_answer.specs.CopyPromise.{Promise, Seen, seen}
+use Rattle.writer_answer.proofs.CopyPromise.{promise}
 use Rattle.writer_copy.specs.Most.{copy_most, surely, surely_enough}
 use Rattle.writer_copy.specs.Bridge.{walked_refused, given_of, Front, front}
 use Rattle.writer_copy.specs.NeverRefused.{good_parts}

@@ -8,7 +8,8 @@ use Rattle.judge_file.specs.Place.{FileKind}
 use Rattle.judge_file.specs.Verdict.{accepted, refused}
 use Rattle.judge_file.specs.SameVerdict.{accepted_refused}
 use Rattle.judge_parts.specs.Written.{headers_text, items_text, written_headers, written_items}
-use Rattle.judge_parts.specs.PartAgree.{good_headers, good_items}
+use Rattle.judge_parts.specs.PartAgree.{good_headers}
+use Rattle.judge_parts.proofs.PartAgree.{good_items}
 use Rattle.writer_record.specs.Write.{Given}
 use Rattle.writer_record.specs.Measure.{GoodParts}
 use Rattle.writer_record.specs.Promise.{Accepted}

@@ -15,7 +15,8 @@ use Rattle.rules.specs.Forms.{DataHeader}
 use Rattle.judge_line.specs.Got.{Got, got, bad, then}
 use Rattle.judge_line.specs.GotLaws.{got_inj, bad_got, then_got}
 use Rattle.judge_line.specs.Judge.{first_header_of, item_of, ItemOrEnd, title, close, value_of, ValueOrBlank, value, blank}
-use Rattle.judge_line.specs.Agree.{within_got, header_agrees, title_agrees}
+use Rattle.judge_line.specs.Agree.{within_got}
+use Rattle.judge_line.proofs.Agree.{header_agrees, title_agrees}
 use Rattle.writer_parts.specs.Lengths.{title_length}
 use Rattle.writer_parts.specs.Step.{ended, Taken, taken, item_taken, value_taken, line_as, longest, turn_as, turned, Next, ends_at, judged, ends_as, written_from}
 use Rattle.writer_parts.specs.Here.{from_here, here_start, here_next, here_stop, here_cut, here_end}

@@ -10,7 +10,8 @@ use Rattle.rules.specs.Write.{header_text}
 use Rattle.judge_line.specs.Got.{Got, got, bad}
 use Rattle.judge_line.specs.GotLaws.{got_inj, bad_got, then_got}
 use Rattle.judge_line.specs.Judge.{first_header_of, item_of, ItemOrEnd, title, close, value_of, ValueOrBlank, value, blank}
-use Rattle.judge_line.specs.Agree.{within_got, header_agrees, title_agrees, value_agrees, blank_agrees}
+use Rattle.judge_line.specs.Agree.{within_got}
+use Rattle.judge_line.proofs.Agree.{header_agrees, title_agrees, value_agrees, blank_agrees}
 use Rattle.judge_line.specs.AgreeItem.{value_told, blank_told}
 use Rattle.line_judged.specs.Known.{Standing, Header, Named}
 use Rattle.rules.specs.Forms.{DataHeader}

@@ -13,15 +13,17 @@ use Rattle.rules.specs.Record.{Headers, Item, Raw, GoodSDfile, limit}
 use Rattle.rules.specs.Meaning.{Reading, meaning}
 use Rattle.rules.specs.Write.{file_lines}
 use Rattle.rules.specs.Canon.{HeaderPart, ItemPart, Writable, Good, AllGood, canon_lines, canon_file}
-use Rattle.rules.specs.CanonGood.{canon_text_lem, canon_only}
-use Rattle.rules.specs.Handed.{header_part_good, item_part_good}
+use Rattle.rules.proofs.CanonGood.{canon_text_lem, canon_only}
+use Rattle.rules.specs.Handed.{header_part_good}
+use Rattle.rules.proofs.Handed.{item_part_good}
 use Rattle.writer_lines.specs.Laid.{Laid}
 use Rattle.judge_file.specs.Verdict.{Verdict, accepted, refused}
 use Rattle.judge_file.specs.SameVerdict.{accepted_refused, same_accepted}
 use Rattle.judge_parts.specs.Part.{headers_verdict, items_verdict}
 use Rattle.judge_parts.specs.AnyPart.{PartRefusal}
 use Rattle.judge_parts.specs.PartBecause.{HeaderBecause, ItemBecause}
-use Rattle.judge_parts.specs.PartAgree.{AHeaderPart, AnItemPart, good_headers, refused_headers, good_items, refused_items}
+use Rattle.judge_parts.specs.PartAgree.{AHeaderPart, AnItemPart, good_headers, refused_headers}
+use Rattle.judge_parts.proofs.PartAgree.{good_items, refused_items}
 use Rattle.writer_tables.specs.Tables.{writable_tables}
 use Rattle.writer_record.specs.Write.{Given, Roomy, handed, canon_text, demand, and_then, roomy, record_for, text_for, write_of, room_after}
 use Rattle.writer_record.specs.Write as W

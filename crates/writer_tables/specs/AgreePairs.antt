@@ -11,7 +11,7 @@ use Rattle.rules.specs.Forms.{Bond}
 use Rattle.rules.specs.Record.{NewPair, NoPairTwice}
 use Rattle.rules.specs.Canon.{bond_row, bond_of, WritableBond, Rows}
 use Rattle.judge_pairs.specs.Taken.{same_pair, pair_taken}
-use Rattle.judge_pairs.specs.Agree.{taken_no}
+use Rattle.judge_pairs.proofs.Agree.{taken_no}
 use Rattle.judge_pairs.specs.Append.{pair_once}
 use Rattle.rules.specs.Rows.{row_at, rows_of, rows_length, rows_at}
 use Rattle.writer_tables.specs.Tables.{same_ends, same_at, against, walk_from, first_repeat, is_nothing}

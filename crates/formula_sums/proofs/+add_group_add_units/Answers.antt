@@ -6,7 +6,8 @@ use Rattle.formula_rules.specs.Parse.{group_of}
 use Rattle.formula_rules.specs.Sums.{sat}
 use Rattle.formula_text.specs.Steps.{group_ends, symbol_ends, open_within, capital_within}
 use Rattle.formula_sums.specs.Adds.{sums, group_read, open_never, open_more, symbol_never, symbol_more, symbol_added, flat_never, inner_read, inner_never, inner_within, group_added, symbol_set, value_le, symbol_le, place_small}
-use Rattle.formula_rules.specs.Capped.{below_unit, below_at, below_here, sat_le}
+use Rattle.formula_rules.specs.Capped.{below_at, below_here, sat_le}
+use Rattle.formula_rules.proofs.Capped.{below_unit}
 use Rattle.formula_sums.proofs.+add_group_add_units.Goals as goal
 
 pub add_group-returns-then-depth-eq0 : goal.add_group-returns-then-depth-eq0

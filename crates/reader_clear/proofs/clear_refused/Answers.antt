@@ -1,5 +1,5 @@
 -- `reader_clear::clear_refused` meets its contract.
-use Rattle.reader_answer.specs.RowedHolds.{settled_laws}
+use Rattle.reader_answer.proofs.RowedHolds.{settled_laws}
 use borrow.Author.Rules.{rules}
 use Rattle.reader_clear.proofs.clear_refused.Goals as goal
 

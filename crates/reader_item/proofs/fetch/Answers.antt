@@ -1,6 +1,6 @@
 -- `reader_item::fetch` meets its contract.
-use Rattle.reader_item.specs.Hunting.{part_laws}
-use Rattle.reader_item.specs.Agree.{handed}
+use Rattle.reader_item.proofs.Hunting.{part_laws}
+use Rattle.reader_item.proofs.Agree.{handed}
 use borrow.Author.Rules.{rules}
 use Rattle.reader_item.proofs.fetch.Goals as goal
 

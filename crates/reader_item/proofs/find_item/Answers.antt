@@ -1,5 +1,5 @@
 -- `reader_item::find_item` meets its contract.
-use Rattle.reader_item.specs.Agree.{promise_laws}
+use Rattle.reader_item.proofs.Agree.{promise_laws}
 use borrow.Author.Rules.{rules}
 use Rattle.reader_item.proofs.find_item.Goals as goal
 

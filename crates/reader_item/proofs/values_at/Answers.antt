@@ -2,7 +2,8 @@
 use borrow.Author.Rules.{rules}
 use Prim.Native.Nat.{◌-◌}
 use lib.ListN.{length}
-use Rattle.reader_item.specs.Passing.{Passing, passing_laws}
+use Rattle.reader_item.specs.Passing.{Passing}
+use Rattle.reader_item.proofs.Passing.{passing_laws}
 use Rattle.reader_item.proofs.values_at.Goals as goal
 
 pub loop-at-init : goal.loop-at-init

@@ -1,7 +1,8 @@
 use borrow.Author.Rules.{rules}
 use Prim.Native.Nat.{◌-◌}
 use lib.ListN.{length}
-use Rattle.reader_item.specs.Passing.{Passing, passing_laws}
+use Rattle.reader_item.specs.Passing.{Passing}
+use Rattle.reader_item.proofs.Passing.{passing_laws}
 use Rattle.reader_item.proofs.values_at.Given as goal
 
 abbrev pub invariant-loop-at : goal.invariant-loop-at

@@ -1,5 +1,5 @@
 -- `reader_items::item_at` meets its contract.
-use Rattle.reader_items.specs.Agree.{step_laws}
+use Rattle.reader_items.proofs.Agree.{step_laws}
 use borrow.Author.Rules.{rules}
 use Rattle.reader_items.proofs.item_at.Goals as goal
 

@@ -2,7 +2,8 @@
 use borrow.Author.Rules.{rules}
 use Prim.Native.Nat.{◌-◌}
 use lib.ListN.{length}
-use Rattle.reader_items.specs.Running.{Running, running_laws}
+use Rattle.reader_items.specs.Running.{Running}
+use Rattle.reader_items.proofs.Running.{running_laws}
 use Rattle.reader_items.proofs.values_at.Goals as goal
 
 pub loop-end-init : goal.loop-end-init

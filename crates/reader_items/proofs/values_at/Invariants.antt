@@ -1,7 +1,8 @@
 use borrow.Author.Rules.{rules}
 use Prim.Native.Nat.{◌-◌}
 use lib.ListN.{length}
-use Rattle.reader_items.specs.Running.{Running, running_laws}
+use Rattle.reader_items.specs.Running.{Running}
+use Rattle.reader_items.proofs.Running.{running_laws}
 use Rattle.reader_items.proofs.values_at.Given as goal
 
 abbrev pub invariant-loop-end : goal.invariant-loop-end

@@ -1,5 +1,5 @@
 -- `reader_look::keep_first` meets its contract.
-use Rattle.reader_look.specs.Looking.{keep_laws}
+use Rattle.reader_look.proofs.Looking.{keep_laws}
 use borrow.Author.Rules.{rules}
 use Rattle.reader_look.proofs.keep_first.Goals as goal
 

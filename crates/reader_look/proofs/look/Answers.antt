@@ -1,5 +1,5 @@
 -- `reader_look::look` meets its contract.
-use Rattle.reader_look.specs.Good.{look_laws}
+use Rattle.reader_look.proofs.Good.{look_laws}
 use borrow.Author.Rules.{rules}
 use Rattle.reader_look.proofs.look.Goals as goal
 

@@ -1,5 +1,5 @@
 -- `reader_record::read_as` meets its contract.
-use Rattle.reader_answer.specs.TablesRead.{room_laws}
+use Rattle.reader_answer.proofs.TablesRead.{room_laws}
 use Rattle.reader_rows.specs.Rowed.{lent_none}
 use borrow.Author.Rules.{rules}
 use Rattle.reader_record.proofs.read_as.Goals as goal

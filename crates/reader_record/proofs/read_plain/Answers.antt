@@ -1,6 +1,6 @@
 -- `reader_record::read_plain` meets its contract.
-use Rattle.reader_answer.specs.Promised.{promise_laws}
-use Rattle.reader_answer.specs.TablesRead.{kind_laws}
+use Rattle.reader_answer.proofs.Promised.{promise_laws}
+use Rattle.reader_answer.proofs.TablesRead.{kind_laws}
 use borrow.Author.Rules.{rules}
 use Rattle.reader_record.proofs.read_plain.Goals as goal
 

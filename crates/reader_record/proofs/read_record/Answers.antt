@@ -1,5 +1,5 @@
 -- `reader_record::read_record` meets its contract.
-use Rattle.reader_answer.specs.RowedHolds.{rowed_kind_laws}
+use Rattle.reader_answer.proofs.RowedHolds.{rowed_kind_laws}
 use borrow.Author.Rules.{rules}
 use Rattle.reader_record.proofs.read_record.Goals as goal
 

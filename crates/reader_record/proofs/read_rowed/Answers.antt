@@ -1,5 +1,6 @@
 -- `reader_record::read_rowed` meets its contract.
-use Rattle.reader_answer.specs.RowedHolds.{rowed_room_laws, lent_cleared}
+use Rattle.reader_answer.specs.RowedHolds.{lent_cleared}
+use Rattle.reader_answer.proofs.RowedHolds.{rowed_room_laws}
 use borrow.Author.Rules.{rules}
 use Rattle.reader_record.proofs.read_rowed.Goals as goal
 

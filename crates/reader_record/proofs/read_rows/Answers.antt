@@ -1,6 +1,6 @@
 -- `reader_record::read_rows` meets its contract.
 use Rattle.reader_answer.specs.Rows.{rows_laws}
-use Rattle.reader_answer.specs.TablesRead.{room_laws}
+use Rattle.reader_answer.proofs.TablesRead.{room_laws}
 use Rattle.reader_rows.specs.Rowed.{lent_none}
 use borrow.Author.Rules.{rules}
 use Rattle.reader_record.proofs.read_rows.Goals as goal

@@ -1,6 +1,6 @@
 -- `writer_catalogue::write_catalogue` meets its contract.
 use borrow.Author.Rules.{rules}
-use Rattle.writer_answer.specs.CataloguePromise.{promise_laws}
+use Rattle.writer_answer.proofs.CataloguePromise.{promise_laws}
 use Rattle.writer_catalogue.proofs.write_catalogue.Goals as goal
 
 pub returns-then-atoms-lt-ATOMS : goal.returns-then-atoms-lt-ATOMS

@@ -10,14 +10,15 @@ use Rattle.rules.specs.Viable.{Viable, FirstDead, ARecord}
 use Rattle.rules.specs.PartLaws.{file_record}
 use Rattle.judge_file.specs.Place.{Place, first, sdfile}
 use Rattle.judge_file.specs.Verdict.{at, run}
-use Rattle.judge_file.specs.Runs.{sound_run, rewind, run_append}
-use Rattle.judge_file.specs.Agree.{accepts_sd}
+use Rattle.judge_file.proofs.Runs.{sound_run, rewind, run_append}
+use Rattle.judge_file.proofs.Agree.{accepts_sd}
 use Rattle.judge_file.specs.Ahead.{ahead}
-use Rattle.judge_file.specs.Marked.{refused_marked}
-use Rattle.judge_file.specs.Refuse.{run_dead}
+use Rattle.judge_file.proofs.Marked.{refused_marked}
+use Rattle.judge_file.proofs.Refuse.{run_dead}
 use Rattle.judge_file.specs.Front.{record_front, record_before}
 use Rattle.judge_file.specs.One.{One, whole, refused, short, one_record}
-use Rattle.judge_file.specs.OneRun.{Same, same, grows, follow}
+use Rattle.judge_file.specs.OneRun.{Same}
+use Rattle.judge_file.proofs.OneRun.{same, grows, follow}
 
 module _ (limit : ℕ) where
   record_file : {ls : List Line} {x : Raw} → Record limit ls x [] → SDfile limit ls (x ∷ [])

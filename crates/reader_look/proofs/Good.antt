@@ -1,5 +1,5 @@
 -- A look at a text that begins with a good record finds what a fetch finds there: before its items no line from the fourth on begins with `>` or `$`.
-use Prim.Native.Nat.{ℕ, zero, suc, ◌+◌, ◌-◌, ◌≤◌}
+use Prim.Native.Nat.{ℕ, zero, suc, ◌+◌, ◌≤◌}
 use native.Mathlib.Omega.{arith}
 use Rattle.std.specs.Prelude.{◌≡◌, ◌⊎◌, Bool, ◌&&◌, List, [], ◌∷◌, ◌++◌, leb, ℤ, length}
 use Rattle.std.proofs.Math.Path.{refl, sym, ap, subst}
@@ -10,7 +10,6 @@ use Rattle.text.specs.Text.{Bytes, Line, bytes, Each}
 use Rattle.text.specs.Columns.{column, columns, columns_for, spaces}
 use Rattle.text.specs.Find.{same_bytes}
 use Rattle.text.specs.Cut.{cut}
-use Rattle.text.specs.Laws.{false_true}
 use Rattle.field_numbers.specs.Number.{Digit, Digits, Integer}
 use Rattle.field_coordinates.specs.Coordinate.{Coordinate}
 use Rattle.rules.specs.Forms.{Atom, Bond, Kind, CHG, RAD, ISO, tag, Property, PropertyLine, DataHeader, RecordEnd}
@@ -22,7 +21,8 @@ use Rattle.reader_walk.specs.Stands.{molecule_lines}
 use Rattle.reader_item.specs.Find.{from_of, to_of, Spot, after, nowhere, spot_of, said_by, found_by, found_of}
 use Rattle.reader_item.specs.Position.{after_join, Past, past_none, past_more, past_join, past_values, past_molecule}
 use Rattle.reader_item.specs.Hunting.{by_title, items_at}
-use Rattle.reader_items.specs.Agree.{lines, begun, step_item, step_end}
+use Rattle.reader_items.specs.Agree.{lines, begun, step_end}
+use Rattle.reader_items.proofs.Agree.{step_item}
 use Rattle.reader_items.specs.Stepping.{name_here, item_rest, stood}
 use Rattle.reader_look.specs.declared.Looked.{Looked}
 use Rattle.reader_look.specs.declared.Reached.{Reached}

@@ -9,7 +9,8 @@ use Rattle.rules.specs.Record.{Molecule}
 use Rattle.rules.specs.Meaning.{charge_of_code, radical_of_code, among, has, codes_void, number_in, given, atom_numbers, atoms_from, bond_numbers, Reading, meaning}
 use Rattle.rules.specs.Canon.{atom_row, bond_row, is_zero, is_two, charge_code, atom_of, bond_of, number_of, entries_from, properties_of, canon, FromTo, WritableAtom, WritableBond, Rows, Writable}
 use Rattle.rules.specs.Fields.{Every, one_every}
-use Rattle.rules.specs.Entries.{not_among, properties_list, isotope_lines, entries_first, entries_later}
+use Rattle.rules.specs.Entries.{not_among, entries_first, entries_later}
+use Rattle.rules.proofs.Entries.{properties_list, isotope_lines}
 
 size_back : (least most : ℕ) (z : ℤ) → FromTo least most z → pos (nat_abs z) ≡ z
 size_back least most (pos k) h = refl

@@ -6,7 +6,7 @@ use Rattle.rules.specs.Record.{Molecule, Raw, Molfile, SDfile}
 use Rattle.judge_file.specs.Place.{first, over, molfile, sdfile}
 use Rattle.judge_file.specs.Verdict.{at, run}
 use Rattle.judge_file.specs.From.{alone}
-use Rattle.judge_file.specs.Runs.{complete, rewind}
+use Rattle.judge_file.proofs.Runs.{complete, rewind}
 
 module _ (limit : ℕ) (ls : List Line) where
   -- ---- SDfiles

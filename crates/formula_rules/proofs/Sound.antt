@@ -6,7 +6,7 @@ use Rattle.std.proofs.Common.{sym, arith}
 use Rattle.std.proofs.Math.Bool.{true, false, and-eq-true_iff}
 use Rattle.std.proofs.Math.Dec.{eqb}
 use borrow.Author.Tests.{eqb-true, eqb-false, ltb-true}
-use Rattle.formula_rules.specs.Formula.{byte_at, between, is_digit, Tree, Trees, Count, Symbol, Units, Formula}
+use Rattle.formula_rules.specs.Formula.{byte_at, between, is_digit, Tree, Trees, Count, Symbol, Units}
 use Rattle.formula_rules.specs.Formula as F
 use Rattle.formula_rules.specs.Parse.{CountRead, count, UnitRead, unit, UnitsRead, units, counted, count_at, symbol_end, element_at, element_unit, symbol_at, closed, onto, after, chosen, units_by, group_by, enough, units_of}
 use Rattle.formula_rules.specs.Bytes.{is_capital, is_small, between_from, between_is}

@@ -1,0 +1,4 @@
+pub mod Sound
+pub mod Complete
+pub mod Capped
+pub mod Judged

@@ -1,0 +1,11 @@
+pub mod Takes
+pub mod Runs
+pub mod Agree
+pub mod Marked
+pub mod Refuse
+pub mod Ending
+pub mod Promise
+pub mod OneRun
+pub mod OneAgree
+pub mod Walk
+pub mod WalkText

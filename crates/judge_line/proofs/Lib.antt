@@ -1,0 +1,4 @@
+pub mod AgreeLine
+pub mod AgreeProperty
+pub mod AgreeItem
+pub mod Agree

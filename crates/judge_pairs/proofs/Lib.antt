@@ -1,0 +1,3 @@
+pub mod Agree
+pub mod Free
+pub mod Compared

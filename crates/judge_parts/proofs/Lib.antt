@@ -1,0 +1,3 @@
+pub mod PartBecause
+pub mod PartFrom
+pub mod PartAgree

@@ -1,0 +1,4 @@
+pub mod TablesRead
+pub mod Promised
+pub mod RowedHolds
+pub mod Follows

@@ -1,0 +1,9 @@
+pub mod OneForm
+pub mod Unique
+pub mod Written
+pub mod Entries
+pub mod CanonBack
+pub mod CanonGood
+pub mod Rewritten
+pub mod Handed
+pub mod SamplesHold

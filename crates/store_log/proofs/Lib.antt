@@ -1,0 +1,4 @@
+pub mod Books
+pub mod Lots
+pub mod Entries
+pub mod Limits

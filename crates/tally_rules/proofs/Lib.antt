@@ -1,0 +1,4 @@
+pub mod InOrder
+pub mod Counts
+pub mod Kept
+pub mod Month

@@ -1,0 +1,2 @@
+pub mod CopyPromise
+pub mod CataloguePromise
