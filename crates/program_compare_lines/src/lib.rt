@@ -1,4 +1,6 @@
 // The differences of a pair of records, one a line. Lines are made by patterns, in which a capital letter stands for what is filled in there.
+#![tactic(auto)]
+
 mod lines;
 mod say;
 
