@@ -20,7 +20,7 @@ pub struct Told {
 }
 
 // What is told: every difference, for people or for programs, or the first record that differs; and whether progress is.
-#[derive(Drop)]
+#[derive(Clone, Copy)]
 pub struct Way {
     pub json: bool,
     pub first: bool,
