@@ -440,19 +440,10 @@ fn hold_judged(
     }
 }
 
-fn hold_open(
-    system: &System,
-    first: &[u8],
-    second: &[u8],
-    old: &File,
-    new: &File,
-    way: Way,
-) {
+fn hold_open(system: &System, first: &[u8], second: &[u8], old: &File, new: &File, way: Way) {
     let mut left = [0u8; BUFFER];
     let mut right = [0u8; BUFFER];
-    hold_judged(
-        system, first, second, old, new, way, &mut left, &mut right,
-    );
+    hold_judged(system, first, second, old, new, way, &mut left, &mut right);
 }
 
 // The second file behind the first, which is open.

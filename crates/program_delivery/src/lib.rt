@@ -275,13 +275,7 @@ fn read_on(system: &System, place: Place, input: Input<'_>, buf: &mut [u8]) -> D
     refill(system, place, input, buf)
 }
 
-fn after_behind(
-    system: &System,
-    place: Place,
-    p: Passed,
-    input: Input<'_>,
-    buf: &mut [u8],
-) -> Did {
+fn after_behind(system: &System, place: Place, p: Passed, input: Input<'_>, buf: &mut [u8]) -> Did {
     match p {
         Passed::Behind { counter, used } => Did::Next(place.past(used).before(counter)),
         Passed::On(passing) => {
@@ -500,13 +494,7 @@ fn judge_within(
 }
 
 // An open file: facts on standard output, the verdict on its channel.
-pub fn judge(
-    system: &System,
-    name: &[u8],
-    input: Input<'_>,
-    way: Way,
-    buf: &mut [u8; BUFFER],
-) {
+pub fn judge(system: &System, name: &[u8], input: Input<'_>, way: Way, buf: &mut [u8; BUFFER]) {
     let mut room = io::large_buffer();
     let verdict = judge_within(system, name, input, way, buf, &mut room);
     program_verdict::tell(system, name, verdict);

@@ -71,13 +71,7 @@ fn read_on(input: Input<'_>, buf: &mut [u8], at: usize) -> Got
 {
     let rest = &mut buf[at..];
     match input.read(rest) {
-        Ok(n) => {
-            if n == 0 {
-                Got::End
-            } else {
-                Got::UpTo(at + n)
-            }
-        }
+        Ok(n) => { if n == 0 { Got::End } else { Got::UpTo(at + n) } }
         Err(why) => why_failed(why),
     }
 }

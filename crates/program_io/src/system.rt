@@ -195,10 +195,7 @@ impl System {
         let n = why.words(&mut text);
         let _ = self.write(Target::Errors, what);
         let _ = self.write(Target::Errors, b": ");
-        let _ = self.write(
-            Target::Errors,
-            without_number(crate::front(&text, n)),
-        );
+        let _ = self.write(Target::Errors, without_number(crate::front(&text, n)));
         let _ = self.write(Target::Errors, b"\n");
     }
 }

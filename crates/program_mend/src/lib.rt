@@ -303,15 +303,7 @@ fn read_whole(system: &System, name: &[u8], file: &File, writing: bool) -> Verdi
     let mut room = [0u8; ROOM];
     let mut repairs = [0u64; LIST];
     let begun = Pass::new(writing);
-    read_through(
-        system,
-        name,
-        file,
-        &mut buf,
-        &mut room,
-        &mut repairs,
-        begun,
-    )
+    read_through(system, name, file, &mut buf, &mut room, &mut repairs, begun)
 }
 
 // Both readings of an open file.

@@ -64,13 +64,7 @@ pub fn say(system: &System, name: &[u8], line: u64, what: u64) {
 }
 
 // The repairs of a record, before which so many lines stand.
-pub fn say_all(
-    system: &System,
-    name: &[u8],
-    before: u64,
-    list: &[u64; LIST],
-    repairs: usize,
-) {
+pub fn say_all(system: &System, name: &[u8], before: u64, list: &[u64; LIST], repairs: usize) {
     let mut i: usize = 0;
     let mut k: usize = 0;
     while k < repairs {

@@ -160,14 +160,7 @@ fn replay_open(system: &System, input: Input<'_>) -> Verdict {
     let mut room = [0u8; SIZE];
     let mut keys = [0u32; KEYS];
     let mut papers = [0u32; LOTS];
-    replay(
-        system,
-        input,
-        &mut buf,
-        &mut room,
-        &mut keys,
-        &mut papers,
-    )
+    replay(system, input, &mut buf, &mut room, &mut keys, &mut papers)
 }
 
 fn replay_file(system: &System, name: &[u8]) {

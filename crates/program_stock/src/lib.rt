@@ -116,12 +116,7 @@ fn walk_argument(
             }
         }
         Err(why) => {
-            tell(
-                system,
-                task,
-                b"file name",
-                Verdict::Unreadable(why),
-            );
+            tell(system, task, b"file name", Verdict::Unreadable(why));
             pass
         }
     }
@@ -235,11 +230,7 @@ fn is_settled(apart: bool, join: Join) -> bool {
 // The last line on the channel.
 fn announce(system: &System, done: Out, settled: bool) {
     if !done.good {
-        program_verdict::tell(
-            system,
-            b"standard output",
-            Verdict::Unwritten(done.why),
-        );
+        program_verdict::tell(system, b"standard output", Verdict::Unwritten(done.why));
         return;
     }
     let line = Text::new();

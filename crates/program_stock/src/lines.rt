@@ -415,13 +415,7 @@ fn put_line(
 }
 
 // A line by its pattern.
-pub fn put_row(
-    system: &System,
-    out: Out,
-    room: &mut [u8; ROOM],
-    way: Way,
-    row: Row,
-) -> Out {
+pub fn put_row(system: &System, out: Out, room: &mut [u8; ROOM], way: Way, row: Row) -> Out {
     let pattern = program_io::tail(&PATTERNS, place_of(way.json, row.line));
     put_line(system, out, room, pattern, way, row)
 }

@@ -92,9 +92,7 @@ fn replay(
     let mut reading = Reading::new();
     let mut turns = u64::MAX;
     while turns > 0 {
-        reading = take_turn(
-            file, &mut buf, keys, papers, whole, lots, counts, reading,
-        );
+        reading = take_turn(file, &mut buf, keys, papers, whole, lots, counts, reading);
         if !reading.on {
             return ended(reading);
         }

@@ -6,9 +6,9 @@ mod lines;
 use program_io::{Filled, Input, System};
 use program_verdict::Verdict;
 use reader_feed::{Counter, Fed};
+use std::fs::File;
 use tally_file::Tallied;
 use tally_flat::NAMES;
-use std::fs::File;
 use tally_rules::{SUPPLIERS, Totals};
 
 // The list, passed on by value.

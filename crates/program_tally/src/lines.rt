@@ -58,13 +58,7 @@ fn write_suppliers(system: &System, book: Book) {
         if entries <= i {
             return;
         }
-        write_supplier(
-            system,
-            &names,
-            SUPPLIER * i,
-            lengths[i],
-            counts[i],
-        );
+        write_supplier(system, &names, SUPPLIER * i, lengths[i], counts[i]);
         i += 1;
     }
 }

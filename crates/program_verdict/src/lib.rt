@@ -116,7 +116,12 @@ fn take_turn(
     let done = place.done;
     match program_io::fill(input, buf, kept) {
         Filled::Bytes(n) => {
-            note_passed(system, progress, plus(done, kept as u64), plus(done, n as u64));
+            note_passed(
+                system,
+                progress,
+                plus(done, kept as u64),
+                plus(done, n as u64),
+            );
             judge_part(buf, n, place)
         }
         Filled::Failed(why) => Turn::End(Verdict::Unreadable(why)),

@@ -110,7 +110,9 @@ fn line(system: &System, name: &[u8], named: bool, v: Verdict) -> Result<(), Rea
         let text = words(Text::new().word(b": "), v);
         return text.byte(b'\n').write(system, Target::Output);
     }
-    words(Text::new(), v).byte(b'\n').write(system, Target::Output)
+    words(Text::new(), v)
+        .byte(b'\n')
+        .write(system, Target::Output)
 }
 
 // The reason of a failure on standard error, and the verdict on the channel: nothing on standard output.

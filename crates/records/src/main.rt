@@ -92,10 +92,7 @@ fn main(rt: HostRuntime) {
         Verb::Compare => program_compare::compare(&system),
         Verb::Tally => program_tally::run(&system, 2),
         Verb::Unknown => {
-            let _ = system.write(
-                Target::Errors,
-                b"records: no sub-command of this name\n",
-            );
+            let _ = system.write(Target::Errors, b"records: no sub-command of this name\n");
         }
     }
 }
