@@ -1,64 +1,70 @@
 // Judges files: `molfile` or `sdfile`, perhaps `--progress`, perhaps `--all`, then the names, `-` for standard input. Facts go to standard output.
+#![tactic(auto)]
+
 use program_delivery::{BUFFER, Way};
+use program_io::{Input, System};
 
-fn judge_file(name: &[u8], way: Way, buf: &mut [u8; BUFFER]) {
+fn judge_file(system: &System, name: &[u8], way: Way, buf: &mut [u8; BUFFER]) {
     if check::same(name, b"-") {
-        program_delivery::judge(name, libc::STDIN_FILENO, way, buf);
+        program_delivery::judge(system, name, system.stdin(), way, buf);
         return;
     }
-    let fd = os::open_read(name);
-    if fd < 0 {
-        program_delivery::cannot_open(name);
-        return;
+    match system.open_read(name) {
+        Ok(file) => program_delivery::judge(system, name, Input::Opened(&file), way, buf),
+        Err(why) => program_delivery::cannot_open(system, name, why),
     }
-    program_delivery::judge(name, fd, way, buf);
-    libc::close(fd);
 }
 
-fn judge_argument(i: usize, way: Way, buf: &mut [u8; BUFFER]) {
+fn judge_argument(system: &System, i: usize, way: Way, buf: &mut [u8; BUFFER]) {
     let mut name = io::buffer();
-    let n = os::arg(i, &mut name);
-    if os::errno() != 0 {
-        program_delivery::cannot_open(b"file name");
-        return;
+    match system.argument(i, &mut name) {
+        Ok(n) => judge_file(system, &name[..n], way, buf),
+        Err(why) => program_delivery::cannot_open(system, b"file name", why),
     }
-    judge_file(&name[..n], way, buf);
 }
 
-fn judge_arguments(from: usize, way: Way, buf: &mut [u8; BUFFER]) {
-    let count = os::arg_count();
+fn judge_arguments(system: &System, from: usize, way: Way, buf: &mut [u8; BUFFER]) {
+    let count = system.argument_count();
     let mut i = from;
     while i < count {
-        judge_argument(i, way, buf);
+        judge_argument(system, i, way, buf);
         i += 1;
     }
 }
 
 // The names stand from `from` on, or from `next` on where `--all` is said first.
-fn judge_all(from: usize, next: usize, sd: bool, progress: bool, buf: &mut [u8; BUFFER]) {
-    if program_io::is_argument(from, b"--all") {
+fn judge_all(
+    system: &System,
+    from: usize,
+    next: usize,
+    sd: bool,
+    progress: bool,
+    buf: &mut [u8; BUFFER],
+) {
+    if program_io::is_argument(system, from, b"--all") {
         let way = Way {
             sd,
             progress,
             all: true,
         };
-        judge_arguments(next, way, buf);
+        judge_arguments(system, next, way, buf);
     } else {
         let way = Way {
             sd,
             progress,
             all: false,
         };
-        judge_arguments(from, way, buf);
+        judge_arguments(system, from, way, buf);
     }
 }
 
-fn main() {
+fn main(rt: HostRuntime) {
+    let system = System::new(rt);
     let mut buf = [0u8; BUFFER];
-    let sd = program_io::is_argument(1, b"sdfile");
-    if program_io::is_argument(2, b"--progress") {
-        judge_all(3, 4, sd, true, &mut buf);
+    let sd = program_io::is_argument(&system, 1, b"sdfile");
+    if program_io::is_argument(&system, 2, b"--progress") {
+        judge_all(&system, 3, 4, sd, true, &mut buf);
     } else {
-        judge_all(2, 3, sd, false, &mut buf);
+        judge_all(&system, 2, 3, sd, false, &mut buf);
     }
 }

@@ -1,4 +1,8 @@
 // Mends an SDfile: the path to it, then the name by which it is told. A program of its own, so that in `records` the reader's step has one caller.
-fn main() {
-    program_mend::run();
+#![tactic(auto)]
+
+use program_io::System;
+
+fn main(rt: HostRuntime) {
+    program_mend::run(&System::new(rt));
 }

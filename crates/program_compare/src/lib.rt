@@ -1,5 +1,7 @@
 // Two SDfiles held against each other, record by record, in constant memory: every difference in a line, or the first record that differs. Both are
 // judged first, so nothing is said of a refused one.
+#![tactic(auto)]
+
 mod source;
 
 ghost use Rattle.std.specs.Prelude.{◌≡◌, true, ◌*◌, ◌≤◌, ◌<◌, ◌^◌};
@@ -8,10 +10,11 @@ ghost use Rattle.program_compare.specs.Fitting.{Fitting};
 use compare_record::Numbers;
 use compare_rules::Count;
 use program_compare_lines::{PATTERNS, ROOM, Row, Spot, Told, Way};
-use program_io::{Out, Text};
+use program_io::{Out, System, Target, Text};
 use program_json_rows::{ATOMS, BONDS};
 use program_verdict::Verdict;
 use source::{BUFFER, Met, Shape, Source};
+use std::fs::File;
 
 // So many differences are listed at a time: a pair of records that has more is compared again, and those written are passed over.
 const WINDOW: usize = 4096;
@@ -19,7 +22,7 @@ const WINDOW: usize = 4096;
 const LIST: usize = 7 * WINDOW;
 
 // What is written, the number of differences, and of places where the files differ; how many places there are.
-#[derive(Drop)]
+#[derive(Clone, Copy)]
 struct Sum {
     out: Out,
     differences: u64,
@@ -254,17 +257,8 @@ fn turn_of(left: Met, right: Met) -> Turn {
     }
 }
 
-// The two files, opened.
-#[derive(Drop)]
-struct Open {
-    first: i32,
-    second: i32,
-    way: Way,
-}
-
-fn begin(fd: i32) -> Source {
+fn begin() -> Source {
     Source {
-        fd,
         at: 0,
         filled: 0,
         ended: false,
@@ -281,7 +275,10 @@ fn is_enough(way: Way, places: u64) -> bool {
 
 // The second reading of both, from their starts. Turns are counted so that the loop ends, and no run uses them up.
 fn hold(
-    open: Open,
+    system: &System,
+    first: &File,
+    second: &File,
+    way: Way,
     patterns: &[u8],
     left: &mut [u8; BUFFER],
     right: &mut [u8; BUFFER],
@@ -292,19 +289,18 @@ fn hold(
     let mut tb = [0i32; BONDS];
     let mut ua = [0i32; ATOMS];
     let mut ub = [0i32; BONDS];
-    let mut a = begin(open.first);
-    let mut b = begin(open.second);
+    let mut a = begin();
+    let mut b = begin();
     let mut sum = Sum {
-        out: Out::new(libc::STDOUT_FILENO),
+        out: Out::new(system),
         differences: 0,
         places: 0,
         records: 0,
     };
     let mut turns = u64::MAX;
-    let way = open.way;
     loop {
-        let l = a.next(left, &mut ta, &mut tb);
-        let r = b.next(right, &mut ua, &mut ub);
+        let l = a.next(first, left, &mut ta, &mut tb);
+        let r = b.next(second, right, &mut ua, &mut ub);
         a = l.source;
         b = r.source;
         let x = l.shape;
@@ -383,21 +379,21 @@ fn put_summary(sum: Sum, room: &mut [u8; ROOM], patterns: &[u8], way: Way) -> Ou
     program_compare_lines::put_plain(out, room, patterns, false, summary(sum), none)
 }
 
-fn conclude(sum: Sum, room: &mut [u8; ROOM], patterns: &[u8], way: Way) {
+fn conclude(system: &System, sum: Sum, room: &mut [u8; ROOM], patterns: &[u8], way: Way) {
     let told = put_summary(sum, room, patterns, way);
     let out = told.flush(room);
     if out.good {
-        announced(sum, way).write(program_verdict::CHANNEL);
+        let _ = announced(sum, way).write(system, Target::Channel);
     } else {
-        program_verdict::tell(b"", Verdict::Unwritten);
+        program_verdict::tell(system, b"", Verdict::Unwritten(out.why));
     }
 }
 
 // ---- What is asked
 
 // A file's verdict, told; whether it is accepted.
-fn is_accepted(name: &[u8], v: Verdict) -> bool {
-    program_verdict::tell(name, v);
+fn is_accepted(system: &System, name: &[u8], v: Verdict) -> bool {
+    program_verdict::tell(system, name, v);
     match v {
         Verdict::Accepted { records: _ } => true,
         _ => false,
@@ -405,109 +401,111 @@ fn is_accepted(name: &[u8], v: Verdict) -> bool {
 }
 
 fn hold_accepted(
+    system: &System,
     first: &[u8],
     second: &[u8],
-    open: Open,
+    old: &File,
+    new: &File,
+    way: Way,
     left: &mut [u8; BUFFER],
     right: &mut [u8; BUFFER],
 ) {
     let mut room = [0u8; ROOM];
-    let way = open.way;
     let patterns = program_compare_lines::patterns_of(&PATTERNS, way);
-    let held = hold(open, patterns, left, right, &mut room);
+    let held = hold(system, old, new, way, patterns, left, right, &mut room);
     let turn = held.turn;
     match turn {
-        Turn::LeftFailed(v) => program_verdict::tell(first, v),
-        Turn::RightFailed(v) => program_verdict::tell(second, v),
-        _ => conclude(held.sum, &mut room, patterns, way),
+        Turn::LeftFailed(v) => program_verdict::tell(system, first, v),
+        Turn::RightFailed(v) => program_verdict::tell(system, second, v),
+        _ => conclude(system, held.sum, &mut room, patterns, way),
     }
 }
 
 fn hold_judged(
+    system: &System,
     first: &[u8],
     second: &[u8],
-    open: Open,
+    old: &File,
+    new: &File,
+    way: Way,
     left: &mut [u8; BUFFER],
     right: &mut [u8; BUFFER],
 ) {
-    let way = open.way;
-    let old = program_verdict::judge_first(open.first, true, left, way.progress);
-    if is_accepted(first, old) {
-        let new = program_verdict::judge_first(open.second, true, right, way.progress);
-        if is_accepted(second, new) {
-            hold_accepted(first, second, open, left, right);
+    let v = program_verdict::judge_first(system, old, true, left, way.progress);
+    if is_accepted(system, first, v) {
+        let w = program_verdict::judge_first(system, new, true, right, way.progress);
+        if is_accepted(system, second, w) {
+            hold_accepted(system, first, second, old, new, way, left, right);
         }
     }
 }
 
-fn hold_open(first: &[u8], second: &[u8], open: Open) {
+fn hold_open(system: &System, first: &[u8], second: &[u8], old: &File, new: &File, way: Way) {
     let mut left = [0u8; BUFFER];
     let mut right = [0u8; BUFFER];
-    hold_judged(first, second, open, &mut left, &mut right);
+    hold_judged(system, first, second, old, new, way, &mut left, &mut right);
 }
 
-fn hold_files(first: &[u8], second: &[u8], way: Way) {
-    let a = os::open_read(first);
-    if a < 0 {
-        program_verdict::tell(first, Verdict::Unreadable);
-        return;
+// The second file behind the first, which is open.
+fn hold_second(system: &System, first: &[u8], second: &[u8], old: &File, way: Way) {
+    match system.open_read(second) {
+        Ok(new) => hold_open(system, first, second, old, &new, way),
+        Err(why) => program_verdict::tell(system, second, Verdict::Unreadable(why)),
     }
-    let b = os::open_read(second);
-    if b < 0 {
-        program_verdict::tell(second, Verdict::Unreadable);
-    } else {
-        let open = Open {
-            first: a,
-            second: b,
-            way,
-        };
-        hold_open(first, second, open);
-        libc::close(b);
-    }
-    libc::close(a);
 }
 
-fn hold_named(i: usize, j: usize, way: Way) {
+fn hold_files(system: &System, first: &[u8], second: &[u8], way: Way) {
+    match system.open_read(first) {
+        Ok(old) => hold_second(system, first, second, &old, way),
+        Err(why) => program_verdict::tell(system, first, Verdict::Unreadable(why)),
+    }
+}
+
+fn hold_named(system: &System, i: usize, j: usize, way: Way) {
     let mut first = io::buffer();
-    let n = os::arg(i, &mut first);
-    if os::errno() == 0 {
-        let mut second = io::buffer();
-        let m = os::arg(j, &mut second);
-        if os::errno() == 0 {
-            let old = program_io::front(&first, n);
-            hold_files(old, program_io::front(&second, m), way);
-            return;
+    match system.argument(i, &mut first) {
+        Ok(n) => {
+            let mut second = io::buffer();
+            match system.argument(j, &mut second) {
+                Ok(m) => {
+                    let old = program_io::front(&first, n);
+                    hold_files(system, old, program_io::front(&second, m), way);
+                }
+                Err(why) => {
+                    program_verdict::tell(system, b"file name", Verdict::Unreadable(why));
+                }
+            }
         }
+        Err(why) => program_verdict::tell(system, b"file name", Verdict::Unreadable(why)),
     }
-    program_verdict::tell(b"file name", Verdict::Unreadable);
 }
 
 // Perhaps `--json`, then the names of two files: what differs between them.
-pub fn compare() {
-    let json = program_io::is_argument(2, b"--json");
+pub fn compare(system: &System) {
+    let json = program_io::is_argument(system, 2, b"--json");
     let way = Way {
         json,
         first: false,
         progress: false,
     };
     if json {
-        hold_named(3, 4, way);
+        hold_named(system, 3, 4, way);
     } else {
-        hold_named(2, 3, way);
+        hold_named(system, 2, 3, way);
     }
 }
 
 // Perhaps `--progress`, then the names of two files: whether they have the same reading.
-pub fn same() {
-    let progress = program_io::is_argument(2, b"--progress");
+pub fn same(system: &System) {
+    let progress = program_io::is_argument(system, 2, b"--progress");
     let way = Way {
         json: false,
         first: true,
         progress,
     };
     if progress {
-        hold_named(3, 4, way);
+        hold_named(system, 3, 4, way);
     } else {
-        hold_named(2, 3, way);
+        hold_named(system, 2, 3, way);
     }
 }

@@ -1,24 +1,24 @@
 // A file at its second reading: its records one after the other, each as it stands in the buffer and in the tables.
 use compare_record::Numbers;
-use program_io::Filled;
+use program_io::{Filled, Input};
 use program_json_rows::{ATOMS, BONDS};
 use program_verdict::Verdict;
 use reader_record::RecordRead;
+use std::fs::File;
 
 // The last byte of the buffer stands beside it: it tells whether input follows a full one.
 pub const BUFFER: usize = 1048577;
 
 // The bytes from `at` to before `filled` stand in the buffer; nothing follows them once it has ended.
-#[derive(Drop)]
+#[derive(Clone, Copy)]
 pub struct Source {
-    pub fd: i32,
     pub at: usize,
     pub filled: usize,
     pub ended: bool,
 }
 
 // Where a record stands in its buffer, and its numbers. What is no record has no bytes.
-#[derive(Drop)]
+#[derive(Clone, Copy)]
 pub struct Shape {
     at: usize,
     pub length: usize,
@@ -29,7 +29,7 @@ pub struct Shape {
 }
 
 // What was met at the place.
-#[derive(Drop)]
+#[derive(Clone, Copy)]
 pub enum Met {
     Record,
     End,
@@ -123,6 +123,7 @@ impl Source {
     // has changed.
     pub fn next(
         self,
+        file: &File,
         buf: &mut [u8; BUFFER],
         atoms: &mut [i32; ATOMS],
         bonds: &mut [i32; BONDS],
@@ -134,17 +135,16 @@ impl Source {
             return next;
         };
         let kept = program_io::keep(buf, self.at, self.filled);
-        match program_io::fill(self.fd, buf, kept) {
+        match program_io::fill(Input::Opened(file), buf, kept) {
             Filled::Bytes(n) => {
                 let more = Source {
-                    fd: self.fd,
                     at: 0,
                     filled: n,
                     ended: n < BUFFER,
                 };
                 more.read(program_io::front(buf, n), atoms, bonds)
             }
-            Filled::Failed => self.without(Met::Failed(Verdict::Unreadable)),
+            Filled::Failed(why) => self.without(Met::Failed(Verdict::Unreadable(why))),
         }
     }
 }

@@ -1,4 +1,6 @@
 // The differences of a pair of records, one a line. Lines are made by patterns, in which a capital letter stands for what is filled in there.
+#![tactic(auto)]
+
 mod lines;
 mod say;
 
@@ -18,7 +20,7 @@ pub struct Told {
 }
 
 // What is told: every difference, for people or for programs, or the first record that differs; and whether progress is.
-#[derive(Drop)]
+#[derive(Clone, Copy)]
 pub struct Way {
     pub json: bool,
     pub first: bool,

@@ -21,7 +21,7 @@ pub fn line_of(s: &[u8], k: u64) -> &[u8] {
 
 // A line of the items: its item and its number among the value lines of that, 0 for the data header or the blank line; where it stands, and where the
 // item's name does.
-#[derive(Drop)]
+#[derive(Clone, Copy)]
 pub struct Spot {
     item: usize,
     line: usize,

@@ -2,7 +2,7 @@
 use program_io::Text;
 
 // One difference, as it stands in the list.
-#[derive(Drop)]
+#[derive(Clone, Copy)]
 pub struct Row {
     pub record: u64,
     pub part: u64,

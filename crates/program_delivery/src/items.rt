@@ -15,7 +15,7 @@ const WIDTH: usize = 34;
 pub const TABLE: usize = 8704;
 
 // Names in the table; the one that is expected next; whether there were more than it holds.
-#[derive(Drop)]
+#[derive(Clone, Copy)]
 pub struct Names {
     pub used: usize,
     pub next: usize,
@@ -23,7 +23,7 @@ pub struct Names {
 }
 
 // The record that is looked over: its number and the lines before it; the names and the facts so far.
-#[derive(Drop)]
+#[derive(Clone, Copy)]
 pub struct Looked {
     pub record: usize,
     pub lines: usize,

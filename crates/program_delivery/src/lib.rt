@@ -1,4 +1,6 @@
 // A delivery judged: every refused record told if asked for, and what is worth a warning. What is written are facts, one a line, of which sentences are made.
+#![tactic(auto)]
+
 mod facts;
 mod items;
 
@@ -7,7 +9,7 @@ ghost use Rattle.rules.specs.Record.{limit, atom_places, bond_places};
 ghost use Rattle.line_property.specs.Listed.{places};
 
 use items::{Looked, Names, TABLE};
-use program_io::{Filled, Out, Text};
+use program_io::{Filled, Input, Out, Reason, System, Text};
 use program_verdict::Verdict;
 use reader_feed::Counter;
 use reader_pairs::KEYS;
@@ -15,7 +17,7 @@ use reader_resume::{Asked, Heard, Passed, Passing};
 use rules::{ATOMS, BONDS, LISTED};
 
 // How files are judged: up to the first refused record, or to the end.
-#[derive(Drop)]
+#[derive(Clone, Copy)]
 pub struct Way {
     pub sd: bool,
     pub progress: bool,
@@ -23,8 +25,8 @@ pub struct Way {
 }
 
 // The bytes from `at` to before `filled` stand in the buffer, after so many records and lines, and after `done` bytes.
-// In a refused record `behind` is said, and `left` and `seen` as in `Passing`. `no`, `line` and `column` are of the first refusal.
-#[derive(Drop)]
+// In a refused record `behind` is said, and `left` and `seen` as in `Passing`. `no`, `line` and `column` are of the first refusal, `why` of a failed read.
+#[derive(Clone, Copy)]
 struct Place {
     sd: bool,
     progress: bool,
@@ -41,6 +43,7 @@ struct Place {
     no: u8,
     line: usize,
     column: usize,
+    why: Reason,
     names: Names,
     out: Out,
 }
@@ -99,6 +102,7 @@ fn begin(way: Way, out: Out) -> Place {
         no: GOOD,
         line: 0,
         column: 0,
+        why: Reason::none(),
         names,
         out,
     }
@@ -134,6 +138,15 @@ impl Place {
             next.no = no;
             next.line = line;
             next.column = column;
+        }
+        next
+    }
+
+    // Where a read failed.
+    fn unread(self, why: Reason) -> Place {
+        let mut next = self.judged(UNREAD, 0, 0);
+        if self.no == GOOD {
+            next.why = why;
         }
         next
     }
@@ -240,34 +253,34 @@ fn look(
 }
 
 // The rest moved to the front, and more read behind it.
-fn refill(place: Place, fd: i32, buf: &mut [u8]) -> Did {
+fn refill(system: &System, place: Place, input: Input<'_>, buf: &mut [u8]) -> Did {
     let kept = program_io::keep(buf, place.at, place.filled);
     let done = program_verdict::plus(place.done, least(place.at, place.filled) as u64);
-    match program_io::fill(fd, buf, kept) {
+    match program_io::fill(input, buf, kept) {
         Filled::Bytes(n) => {
             let before = program_verdict::plus(done, kept as u64);
             let after = program_verdict::plus(done, n as u64);
-            program_verdict::note_passed(place.progress, before, after);
+            program_verdict::note_passed(system, place.progress, before, after);
             Did::Next(place.refilled(done, n))
         }
-        Filled::Failed => Did::End(place.judged(UNREAD, 0, 0)),
+        Filled::Failed(why) => Did::End(place.unread(why)),
     }
 }
 
 // More is read where there is more.
-fn read_on(place: Place, fd: i32, buf: &mut [u8]) -> Did {
+fn read_on(system: &System, place: Place, input: Input<'_>, buf: &mut [u8]) -> Did {
     if place.ended(less(buf.len())) {
         return Did::End(place);
     }
-    refill(place, fd, buf)
+    refill(system, place, input, buf)
 }
 
-fn after_behind(place: Place, p: Passed, fd: i32, buf: &mut [u8]) -> Did {
+fn after_behind(system: &System, place: Place, p: Passed, input: Input<'_>, buf: &mut [u8]) -> Did {
     match p {
         Passed::Behind { counter, used } => Did::Next(place.past(used).before(counter)),
         Passed::On(passing) => {
             let all = place.past(part(place, buf).len());
-            read_on(all.within(passing), fd, buf)
+            read_on(system, all.within(passing), input, buf)
         }
     }
 }
@@ -317,9 +330,10 @@ fn numbers(no: u8, line: usize, column: usize) -> Text {
 }
 
 fn after_record(
+    system: &System,
     place: Place,
     heard: Heard,
-    fd: i32,
+    input: Input<'_>,
     buf: &mut [u8],
     table: &mut [u64; TABLE],
     room: &mut [u8],
@@ -351,29 +365,31 @@ fn after_record(
             let told = refuse(place, s, passing, Text::new().word(b"long"), room);
             told.judged(LONG, counter.records, 0).on()
         }
-        Heard::More => read_on(place, fd, buf),
+        Heard::More => read_on(system, place, input, buf),
     }
 }
 
 fn act(
+    system: &System,
     place: Place,
     met: Met,
-    fd: i32,
+    input: Input<'_>,
     buf: &mut [u8],
     table: &mut [u64; TABLE],
     room: &mut [u8],
 ) -> Did {
     match met {
-        Met::Record(heard) => after_record(place, heard, fd, buf, table, room),
-        Met::Behind(p) => after_behind(place, p, fd, buf),
-        Met::Nothing => read_on(place, fd, buf),
+        Met::Record(heard) => after_record(system, place, heard, input, buf, table, room),
+        Met::Behind(p) => after_behind(system, place, p, input, buf),
+        Met::Nothing => read_on(system, place, input, buf),
     }
 }
 
 // The records of a file, to its end or to the first refused one. Turns are counted so that the loop ends, and no run uses them up.
 fn judge_records(
+    system: &System,
     begun: Place,
-    fd: i32,
+    input: Input<'_>,
     buf: &mut [u8],
     table: &mut [u64; TABLE],
     room: &mut [u8],
@@ -386,7 +402,7 @@ fn judge_records(
     let mut turns = u64::MAX;
     while turns > 0 {
         let met = look(place, buf, &mut atoms, &mut bonds, &mut listed, &mut keys);
-        match act(place, met, fd, buf, table, room) {
+        match act(system, place, met, input, buf, table, room) {
             Did::Next(p) => {
                 place = p;
             }
@@ -400,14 +416,15 @@ fn judge_records(
 }
 
 fn judge_open(
+    system: &System,
     begun: Place,
-    fd: i32,
+    input: Input<'_>,
     buf: &mut [u8],
     table: &mut [u64; TABLE],
     room: &mut [u8],
 ) -> Place {
-    match refill(begun, fd, buf) {
-        Did::Next(p) => judge_records(p, fd, buf, table, room),
+    match refill(system, begun, input, buf) {
+        Did::Next(p) => judge_records(system, p, input, buf, table, room),
         Did::End(p) => p,
     }
 }
@@ -422,7 +439,7 @@ fn verdict_of(place: Place) -> Verdict {
         return Verdict::TooLong { record: place.line };
     }
     if place.no == UNREAD {
-        return Verdict::Unreadable;
+        return Verdict::Unreadable(place.why);
     }
     Verdict::Refused {
         no: place.no,
@@ -455,31 +472,39 @@ fn finish(place: Place, table: &[u64; TABLE], room: &mut [u8]) -> Verdict {
     if done.good {
         return verdict_of(place);
     }
-    Verdict::Unwritten
+    Verdict::Unwritten(done.why)
 }
 
 // The buffer's last byte stands beside it: it tells whether input follows a full one.
 pub const BUFFER: usize = 1048577;
 
-fn judge_within(name: &[u8], fd: i32, way: Way, buf: &mut [u8], room: &mut [u8]) -> Verdict {
+fn judge_within(
+    system: &System,
+    name: &[u8],
+    input: Input<'_>,
+    way: Way,
+    buf: &mut [u8],
+    room: &mut [u8],
+) -> Verdict {
     let mut table = [0u64; TABLE];
-    let out = Out::new(libc::STDOUT_FILENO).text(room, Text::new().word(b"file "));
+    let out = Out::new(system).text(room, Text::new().word(b"file "));
     let begun = begin(way, facts::put_quoted(out, room, name));
-    let place = judge_open(begun, fd, buf, &mut table, room);
+    let place = judge_open(system, begun, input, buf, &mut table, room);
     finish(place, &table, room)
 }
 
 // An open file: facts on standard output, the verdict on its channel.
-pub fn judge(name: &[u8], fd: i32, way: Way, buf: &mut [u8; BUFFER]) {
+pub fn judge(system: &System, name: &[u8], input: Input<'_>, way: Way, buf: &mut [u8; BUFFER]) {
     let mut room = io::large_buffer();
-    program_verdict::tell(name, judge_within(name, fd, way, buf, &mut room));
+    let verdict = judge_within(system, name, input, way, buf, &mut room);
+    program_verdict::tell(system, name, verdict);
 }
 
 // A file that cannot be opened.
-pub fn cannot_open(name: &[u8]) {
-    program_verdict::tell(name, Verdict::Unreadable);
+pub fn cannot_open(system: &System, name: &[u8], why: Reason) {
+    program_verdict::tell(system, name, Verdict::Unreadable(why));
     let mut room = io::large_buffer();
-    let out = Out::new(libc::STDOUT_FILENO).text(&mut room, Text::new().word(b"file "));
+    let out = Out::new(system).text(&mut room, Text::new().word(b"file "));
     let named = facts::put_quoted(out, &mut room, name);
     let done = named.text(&mut room, Text::new().word(b"unread\n"));
     done.flush(&room);

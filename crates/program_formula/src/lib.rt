@@ -1,4 +1,6 @@
 // A record's formula against its atoms, as a line of JSON.
+#![tactic(auto)]
+
 use field_symbols::SYMBOLS;
 use formula_drawn::FOUND;
 use program_io::{Out, Text};

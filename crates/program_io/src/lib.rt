@@ -1,21 +1,29 @@
-// Input and output of the programs: a buffer filled from a descriptor, text gathered and written.
+// Input and output of the programs: a buffer filled from a file or from standard input, text gathered and written.
+#![tactic(auto)]
+
+mod channel;
+mod system;
+
 ghost use Rattle.std.specs.Prelude.{◌≡◌, true, ◌+◌, ◌-◌, ◌<◌, ◌≤◌, length};
 ghost use Rattle.program_io.specs.Moved.{moved};
 
+use std::io::Stdout;
+pub use system::{Input, Reason, System, Target, go_back, has_place};
+
 // What a filling brought. Fewer bytes than the buffer holds: the input has ended.
-#[derive(Drop)]
+#[derive(Clone, Copy)]
 pub enum Filled {
     Bytes(usize),
-    Failed,
+    Failed(Reason),
 }
 
 // What one read brought: the buffer is filled up to the number given.
-#[derive(Drop)]
+#[derive(Clone, Copy)]
 enum Got {
     UpTo(usize),
     End,
     Interrupted,
-    Failed,
+    Failed(Reason),
 }
 
 // The first n bytes of a buffer; all of it where n is more.
@@ -50,38 +58,34 @@ pub fn least(a: usize, b: usize) -> usize {
 }
 
 // A failed read, told from one that a signal interrupted.
-fn why_failed() -> Got {
-    if os::errno() == libc::EINTR {
+fn why_failed(why: Reason) -> Got {
+    if why.is_interrupted() {
         return Got::Interrupted;
     }
-    Got::Failed
+    Got::Failed(why)
 }
 
 // One read into what remains of the buffer.
-fn read_on(fd: i32, buf: &mut [u8], at: usize) -> Got
+fn read_on(input: Input<'_>, buf: &mut [u8], at: usize) -> Got
     requires { at < length buf.old }
 {
     let rest = &mut buf[at..];
-    let got = libc::read(fd, rest);
-    if got < 0 {
-        return why_failed();
+    match input.read(rest) {
+        Ok(n) => { if n == 0 { Got::End } else { Got::UpTo(at + n) } }
+        Err(why) => why_failed(why),
     }
-    if got == 0 {
-        return Got::End;
-    }
-    Got::UpTo(at + io::count(got, rest))
 }
 
 // Reads until the buffer is full, the input ends or a read fails; the first `from` bytes stand there already.
 // A read that a signal interrupts is made again; turns are counted so that the loop ends, and no run uses them up.
-pub fn fill(fd: i32, buf: &mut [u8], from: usize) -> Filled {
+pub fn fill(input: Input<'_>, buf: &mut [u8], from: usize) -> Filled {
     let mut at = from;
     let mut turns = u64::MAX;
     while turns > 0 {
         if buf.len() <= at {
             return Filled::Bytes(buf.len());
         }
-        match read_on(fd, buf, at) {
+        match read_on(input, buf, at) {
             Got::UpTo(n) => {
                 at = n;
             }
@@ -89,13 +93,13 @@ pub fn fill(fd: i32, buf: &mut [u8], from: usize) -> Filled {
                 return Filled::Bytes(at);
             }
             Got::Interrupted => {}
-            Got::Failed => {
-                return Filled::Failed;
+            Got::Failed(why) => {
+                return Filled::Failed(why);
             }
         }
         turns -= 1;
     }
-    Filled::Failed
+    Filled::Failed(Reason::interrupted())
 }
 
 // The bytes from `from` to before `to`, moved to the front; answers how many they are.
@@ -142,7 +146,7 @@ pub fn has_more(length: usize, at: usize, n: usize) -> bool
 const SHORT: usize = 128;
 
 // A short text, passed on by value; what does not fit is left out, and no text here is so long.
-#[derive(Drop)]
+#[derive(Clone, Copy)]
 pub struct Text {
     bytes: [u8; SHORT],
     used: usize,
@@ -192,42 +196,59 @@ impl Text {
         self.word(&digits[..k])
     }
 
-    // Whether all of it was written.
-    pub fn write(self, fd: i32) -> bool {
-        io::write_all(fd, front(&self.bytes, self.used))
+    // All of it is written, or the reason is told why not.
+    pub fn write(self, system: &System, to: Target) -> Result<(), Reason> {
+        system.write(to, front(&self.bytes, self.used))
     }
 }
 
-// Text gathered in a lent room for a descriptor: how much of the room is filled, and whether all went well so far.
-#[derive(Drop)]
+// Text gathered in a lent room for standard output: how much of the room is filled, and whether all went well so far, or why a write failed.
+#[derive(Clone, Copy)]
 pub struct Out {
-    pub fd: i32,
+    stdout: Stdout,
     pub used: usize,
     pub good: bool,
+    pub why: Reason,
 }
 
 impl Out {
-    pub fn new(fd: i32) -> Out {
+    pub fn new(system: &System) -> Out {
         Out {
-            fd,
+            stdout: system.stdout(),
             used: 0,
             good: true,
+            why: Reason::none(),
+        }
+    }
+
+    // The room is empty after a write.
+    fn written(self, put: Result<(), Reason>) -> Out {
+        match put {
+            Ok(()) => Out {
+                stdout: self.stdout,
+                used: 0,
+                good: true,
+                why: self.why,
+            },
+            Err(why) => Out {
+                stdout: self.stdout,
+                used: 0,
+                good: false,
+                why,
+            },
         }
     }
 
     // What is gathered is written, unless a write has failed before.
     pub fn flush(self, room: &[u8]) -> Out {
         if self.good {
-            return Out {
-                fd: self.fd,
-                used: 0,
-                good: io::write_all(self.fd, front(room, self.used)),
-            };
+            return self.written(system::put_all(self.stdout, front(room, self.used)));
         }
         Out {
-            fd: self.fd,
+            stdout: self.stdout,
             used: 0,
             good: false,
+            why: self.why,
         }
     }
 
@@ -242,17 +263,19 @@ impl Out {
     // The room is filled up to this place.
     pub fn to(self, used: usize) -> Out {
         Out {
-            fd: self.fd,
+            stdout: self.stdout,
             used,
             good: self.good,
+            why: self.why,
         }
     }
 
     pub fn failed(self) -> Out {
         Out {
-            fd: self.fd,
+            stdout: self.stdout,
             used: 0,
             good: false,
+            why: self.why,
         }
     }
 
@@ -261,15 +284,17 @@ impl Out {
         if 0 < room.len() {
             room[0] = b;
             return Out {
-                fd: self.fd,
+                stdout: self.stdout,
                 used: 1,
                 good: self.good,
+                why: self.why,
             };
         }
         Out {
-            fd: self.fd,
+            stdout: self.stdout,
             used: 0,
             good: false,
+            why: self.why,
         }
     }
 
@@ -279,9 +304,10 @@ impl Out {
         if at < room.len() {
             room[at] = b;
             return Out {
-                fd: self.fd,
+                stdout: self.stdout,
                 used: at + 1,
                 good: self.good,
+                why: self.why,
             };
         }
         self.flush(room).first(room, b)
@@ -303,16 +329,18 @@ impl Out {
         if at <= room.len() {
             if n <= room.len() - at {
                 return Out {
-                    fd: self.fd,
+                    stdout: self.stdout,
                     used: at + n,
                     good: self.good,
+                    why: self.why,
                 };
             }
         }
         Out {
-            fd: self.fd,
+            stdout: self.stdout,
             used: at,
             good: false,
+            why: self.why,
         }
     }
 
@@ -322,11 +350,10 @@ impl Out {
 }
 
 // Whether argument i is this word, of at most 64 bytes.
-pub fn is_argument(i: usize, word: &[u8]) -> bool {
+pub fn is_argument(system: &System, i: usize, word: &[u8]) -> bool {
     let mut text = [0u8; 64];
-    let n = os::arg(i, &mut text);
-    if os::errno() == 0 {
-        return check::same(&text[..n], word);
+    match system.argument(i, &mut text) {
+        Ok(n) => check::same(&text[..n], word),
+        Err(_) => false,
     }
-    false
 }

@@ -1,4 +1,6 @@
 // The reading of a record as JSON, gathered for a descriptor.
+#![tactic(auto)]
+
 mod bounds;
 mod listing;
 mod strings;
@@ -86,14 +88,14 @@ pub fn put_lines(out: Out, room: &mut [u8], s: &[u8], from: usize, to: usize) ->
 }
 
 // Where a record stands in its file: its number and its first line.
-#[derive(Drop)]
+#[derive(Clone, Copy)]
 pub struct Place {
     pub record: usize,
     pub line: usize,
 }
 
 // Where a record stands in the bytes handed on, and its numbers.
-#[derive(Drop)]
+#[derive(Clone, Copy)]
 pub struct Reading {
     pub place: Place,
     pub length: usize,

@@ -1,4 +1,6 @@
 // Rows of the tables as JSON, at a place of lent room that has enough left. Each function answers the place behind what it has put.
+#![tactic(auto)]
+
 ghost use Rattle.std.specs.Prelude.{◌≡◌, ◌+◌, ◌-◌, ◌*◌, ◌≤◌, ◌<◌, length};
 
 // Numbers of an atom, and of a bond.

@@ -1,20 +1,22 @@
 // An SDfile of any length mended record by record, in constant memory. It is judged whole at a first reading, so nothing is written of a refused one.
+#![tactic(auto)]
+
 mod cut;
 mod list;
 
 use cut::{LIST, ROOM, Tried};
 use mend_file::Mended;
-use program_io::Filled;
+use program_io::{Filled, Input, System, Target};
 use program_verdict::Verdict;
+use std::fs::File;
 
 // Bytes of a record, or of the blank lines at the end of a file.
 const BUFFER: usize = 1048577;
 
 // A reading: the bytes from `at` to before `filled` stand in the buffer, and nothing follows them once it has ended; records, lines of the file and
 // lines of the mended text so far.
-#[derive(Drop)]
+#[derive(Clone, Copy)]
 struct Pass {
-    fd: i32,
     writing: bool,
     at: usize,
     filled: usize,
@@ -31,9 +33,8 @@ enum Turn {
 }
 
 impl Pass {
-    fn new(fd: i32, writing: bool) -> Pass {
+    fn new(writing: bool) -> Pass {
         Pass {
-            fd,
             writing,
             at: 0,
             filled: 0,
@@ -54,7 +55,6 @@ impl Pass {
     // The rest of the buffer stands at its front, with more behind it.
     fn refilled(self, filled: usize) -> Pass {
         Pass {
-            fd: self.fd,
             writing: self.writing,
             at: 0,
             filled,
@@ -72,7 +72,6 @@ impl Pass {
             at = self.at + came.len();
         }
         Pass {
-            fd: self.fd,
             writing: self.writing,
             at,
             filled: self.filled,
@@ -99,6 +98,7 @@ impl Pass {
 
 // A mended record: at the second reading its repairs are told and its text is written.
 fn emit(
+    system: &System,
     name: &[u8],
     pass: Pass,
     came: &[u8],
@@ -107,26 +107,26 @@ fn emit(
     count: usize,
 ) -> Turn {
     if pass.writing {
-        list::say_all(name, pass.lines, repairs, count);
-        if io::write_all(libc::STDOUT_FILENO, text) {
-            return Turn::Next(pass.past(came, text));
-        }
-        return Turn::End(Verdict::Unwritten);
+        list::say_all(system, name, pass.lines, repairs, count);
+        return match system.write(Target::Output, text) {
+            Ok(()) => Turn::Next(pass.past(came, text)),
+            Err(why) => Turn::End(Verdict::Unwritten(why)),
+        };
     }
     Turn::Next(pass.past(came, text))
 }
 
 // More is read behind what there is of the record.
-fn refill(buf: &mut [u8; BUFFER], pass: Pass) -> Turn {
+fn refill(file: &File, buf: &mut [u8; BUFFER], pass: Pass) -> Turn {
     let kept = program_io::keep(buf, pass.at, pass.filled);
     if kept == BUFFER {
         return Turn::End(Verdict::TooLong {
             record: pass.count(),
         });
     }
-    match program_io::fill(pass.fd, buf, kept) {
+    match program_io::fill(Input::Opened(file), buf, kept) {
         Filled::Bytes(n) => Turn::Next(pass.refilled(n)),
-        Filled::Failed => Turn::End(Verdict::Unreadable),
+        Filled::Failed(why) => Turn::End(Verdict::Unreadable(why)),
     }
 }
 
@@ -145,18 +145,18 @@ fn is_blank(s: &[u8]) -> bool {
 }
 
 // So many blank lines at the end of the file are dropped.
-fn drop_lines(name: &[u8], before: u64, count: u64) {
+fn drop_lines(system: &System, name: &[u8], before: u64, count: u64) {
     let mut k: u64 = 0;
     while k < count {
         k += 1;
-        list::say(name, list::plus(before, k), 2);
+        list::say(system, name, list::plus(before, k), 2);
     }
 }
 
 // The blank lines after the last record.
-fn drop_tail(name: &[u8], pass: Pass, s: &[u8]) -> Verdict {
+fn drop_tail(system: &System, name: &[u8], pass: Pass, s: &[u8]) -> Verdict {
     if pass.writing {
-        drop_lines(name, pass.lines, list::lines_in(s));
+        drop_lines(system, name, pass.lines, list::lines_in(s));
     }
     Verdict::Accepted {
         records: pass.records,
@@ -165,6 +165,7 @@ fn drop_tail(name: &[u8], pass: Pass, s: &[u8]) -> Verdict {
 
 // What is left of a file that has ended, with no `$$$$` line that ends a record.
 fn take_last(
+    system: &System,
     name: &[u8],
     pass: Pass,
     s: &[u8],
@@ -176,6 +177,7 @@ fn take_last(
             length,
             repairs: count,
         } => emit(
+            system,
             name,
             pass,
             s,
@@ -188,6 +190,7 @@ fn take_last(
 }
 
 fn take_rest(
+    system: &System,
     name: &[u8],
     pass: Pass,
     s: &[u8],
@@ -200,17 +203,19 @@ fn take_rest(
         });
     }
     if pass.records == 0 {
-        return take_last(name, pass, s, room, repairs);
+        return take_last(system, name, pass, s, room, repairs);
     }
     if is_blank(s) {
-        return Turn::End(drop_tail(name, pass, s));
+        return Turn::End(drop_tail(system, name, pass, s));
     }
-    take_last(name, pass, s, room, repairs)
+    take_last(system, name, pass, s, room, repairs)
 }
 
 // What the bytes in the buffer come to, where they are not all there is of a record.
 fn take_short(
+    system: &System,
     name: &[u8],
+    file: &File,
     buf: &mut [u8; BUFFER],
     room: &mut [u8; ROOM],
     repairs: &mut [u64; LIST],
@@ -218,14 +223,16 @@ fn take_short(
 ) -> Turn {
     if pass.ended {
         let s = program_json::part(buf, pass.at, pass.filled);
-        return take_rest(name, pass, s, room, repairs);
+        return take_rest(system, name, pass, s, room, repairs);
     }
-    refill(buf, pass)
+    refill(file, buf, pass)
 }
 
 // The next record.
 fn take_turn(
+    system: &System,
     name: &[u8],
+    file: &File,
     buf: &mut [u8; BUFFER],
     room: &mut [u8; ROOM],
     repairs: &mut [u64; LIST],
@@ -238,6 +245,7 @@ fn take_turn(
             length,
             repairs: count,
         } => emit(
+            system,
             name,
             pass,
             program_io::front(s, end),
@@ -246,13 +254,15 @@ fn take_turn(
             count,
         ),
         Tried::Refused { no, line, column } => Turn::End(pass.refuse(no, line, column)),
-        Tried::Short => take_short(name, buf, room, repairs, pass),
+        Tried::Short => take_short(system, name, file, buf, room, repairs, pass),
     }
 }
 
 // One reading. Turns are counted so that the loop ends, and no run uses them up.
 fn read_through(
+    system: &System,
     name: &[u8],
+    file: &File,
     buf: &mut [u8; BUFFER],
     room: &mut [u8; ROOM],
     repairs: &mut [u64; LIST],
@@ -261,7 +271,7 @@ fn read_through(
     let mut pass = begun;
     let mut turns = u64::MAX;
     while turns > 0 {
-        match take_turn(name, buf, room, repairs, pass) {
+        match take_turn(system, name, file, buf, room, repairs, pass) {
             Turn::Next(p) => {
                 pass = p;
             }
@@ -288,57 +298,51 @@ fn settled(v: Verdict) -> Verdict {
 }
 
 // A reading from the file's start.
-fn read_whole(name: &[u8], fd: i32, writing: bool) -> Verdict {
+fn read_whole(system: &System, name: &[u8], file: &File, writing: bool) -> Verdict {
     let mut buf = [0u8; BUFFER];
     let mut room = [0u8; ROOM];
     let mut repairs = [0u64; LIST];
-    let begun = Pass::new(fd, writing);
-    read_through(name, &mut buf, &mut room, &mut repairs, begun)
+    let begun = Pass::new(writing);
+    read_through(system, name, file, &mut buf, &mut room, &mut repairs, begun)
 }
 
 // Both readings of an open file.
-fn mend_open(name: &[u8], fd: i32) -> Verdict {
-    if libc::lseek(fd, 0, libc::SEEK_CUR) < 0 {
+fn mend_open(system: &System, name: &[u8], file: &File) -> Verdict {
+    if !program_io::has_place(file) {
         return Verdict::Once;
     }
-    let first = read_whole(name, fd, false);
-    if libc::lseek(fd, 0, libc::SEEK_SET) < 0 {
+    let first = read_whole(system, name, file, false);
+    if !program_io::go_back(file) {
         return Verdict::Once;
     }
     match first {
-        Verdict::Accepted { records: _ } => settled(read_whole(name, fd, true)),
+        Verdict::Accepted { records: _ } => settled(read_whole(system, name, file, true)),
         _ => first,
     }
 }
 
-fn mend_named(path: &[u8], name: &[u8]) {
-    let fd = os::open_read(path);
-    if fd < 0 {
-        program_verdict::tell(name, Verdict::Unreadable);
-        return;
-    }
-    program_verdict::tell(name, mend_open(name, fd));
-    libc::close(fd);
+fn mend_named(system: &System, path: &[u8], name: &[u8]) {
+    let verdict = match system.open_read(path) {
+        Ok(file) => mend_open(system, name, &file),
+        Err(why) => Verdict::Unreadable(why),
+    };
+    program_verdict::tell(system, name, verdict);
 }
 
 // Argument 2 is the name that is said, where there is one.
-fn mend_at(path: &[u8]) {
+fn mend_at(system: &System, path: &[u8]) {
     let mut name = io::buffer();
-    let n = os::arg(2, &mut name);
-    if os::errno() == 0 {
-        mend_named(path, &name[..n]);
-    } else {
-        mend_named(path, path);
+    match system.argument(2, &mut name) {
+        Ok(n) => mend_named(system, path, &name[..n]),
+        Err(_) => mend_named(system, path, path),
     }
 }
 
 // The file that argument 1 names: its mended text on standard output, its repairs on standard error.
-pub fn run() {
+pub fn run(system: &System) {
     let mut path = io::buffer();
-    let n = os::arg(1, &mut path);
-    if os::errno() == 0 {
-        mend_at(&path[..n]);
-    } else {
-        program_verdict::tell(b"file name", Verdict::Unreadable);
+    match system.argument(1, &mut path) {
+        Ok(n) => mend_at(system, &path[..n]),
+        Err(why) => program_verdict::tell(system, b"file name", Verdict::Unreadable(why)),
     }
 }

@@ -1,6 +1,6 @@
 // What is said of each repair, on standard error.
 use crate::cut::LIST;
-use program_io::Text;
+use program_io::{System, Target, Text};
 
 // A sum that stays at the largest number.
 pub fn plus(a: u64, b: u64) -> u64 {
@@ -54,17 +54,17 @@ fn words(what: u64) -> Text {
 }
 
 // One repair at a line of the file.
-pub fn say(name: &[u8], line: u64, what: u64) {
-    io::write_all(libc::STDERR_FILENO, name);
-    Text::new()
+pub fn say(system: &System, name: &[u8], line: u64, what: u64) {
+    let _ = system.write(Target::Errors, name);
+    let _ = Text::new()
         .byte(b':')
         .number(line)
-        .write(libc::STDERR_FILENO);
-    words(what).write(libc::STDERR_FILENO);
+        .write(system, Target::Errors);
+    let _ = words(what).write(system, Target::Errors);
 }
 
 // The repairs of a record, before which so many lines stand.
-pub fn say_all(name: &[u8], before: u64, list: &[u64; LIST], repairs: usize) {
+pub fn say_all(system: &System, name: &[u8], before: u64, list: &[u64; LIST], repairs: usize) {
     let mut i: usize = 0;
     let mut k: usize = 0;
     while k < repairs {
@@ -72,6 +72,7 @@ pub fn say_all(name: &[u8], before: u64, list: &[u64; LIST], repairs: usize) {
             return;
         }
         say(
+            system,
             name,
             plus(before, number_at(list, i)),
             number_at(list, i + 1),

@@ -1,4 +1,6 @@
 // The pieces of a record as a line of JSON: the pieces first, then each atom's lowest.
+#![tactic(auto)]
+
 ghost use Rattle.std.specs.Prelude.{◌≤◌};
 ghost use Rattle.rules.specs.Record.{limit};
 

@@ -1,12 +1,15 @@
 // The records of an accepted file, written one after the other. The file is read twice and judged first, so nothing of a refused one is written.
+#![tactic(auto)]
+
 mod record;
 
-use program_io::{Filled, Out};
+use program_io::{Filled, Input, Out, System};
 use program_json_rows::{ATOMS, BONDS};
 use program_verdict::Verdict;
+use std::fs::File;
 
 // Every record as JSON; the item of a name; the canonical text; the pieces; the formula against the atoms.
-#[derive(Drop)]
+#[derive(Clone, Copy)]
 pub enum Task {
     Readings,
     Item,
@@ -16,7 +19,7 @@ pub enum Task {
 }
 
 // How files are written.
-#[derive(Drop)]
+#[derive(Clone, Copy)]
 struct Way {
     task: Task,
     sd: bool,
@@ -24,7 +27,7 @@ struct Way {
 }
 
 // The second reading: the bytes from `at` to before `filled` stand in the buffer, after so many records and lines; the output so far.
-#[derive(Drop)]
+#[derive(Clone, Copy)]
 struct Pass {
     task: Task,
     sd: bool,
@@ -54,9 +57,9 @@ const BUFFER: usize = 1048577;
 const ROOM: usize = 1310720;
 
 // The rest moved to the front, and more read behind it.
-fn refill(fd: i32, buf: &mut [u8], pass: Pass) -> Stepped {
+fn refill(file: &File, buf: &mut [u8], pass: Pass) -> Stepped {
     let kept = program_io::keep(buf, pass.at, pass.filled);
-    match program_io::fill(fd, buf, kept) {
+    match program_io::fill(Input::Opened(file), buf, kept) {
         Filled::Bytes(n) => {
             let mut next = pass;
             next.at = 0;
@@ -64,7 +67,7 @@ fn refill(fd: i32, buf: &mut [u8], pass: Pass) -> Stepped {
             next.ended = n < buf.len();
             Stepped::Next(next)
         }
-        Filled::Failed => Stepped::Failed(Verdict::Unreadable),
+        Filled::Failed(why) => Stepped::Failed(Verdict::Unreadable(why)),
     }
 }
 
@@ -80,13 +83,13 @@ fn has_changed(pass: Pass, room: usize) -> bool {
 }
 
 // More is read for a record that is not wholly there.
-fn read_on(fd: i32, buf: &mut [u8], pass: Pass, stepped: Stepped) -> Stepped {
+fn read_on(file: &File, buf: &mut [u8], pass: Pass, stepped: Stepped) -> Stepped {
     match stepped {
         Stepped::Short => {
             if has_changed(pass, buf.len()) {
                 Stepped::Failed(Verdict::Changed)
             } else {
-                refill(fd, buf, pass)
+                refill(file, buf, pass)
             }
         }
         _ => stepped,
@@ -116,10 +119,10 @@ fn finish(pass: Pass, room: &[u8], records: usize) -> Verdict {
         }
         return Verdict::Changed;
     }
-    Verdict::Unwritten
+    Verdict::Unwritten(done.why)
 }
 
-fn begin(way: Way) -> Pass {
+fn begin(system: &System, way: Way) -> Pass {
     let task = way.task;
     Pass {
         task,
@@ -130,27 +133,28 @@ fn begin(way: Way) -> Pass {
         records: 0,
         lines: 0,
         apart: 0,
-        out: Out::new(libc::STDOUT_FILENO),
+        out: Out::new(system),
     }
 }
 
 // The second reading. Turns are counted so that the loop ends, and no run uses them up.
 fn write_records(
+    system: &System,
     way: Way,
     item: &[u8],
-    fd: i32,
+    file: &File,
     buf: &mut [u8],
     room: &mut [u8],
     records: usize,
 ) -> Verdict {
     let mut atoms = [0i32; ATOMS];
     let mut bonds = [0i32; BONDS];
-    let mut pass = begin(way);
+    let mut pass = begin(system, way);
     let mut turns = u64::MAX;
     while turns > 0 {
         let s = program_json::part(buf, pass.at, pass.filled);
         let stepped = record::put_next(pass, item, s, room, &mut atoms, &mut bonds);
-        match read_on(fd, buf, pass, stepped) {
+        match read_on(file, buf, pass, stepped) {
             Stepped::Next(p) => {
                 pass = p;
             }
@@ -170,82 +174,98 @@ fn write_records(
 }
 
 // Lines of JSON leave the room in pieces.
-fn write_lines(way: Way, item: &[u8], fd: i32, buf: &mut [u8; BUFFER], records: usize) -> Verdict {
+fn write_lines(
+    system: &System,
+    way: Way,
+    item: &[u8],
+    file: &File,
+    buf: &mut [u8; BUFFER],
+    records: usize,
+) -> Verdict {
     let mut room = io::large_buffer();
-    write_records(way, item, fd, buf, &mut room, records)
+    write_records(system, way, item, file, buf, &mut room, records)
 }
 
 fn write_within(
+    system: &System,
     way: Way,
-    fd: i32,
+    file: &File,
     buf: &mut [u8; BUFFER],
     room: &mut [u8; ROOM],
     records: usize,
 ) -> Verdict {
-    write_records(way, b"", fd, buf, room, records)
+    write_records(system, way, b"", file, buf, room, records)
 }
 
-fn write_canon(way: Way, fd: i32, buf: &mut [u8; BUFFER], records: usize) -> Verdict {
+fn write_canon(
+    system: &System,
+    way: Way,
+    file: &File,
+    buf: &mut [u8; BUFFER],
+    records: usize,
+) -> Verdict {
     let mut room = [0u8; ROOM];
-    write_within(way, fd, buf, &mut room, records)
+    write_within(system, way, file, buf, &mut room, records)
 }
 
 // Both readings.
-fn write_judged(way: Way, item: &[u8], fd: i32, buf: &mut [u8; BUFFER]) -> Verdict {
-    let v = program_verdict::judge_first(fd, way.sd, buf, way.progress);
+fn write_judged(
+    system: &System,
+    way: Way,
+    item: &[u8],
+    file: &File,
+    buf: &mut [u8; BUFFER],
+) -> Verdict {
+    let v = program_verdict::judge_first(system, file, way.sd, buf, way.progress);
     let Verdict::Accepted { records } = v else {
         return v;
     };
     let task = way.task;
     match task {
-        Task::Canon => write_canon(way, fd, buf, records),
-        _ => write_lines(way, item, fd, buf, records),
+        Task::Canon => write_canon(system, way, file, buf, records),
+        _ => write_lines(system, way, item, file, buf, records),
     }
 }
 
 // An open file: judged, then written.
-fn write_open(way: Way, item: &[u8], fd: i32) -> Verdict {
+fn write_open(system: &System, way: Way, item: &[u8], file: &File) -> Verdict {
     let mut buf = [0u8; BUFFER];
-    write_judged(way, item, fd, &mut buf)
+    write_judged(system, way, item, file, &mut buf)
 }
 
 // A file by its name; its verdict is announced, and what failed is said on standard error.
-fn write_file(way: Way, item: &[u8], name: &[u8]) {
-    let fd = os::open_read(name);
-    if fd < 0 {
-        program_verdict::tell(name, Verdict::Unreadable);
-        return;
-    }
-    program_verdict::tell(name, write_open(way, item, fd));
-    libc::close(fd);
+fn write_file(system: &System, way: Way, item: &[u8], name: &[u8]) {
+    let verdict = match system.open_read(name) {
+        Ok(file) => write_open(system, way, item, &file),
+        Err(why) => Verdict::Unreadable(why),
+    };
+    program_verdict::tell(system, name, verdict);
 }
 
-fn write_argument(way: Way, item: &[u8], i: usize) {
+fn write_argument(system: &System, way: Way, item: &[u8], i: usize) {
     let mut name = io::buffer();
-    let n = os::arg(i, &mut name);
-    if os::errno() == 0 {
-        write_file(way, item, &name[..n]);
-    } else {
-        program_verdict::tell(b"file name", Verdict::Unreadable);
+    match system.argument(i, &mut name) {
+        Ok(n) => write_file(system, way, item, &name[..n]),
+        Err(why) => program_verdict::tell(system, b"file name", Verdict::Unreadable(why)),
     }
 }
 
-fn write_arguments(way: Way, item: &[u8], from: usize) {
-    let count = os::arg_count();
+fn write_arguments(system: &System, way: Way, item: &[u8], from: usize) {
+    let count = system.argument_count();
     let mut i = from;
     while i < count {
-        write_argument(way, item, i);
+        write_argument(system, way, item, i);
         i += 1;
     }
 }
 
 // The files that the arguments from `from` on name, perhaps after `--progress`.
-pub fn run(task: Task, sd: bool, item: &[u8], from: usize) {
-    let progress = program_io::is_argument(from, b"--progress");
+pub fn run(system: &System, task: Task, sd: bool, item: &[u8], from: usize) {
+    let progress = program_io::is_argument(system, from, b"--progress");
     let way = Way { task, sd, progress };
     if progress {
-        write_arguments(way, item, program_io::plus(from, 1));
+        write_arguments(system, way, item, program_io::plus(from, 1));
     } else {
-        write_arguments(way, item, from);
+        write_arguments(system, way, item, from);
     }
 }

@@ -22,7 +22,7 @@ fn behind(pass: Pass, length: usize, lines: usize, out: Out) -> Stepped {
         next.out = out;
         return Stepped::Next(next);
     }
-    Stepped::Failed(Verdict::Unwritten)
+    Stepped::Failed(Verdict::Unwritten(out.why))
 }
 
 // What was accepted at the first reading is only cut short by the buffer.
@@ -183,7 +183,7 @@ fn make_room(pass: Pass, room: &[u8]) -> Stepped {
         next.out = out;
         return Stepped::Next(next);
     }
-    Stepped::Failed(Verdict::Unwritten)
+    Stepped::Failed(Verdict::Unwritten(out.why))
 }
 
 fn after_copy(pass: Pass, room: &[u8], copied: Copied) -> Stepped {

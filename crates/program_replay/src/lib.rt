@@ -1,17 +1,19 @@
 // A scanner log of any length, replayed through one buffer: a JSON line for each count and each skipped event, then the lots and the sums.
+#![tactic(auto)]
+
 mod lines;
 mod reading;
 
 pub use lines::key_of;
 use lines::{put_count, put_lots, put_skip, put_sums};
-use program_io::Out;
+use program_io::{Input, Out, Reason, System};
 use program_verdict::Verdict;
 pub use reading::{Reading, SIZE};
 use store_lots::{KEYS, LOTS};
 use store_replay::{Replay, Step};
 
 // The reading, with sums and output so far.
-#[derive(Drop)]
+#[derive(Clone, Copy)]
 struct Pass {
     reading: Reading,
     received: u64,
@@ -86,6 +88,7 @@ fn take_event(
 
 // The next event, or more of the log.
 fn take_turn(
+    input: Input<'_>,
     buf: &mut [u8; SIZE],
     room: &mut [u8; SIZE],
     keys: &mut [u32; KEYS],
@@ -97,81 +100,87 @@ fn take_turn(
         return take_event(reading.log(buf), room, keys, papers, pass);
     }
     let mut next = pass;
-    next.reading = reading.refill(buf);
+    next.reading = reading.refill(input, buf);
     next
 }
 
-// The end of a replay: lots and sums, and all that is gathered is written; whether all went well.
-fn finish(room: &mut [u8; SIZE], keys: &[u32; KEYS], papers: &[u32; LOTS], pass: Pass) -> bool {
+// The end of a replay: lots and sums, and all that is gathered is written; or why not all went well.
+fn finish(
+    room: &mut [u8; SIZE],
+    keys: &[u32; KEYS],
+    papers: &[u32; LOTS],
+    pass: Pass,
+) -> Result<(), Reason> {
     let reading = pass.reading;
     let state = reading.state;
     let listed = put_lots(pass.out, room, keys, papers, state.lots);
     let summed = put_sums(listed, room, papers, state, pass.received, pass.issued);
     let done = summed.flush(room);
-    done.good
+    if done.good {
+        return Ok(());
+    }
+    Err(done.why)
 }
 
 // An open log. Turns are counted so that the loop ends, and no run uses them up.
 fn replay(
-    fd: i32,
+    system: &System,
+    input: Input<'_>,
     buf: &mut [u8; SIZE],
     room: &mut [u8; SIZE],
     keys: &mut [u32; KEYS],
     papers: &mut [u32; LOTS],
 ) -> Verdict {
     let mut pass = Pass {
-        reading: Reading::new(fd),
+        reading: Reading::new(),
         received: 0,
         issued: 0,
-        out: Out::new(libc::STDOUT_FILENO),
+        out: Out::new(system),
     };
     let mut turns = u64::MAX;
     while turns > 0 {
-        pass = take_turn(buf, room, keys, papers, pass);
+        pass = take_turn(input, buf, room, keys, papers, pass);
         let reading = pass.reading;
         if !reading.on {
             if reading.failed {
-                return Verdict::Unreadable;
+                return Verdict::Unreadable(reading.why);
             }
-            if finish(room, keys, papers, pass) {
-                return reading.verdict();
-            }
-            return Verdict::Unwritten;
+            return match finish(room, keys, papers, pass) {
+                Ok(()) => reading.verdict(),
+                Err(why) => Verdict::Unwritten(why),
+            };
         }
         turns -= 1;
     }
     Verdict::Endless
 }
 
-fn replay_open(fd: i32) -> Verdict {
+fn replay_open(system: &System, input: Input<'_>) -> Verdict {
     let mut buf = [0u8; SIZE];
     let mut room = [0u8; SIZE];
     let mut keys = [0u32; KEYS];
     let mut papers = [0u32; LOTS];
-    replay(fd, &mut buf, &mut room, &mut keys, &mut papers)
+    replay(system, input, &mut buf, &mut room, &mut keys, &mut papers)
 }
 
-fn replay_file(name: &[u8]) {
+fn replay_file(system: &System, name: &[u8]) {
     if check::same(name, b"-") {
-        program_verdict::tell(name, replay_open(libc::STDIN_FILENO));
+        let verdict = replay_open(system, system.stdin());
+        program_verdict::tell(system, name, verdict);
         return;
     }
-    let fd = os::open_read(name);
-    if fd < 0 {
-        program_verdict::tell(name, Verdict::Unreadable);
-        return;
-    }
-    program_verdict::tell(name, replay_open(fd));
-    libc::close(fd);
+    let verdict = match system.open_read(name) {
+        Ok(file) => replay_open(system, Input::Opened(&file)),
+        Err(why) => Verdict::Unreadable(why),
+    };
+    program_verdict::tell(system, name, verdict);
 }
 
 // The log that argument `from` names, `-` for standard input. Of a refusal the verdict's line is the event's number, and its column 0.
-pub fn run(from: usize) {
+pub fn run(system: &System, from: usize) {
     let mut name = io::buffer();
-    let n = os::arg(from, &mut name);
-    if os::errno() == 0 {
-        replay_file(&name[..n]);
-    } else {
-        program_verdict::tell(b"file name", Verdict::Unreadable);
+    match system.argument(from, &mut name) {
+        Ok(n) => replay_file(system, &name[..n]),
+        Err(why) => program_verdict::tell(system, b"file name", Verdict::Unreadable(why)),
     }
 }

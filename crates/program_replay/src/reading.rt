@@ -1,5 +1,5 @@
 // A log that is read through one buffer: where the replay stands in it, and how it ends.
-use program_io::Filled;
+use program_io::{Filled, Input, Reason};
 use program_verdict::Verdict;
 use store_replay::Replay;
 
@@ -10,28 +10,28 @@ pub const SIZE: usize = 65536;
 const LONGEST: usize = 15;
 
 // The replay stands at a place of the buffer, of which so many bytes are filled; whether nothing follows them. Whether the replay goes on; and where it does
-// not, whether a read failed, or the number of a refusal and of its event, 0 at the log's end.
-#[derive(Drop)]
+// not, whether a read failed, and why, or the number of a refusal and of its event, 0 at the log's end.
+#[derive(Clone, Copy)]
 pub struct Reading {
-    fd: i32,
     pub state: Replay,
     filled: usize,
     ended: bool,
     pub on: bool,
     pub failed: bool,
+    pub why: Reason,
     no: u8,
     event: usize,
 }
 
 impl Reading {
-    pub fn new(fd: i32) -> Reading {
+    pub fn new() -> Reading {
         Reading {
-            fd,
             state: Replay::new(),
             filled: 0,
             ended: false,
             on: true,
             failed: false,
+            why: Reason::none(),
             no: 0,
             event: 0,
         }
@@ -68,11 +68,11 @@ impl Reading {
     }
 
     // The rest moved to the front, and more read behind it.
-    pub fn refill(self, buf: &mut [u8; SIZE]) -> Reading {
+    pub fn refill(self, input: Input<'_>, buf: &mut [u8; SIZE]) -> Reading {
         let mut state = self.state;
         let mut reading = self;
         let kept = program_io::keep(buf, state.at, self.filled);
-        match program_io::fill(self.fd, buf, kept) {
+        match program_io::fill(input, buf, kept) {
             Filled::Bytes(n) => {
                 state.at = 0;
                 reading.state = state;
@@ -80,9 +80,10 @@ impl Reading {
                 reading.ended = n < SIZE;
                 reading
             }
-            Filled::Failed => {
+            Filled::Failed(why) => {
                 reading.on = false;
                 reading.failed = true;
+                reading.why = why;
                 reading
             }
         }
@@ -94,7 +95,7 @@ impl Reading {
             return Verdict::Endless;
         }
         if self.failed {
-            return Verdict::Unreadable;
+            return Verdict::Unreadable(self.why);
         }
         let state = self.state;
         if self.no == 0 {

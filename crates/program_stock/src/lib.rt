@@ -1,12 +1,15 @@
 // The scanner log against the catalogue, lot by lot, in constant memory. The log is replayed twice, first for the store and then for the last
 // counts of its lots. Each file is judged, and then its records are counted; for each of the two lists all files are read again.
+#![tactic(auto)]
+
 mod lines;
 mod log;
 mod walk;
 
 use lines::{ROOM, Way};
-use program_io::{Out, Text};
+use program_io::{Out, Reason, System, Target, Text};
 use program_verdict::Verdict;
+use std::fs::File;
 use stock_counts::COUNTS;
 use stock_join::{Join, MARKS};
 use store_lots::{KEYS, LOTS};
@@ -32,7 +35,6 @@ fn path_argument(file: u64) -> usize {
 
 fn begin(way: Way, task: Task, lots: usize, out: Out) -> Pass {
     Pass {
-        fd: 0,
         way,
         task,
         lots,
@@ -42,15 +44,16 @@ fn begin(way: Way, task: Task, lots: usize, out: Out) -> Pass {
         filled: 0,
         ended: false,
         state: 0,
+        why: Reason::none(),
     }
 }
 
 // ---- Files
 
 // What is said of a file once: with the reading that counts its records; a later one says what failed.
-fn tell(task: Task, path: &[u8], verdict: Verdict) {
+fn tell(system: &System, task: Task, path: &[u8], verdict: Verdict) {
     match task {
-        Task::Count => program_verdict::tell(path, verdict),
+        Task::Count => program_verdict::tell(system, path, verdict),
         _ => match verdict {
             Verdict::Accepted { records: _ } => {}
             Verdict::Refused {
@@ -59,13 +62,36 @@ fn tell(task: Task, path: &[u8], verdict: Verdict) {
                 column: _,
             } => {}
             Verdict::TooLong { record: _ } => {}
-            _ => program_verdict::tell(path, verdict),
+            _ => program_verdict::tell(system, path, verdict),
         },
     }
 }
 
-// A file by its argument: judged, then walked. Of a refused one nothing is counted, and it keeps its number.
+// An open file: judged, then walked. Of a refused one nothing is counted.
+fn walk_open(
+    system: &System,
+    name: &[u8],
+    file: &File,
+    pass: Pass,
+    buf: &mut [u8; BUFFER],
+    keys: &[u32; KEYS],
+    marks: &mut [u64; MARKS],
+    room: &mut [u8; ROOM],
+) -> Pass {
+    let task = pass.task;
+    let verdict = program_verdict::judge_first(system, file, true, buf, false);
+    let Verdict::Accepted { records } = verdict else {
+        tell(system, task, name, verdict);
+        return pass;
+    };
+    let walked = walk::walk(system, file, pass, buf, keys, marks, room);
+    tell(system, task, name, walked.verdict(records));
+    walked
+}
+
+// A file by its argument. One that is not counted keeps its number.
 fn walk_argument(
+    system: &System,
     i: usize,
     before: Pass,
     buf: &mut [u8; BUFFER],
@@ -78,38 +104,33 @@ fn walk_argument(
     pass.join = join.file();
     let task = pass.task;
     let mut path = io::buffer();
-    let n = os::arg(i, &mut path);
-    if os::errno() != 0 {
-        tell(task, b"file name", Verdict::Unreadable);
-        return pass;
+    match system.argument(i, &mut path) {
+        Ok(n) => {
+            let name = program_io::front(&path, n);
+            match system.open_read(name) {
+                Ok(file) => walk_open(system, name, &file, pass, buf, keys, marks, room),
+                Err(why) => {
+                    tell(system, task, name, Verdict::Unreadable(why));
+                    pass
+                }
+            }
+        }
+        Err(why) => {
+            tell(system, task, b"file name", Verdict::Unreadable(why));
+            pass
+        }
     }
-    let name = program_io::front(&path, n);
-    let fd = os::open_read(name);
-    if fd < 0 {
-        tell(task, name, Verdict::Unreadable);
-        return pass;
-    }
-    pass.fd = fd;
-    let verdict = program_verdict::judge_first(fd, true, buf, false);
-    let Verdict::Accepted { records } = verdict else {
-        tell(task, name, verdict);
-        libc::close(fd);
-        return pass;
-    };
-    let walked = walk::walk(pass, buf, keys, marks, room);
-    tell(task, name, walked.verdict(records));
-    libc::close(fd);
-    walked
 }
 
 fn all_files(
+    system: &System,
     start: Pass,
     buf: &mut [u8; BUFFER],
     keys: &[u32; KEYS],
     marks: &mut [u64; MARKS],
     room: &mut [u8; ROOM],
 ) -> Pass {
-    let count = os::arg_count();
+    let count = system.argument_count();
     let mut pass = start;
     let mut file: u64 = 1;
     while file < MANY {
@@ -117,7 +138,7 @@ fn all_files(
         if count <= i {
             return pass;
         }
-        pass = walk_argument(i, pass, buf, keys, marks, room);
+        pass = walk_argument(system, i, pass, buf, keys, marks, room);
         file += 1;
     }
     pass
@@ -135,6 +156,7 @@ struct Written {
 
 // The lots in order of their first receipts.
 fn put_lots(
+    system: &System,
     pass: Pass,
     keys: &[u32; KEYS],
     papers: &[u32; LOTS],
@@ -152,7 +174,7 @@ fn put_lots(
             return Written { out, paper, apart };
         }
         let row = lines::row_of(i, keys, papers, counts, marks);
-        out = lines::put_row(out, room, way, row);
+        out = lines::put_row(system, out, room, way, row);
         if row.line > 0 {
             apart = true;
         }
@@ -164,6 +186,7 @@ fn put_lots(
 
 // The records of one fate, of which there are so many, from all files again.
 fn list(
+    system: &System,
     pass: Pass,
     task: Task,
     many: u64,
@@ -178,7 +201,7 @@ fn list(
     let way = pass.way;
     let out = pass.out;
     let start = begin(way, task, pass.lots, out);
-    all_files(start, buf, keys, &mut marks, room)
+    all_files(system, start, buf, keys, &mut marks, room)
 }
 
 // Lots and their paper, records, those received, never received and without a key.
@@ -205,28 +228,36 @@ fn is_settled(apart: bool, join: Join) -> bool {
 }
 
 // The last line on the channel.
-fn announce(good: bool, settled: bool) {
-    if !good {
-        program_verdict::tell(b"standard output", Verdict::Unwritten);
+fn announce(system: &System, done: Out, settled: bool) {
+    if !done.good {
+        program_verdict::tell(system, b"standard output", Verdict::Unwritten(done.why));
         return;
     }
     let line = Text::new();
     if settled {
-        line.word(b"settled\n").write(program_verdict::CHANNEL);
+        let _ = line.word(b"settled\n").write(system, Target::Channel);
     } else {
-        line.word(b"unsettled\n").write(program_verdict::CHANNEL);
+        let _ = line.word(b"unsettled\n").write(system, Target::Channel);
     }
 }
 
 // The totals last, and all that is gathered is written.
-fn finish(out: Out, room: &mut [u8; ROOM], way: Way, totals: [u64; 6], settled: bool) {
-    let told = lines::put_row(out, room, way, lines::totals(totals));
+fn finish(
+    system: &System,
+    out: Out,
+    room: &mut [u8; ROOM],
+    way: Way,
+    totals: [u64; 6],
+    settled: bool,
+) {
+    let told = lines::put_row(system, out, room, way, lines::totals(totals));
     let done = told.flush(room);
-    announce(done.good, settled);
+    announce(system, done, settled);
 }
 
 // The catalogue against the store.
 fn join_files(
+    system: &System,
     way: Way,
     lots: usize,
     keys: &[u32; KEYS],
@@ -236,14 +267,23 @@ fn join_files(
     let mut buf = [0u8; BUFFER];
     let mut room = [0u8; ROOM];
     let mut marks = [0u64; MARKS];
-    let start = begin(way, Task::Count, lots, Out::new(libc::STDOUT_FILENO));
-    let mut pass = all_files(start, &mut buf, keys, &mut marks, &mut room);
+    let start = begin(way, Task::Count, lots, Out::new(system));
+    let mut pass = all_files(system, start, &mut buf, keys, &mut marks, &mut room);
     let join = pass.join;
-    let written = put_lots(pass, keys, papers, counts, &marks, &mut room);
+    let written = put_lots(system, pass, keys, papers, counts, &marks, &mut room);
     let put = written.out;
     pass.out = put;
-    let never = list(pass, Task::Never, join.never, &mut buf, keys, &mut room);
+    let never = list(
+        system,
+        pass,
+        Task::Never,
+        join.never,
+        &mut buf,
+        keys,
+        &mut room,
+    );
     let last = list(
+        system,
         never,
         Task::Keyless,
         join.keyless,
@@ -254,42 +294,40 @@ fn join_files(
     let totals = totals_of(lots, written.paper, join);
     let listed = last.out;
     let settled = is_settled(written.apart, join);
-    finish(listed, &mut room, way, totals, settled);
+    finish(system, listed, &mut room, way, totals, settled);
 }
 
 // ---- What is asked
 
 // An open log, then the files.
-fn join_log(way: Way, fd: i32, path: &[u8]) {
-    if libc::lseek(fd, 0, libc::SEEK_CUR) < 0 {
-        program_verdict::tell(path, Verdict::Once);
+fn join_log(system: &System, way: Way, file: &File, path: &[u8]) {
+    if !program_io::has_place(file) {
+        program_verdict::tell(system, path, Verdict::Once);
         return;
     }
     let mut keys = [0u32; KEYS];
     let mut papers = [0u32; LOTS];
     let mut counts = [0u32; COUNTS];
-    let replayed = log::read_log(fd, &mut keys, &mut papers, &mut counts);
+    let replayed = log::read_log(file, &mut keys, &mut papers, &mut counts);
     let verdict = replayed.verdict;
-    program_verdict::tell(path, verdict);
+    program_verdict::tell(system, path, verdict);
     if program_verdict::is_judged(verdict) {
-        join_files(way, replayed.lots, &keys, &papers, &counts);
+        join_files(system, way, replayed.lots, &keys, &papers, &counts);
     }
 }
 
-fn join_named(way: Way) {
+fn join_named(system: &System, way: Way) {
     let mut path = io::buffer();
-    let n = os::arg(LOG, &mut path);
-    if os::errno() != 0 {
-        program_verdict::tell(b"file name", Verdict::Unreadable);
-        return;
+    match system.argument(LOG, &mut path) {
+        Ok(n) => {
+            let name = &path[..n];
+            match system.open_read(name) {
+                Ok(file) => join_log(system, way, &file, name),
+                Err(why) => program_verdict::tell(system, name, Verdict::Unreadable(why)),
+            }
+        }
+        Err(why) => program_verdict::tell(system, b"file name", Verdict::Unreadable(why)),
     }
-    let fd = os::open_read(&path[..n]);
-    if fd < 0 {
-        program_verdict::tell(&path[..n], Verdict::Unreadable);
-        return;
-    }
-    join_log(way, fd, &path[..n]);
-    libc::close(fd);
 }
 
 // A number below 1,000; 1,000 for anything else.
@@ -316,27 +354,29 @@ fn number_of(text: &[u8]) -> u32 {
     n
 }
 
-fn pad_asked() -> u32 {
+fn pad_asked(system: &System) -> u32 {
     let mut text = [0u8; 64];
-    let n = os::arg(PAD, &mut text);
-    if os::errno() == 0 {
-        return number_of(&text[..n]);
+    match system.argument(PAD, &mut text) {
+        Ok(n) => number_of(&text[..n]),
+        Err(_) => 1000,
     }
-    1000
 }
 
 // `json` or `table`, the names of the two items, the pad byte as a number, the log, and then each file with the name to show for it.
-pub fn run() {
-    let pad = pad_asked();
+pub fn run(system: &System) {
+    let pad = pad_asked(system);
     if pad > 255 {
-        io::write_all(
-            libc::STDERR_FILENO,
+        let _ = system.write(
+            Target::Errors,
             b"records: the pad byte is no number from 0 to 255\n",
         );
         return;
     }
-    join_named(Way {
-        json: program_io::is_argument(MODE, b"json"),
-        pad: pad as u8,
-    });
+    join_named(
+        system,
+        Way {
+            json: program_io::is_argument(system, MODE, b"json"),
+            pad: pad as u8,
+        },
+    );
 }

@@ -2,7 +2,7 @@
 // what is filled in there. All but the names of files is short and made by value, so few functions hold the lent room.
 ghost use Rattle.std.specs.Prelude.{◌<◌};
 
-use program_io::{Out, Text};
+use program_io::{Out, System, Text};
 use stock_counts::COUNTS;
 use stock_join::{Join, MARKS};
 use stock_key::{Fault, KeyRead};
@@ -12,7 +12,7 @@ use store_lots::{KEYS, LOTS};
 pub const ROOM: usize = 65536;
 
 // How a line is written.
-#[derive(Drop)]
+#[derive(Clone, Copy)]
 pub struct Way {
     pub json: bool,
     pub pad: u8,
@@ -20,7 +20,7 @@ pub struct Way {
 
 // What a line is made of, and by which pattern. A lot: its key, the shelf's figure and one at its last count with the paper then, its first record, and as
 // numbers its paper and its records. A record: its place, and its key. The totals: six numbers.
-#[derive(Drop)]
+#[derive(Clone, Copy)]
 pub struct Row {
     pub line: usize,
     key: [u8; 12],
@@ -373,22 +373,32 @@ fn put_name(out: Out, room: &mut [u8; ROOM], json: bool, name: &[u8]) -> Out {
 }
 
 // The name of a file, or null where there is none.
-fn put_file(out: Out, room: &mut [u8; ROOM], json: bool, file: u64) -> Out {
+fn put_file(system: &System, out: Out, room: &mut [u8; ROOM], json: bool, file: u64) -> Out {
     if file == 0 {
         return out.bytes(room, b"null");
     }
     let mut name = io::buffer();
-    let n = os::arg(program_io::plus(crate::path_argument(file), 1), &mut name);
-    put_name(out, room, json, program_io::front(&name, n))
+    let place = program_io::plus(crate::path_argument(file), 1);
+    match system.argument(place, &mut name) {
+        Ok(n) => put_name(out, room, json, program_io::front(&name, n)),
+        Err(_) => out,
+    }
 }
 
-fn put_line(out: Out, room: &mut [u8; ROOM], pattern: &[u8], way: Way, row: Row) -> Out {
+fn put_line(
+    system: &System,
+    out: Out,
+    room: &mut [u8; ROOM],
+    pattern: &[u8],
+    way: Way,
+    row: Row,
+) -> Out {
     let mut next = out;
     let mut i: usize = 0;
     while i < pattern.len() {
         let b = pattern[i];
         if b == b'F' {
-            next = put_file(next, room, way.json, row.file);
+            next = put_file(system, next, room, way.json, row.file);
         } else {
             if is_mark(b) {
                 next = next.text(room, piece(b, way, row));
@@ -405,9 +415,9 @@ fn put_line(out: Out, room: &mut [u8; ROOM], pattern: &[u8], way: Way, row: Row)
 }
 
 // A line by its pattern.
-pub fn put_row(out: Out, room: &mut [u8; ROOM], way: Way, row: Row) -> Out {
+pub fn put_row(system: &System, out: Out, room: &mut [u8; ROOM], way: Way, row: Row) -> Out {
     let pattern = program_io::tail(&PATTERNS, place_of(way.json, row.line));
-    put_line(out, room, pattern, way, row)
+    put_line(system, out, room, pattern, way, row)
 }
 
 // The names of the table's columns.

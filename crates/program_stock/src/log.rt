@@ -1,6 +1,8 @@
 // The log, replayed through one buffer: once for the store at its end, and once more for the last count of each of its lots.
+use program_io::Input;
 use program_replay::{Reading, SIZE};
 use program_verdict::Verdict;
+use std::fs::File;
 use stock_counts::COUNTS;
 use store_event::Scan;
 use store_lots::{KEYS, LOTS};
@@ -36,6 +38,7 @@ fn note(
 
 // The next event, or more of the log.
 fn take_turn(
+    file: &File,
     buf: &mut [u8; SIZE],
     keys: &mut [u32; KEYS],
     papers: &mut [u32; LOTS],
@@ -46,7 +49,7 @@ fn take_turn(
 ) -> Reading {
     let ready = reading.has_event();
     if !ready {
-        return reading.refill(buf);
+        return reading.refill(Input::Opened(file), buf);
     }
     let log = reading.log(buf);
     let state = reading.state;
@@ -78,7 +81,7 @@ fn take_turn(
 // An open log, from a store that is empty; counts are noted under the lots of the whole store. Turns are counted so that the
 // loop ends, and no run uses them up.
 fn replay(
-    fd: i32,
+    file: &File,
     lots: usize,
     keys: &mut [u32; KEYS],
     papers: &mut [u32; LOTS],
@@ -86,10 +89,10 @@ fn replay(
     counts: &mut [u32; COUNTS],
 ) -> Replayed {
     let mut buf = [0u8; SIZE];
-    let mut reading = Reading::new(fd);
+    let mut reading = Reading::new();
     let mut turns = u64::MAX;
     while turns > 0 {
-        reading = take_turn(&mut buf, keys, papers, whole, lots, counts, reading);
+        reading = take_turn(file, &mut buf, keys, papers, whole, lots, counts, reading);
         if !reading.on {
             return ended(reading);
         }
@@ -107,8 +110,13 @@ fn ended(reading: Reading) -> Replayed {
 }
 
 // The last counts, by a second replay with a store of its own.
-fn recount(fd: i32, first: Replayed, keys: &[u32; KEYS], counts: &mut [u32; COUNTS]) -> Replayed {
-    if libc::lseek(fd, 0, libc::SEEK_SET) < 0 {
+fn recount(
+    file: &File,
+    first: Replayed,
+    keys: &[u32; KEYS],
+    counts: &mut [u32; COUNTS],
+) -> Replayed {
+    if !program_io::go_back(file) {
         return Replayed {
             verdict: Verdict::Once,
             lots: first.lots,
@@ -116,7 +124,7 @@ fn recount(fd: i32, first: Replayed, keys: &[u32; KEYS], counts: &mut [u32; COUN
     }
     let mut again = [0u32; KEYS];
     let mut papers = [0u32; LOTS];
-    let second = replay(fd, first.lots, &mut again, &mut papers, keys, counts);
+    let second = replay(file, first.lots, &mut again, &mut papers, keys, counts);
     if second.lots == first.lots {
         return second;
     }
@@ -128,16 +136,16 @@ fn recount(fd: i32, first: Replayed, keys: &[u32; KEYS], counts: &mut [u32; COUN
 
 // The store at the end of an open log, and the last count of each lot. Of a refusal the verdict's line is the event's number.
 pub fn read_log(
-    fd: i32,
+    file: &File,
     keys: &mut [u32; KEYS],
     papers: &mut [u32; LOTS],
     counts: &mut [u32; COUNTS],
 ) -> Replayed {
     let none = [0u32; KEYS];
-    let first = replay(fd, 0, keys, papers, &none, counts);
+    let first = replay(file, 0, keys, papers, &none, counts);
     let verdict = first.verdict;
     if program_verdict::is_judged(verdict) {
-        return recount(fd, first, keys, counts);
+        return recount(file, first, keys, counts);
     }
     first
 }

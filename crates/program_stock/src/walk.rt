@@ -1,9 +1,10 @@
 // The records of a file that was accepted, read from its start, each with its fate.
 use crate::lines;
 use crate::lines::{ROOM, Way};
-use program_io::{Filled, Out};
+use program_io::{Filled, Input, Out, Reason, System};
 use program_json::Ends;
 use program_verdict::Verdict;
+use std::fs::File;
 use stock_join::{Fate, Join, MARKS};
 use stock_key::KeyRead;
 use store_lots::KEYS;
@@ -19,7 +20,7 @@ const LOT: usize = 4;
 const NAME: usize = 128;
 
 // What is done with the records: all are counted, or those of one fate listed.
-#[derive(Drop)]
+#[derive(Clone, Copy)]
 pub enum Task {
     Count,
     Never,
@@ -27,10 +28,9 @@ pub enum Task {
 }
 
 // The bytes from `at` to before `filled` stand in the buffer; the join so far, the lots of the store, and the output; and whether the walk goes on, or how it
-// ended.
-#[derive(Drop)]
+// ended, and why a read or a write failed.
+#[derive(Clone, Copy)]
 pub struct Pass {
-    pub fd: i32,
     pub way: Way,
     pub task: Task,
     pub lots: usize,
@@ -40,6 +40,7 @@ pub struct Pass {
     pub filled: usize,
     pub ended: bool,
     pub state: u8,
+    pub why: Reason,
 }
 
 // The states of a walk: it goes on; the record at `at` is not wholly in the buffer; every record is done; or what went wrong.
@@ -68,10 +69,10 @@ impl Pass {
             return Verdict::Changed;
         }
         if self.state == UNWRITTEN {
-            return Verdict::Unwritten;
+            return Verdict::Unwritten(self.why);
         }
         if self.state == UNREADABLE {
-            return Verdict::Unreadable;
+            return Verdict::Unreadable(self.why);
         }
         if self.state == ON {
             return Verdict::Endless;
@@ -99,25 +100,26 @@ fn is_listed(task: Task, fate: Fate) -> bool {
     }
 }
 
-// The length of a name from the arguments, by what `os::arg` answered: one that is too long keeps its first bytes, and no item has so long a name.
-fn name_length(n: usize) -> usize {
-    if os::errno() == 0 {
-        return n;
+// The length of a name from the arguments, by what was answered: one that is too long keeps its first bytes, and no item has so long a name.
+fn name_length(got: Result<usize, Reason>) -> usize {
+    match got {
+        Ok(n) => n,
+        Err(_) => NAME,
     }
-    NAME
 }
 
-fn read_key(pad: u8, record: &[u8]) -> KeyRead {
+fn read_key(system: &System, pad: u8, record: &[u8]) -> KeyRead {
     let mut supplier = [0u8; NAME];
     let mut lot = [0u8; NAME];
-    let n = name_length(os::arg(SUPPLIER, &mut supplier));
-    let m = name_length(os::arg(LOT, &mut lot));
+    let n = name_length(system.argument(SUPPLIER, &mut supplier));
+    let m = name_length(system.argument(LOT, &mut lot));
     let of_supplier = program_io::front(&supplier, n);
     stock_key::key_of(record, of_supplier, program_io::front(&lot, m), pad)
 }
 
 // The record at the front of s, if it is wholly there. It was accepted, so it has a key, or a reason why it has none.
 fn take_front(
+    system: &System,
     pass: Pass,
     s: &[u8],
     keys: &[u32; KEYS],
@@ -128,7 +130,7 @@ fn take_front(
         return pass.in_state(SHORT);
     };
     let way = pass.way;
-    let read = read_key(way.pad, program_io::front(s, length));
+    let read = read_key(system, way.pad, program_io::front(s, length));
     let fate = stock_join::fate_of(read, keys, pass.lots);
     let before = pass.join;
     let join = before.next(fate, marks);
@@ -138,7 +140,7 @@ fn take_front(
     let task = pass.task;
     let mut out = pass.out;
     if is_listed(task, fate) {
-        out = lines::put_row(out, room, way, lines::listed(join, read));
+        out = lines::put_row(system, out, room, way, lines::listed(join, read));
     }
     if out.good {
         let mut next = pass;
@@ -147,12 +149,14 @@ fn take_front(
         next.out = out;
         return next;
     }
-    pass.in_state(UNWRITTEN)
+    let mut failed = pass.in_state(UNWRITTEN);
+    failed.why = out.why;
+    failed
 }
 
 // Where the record is not wholly there, the rest is moved to the front, and more read behind it. One that ends neither in a full buffer nor in the file has
 // changed.
-fn read_on(buf: &mut [u8; BUFFER], pass: Pass) -> Pass {
+fn read_on(file: &File, buf: &mut [u8; BUFFER], pass: Pass) -> Pass {
     if pass.state != SHORT {
         return pass;
     }
@@ -168,7 +172,7 @@ fn read_on(buf: &mut [u8; BUFFER], pass: Pass) -> Pass {
         }
     }
     let kept = program_io::keep(buf, pass.at, pass.filled);
-    match program_io::fill(pass.fd, buf, kept) {
+    match program_io::fill(Input::Opened(file), buf, kept) {
         Filled::Bytes(n) => {
             let mut next = pass;
             next.at = 0;
@@ -177,12 +181,18 @@ fn read_on(buf: &mut [u8; BUFFER], pass: Pass) -> Pass {
             next.state = ON;
             next
         }
-        Filled::Failed => pass.in_state(UNREADABLE),
+        Filled::Failed(why) => {
+            let mut failed = pass.in_state(UNREADABLE);
+            failed.why = why;
+            failed
+        }
     }
 }
 
 // From the file's start. Turns are counted so that the loop ends, and no run uses them up.
 pub fn walk(
+    system: &System,
+    file: &File,
     start: Pass,
     buf: &mut [u8; BUFFER],
     keys: &[u32; KEYS],
@@ -197,8 +207,8 @@ pub fn walk(
     let mut turns = u64::MAX;
     while turns > 0 {
         let s = program_json::part(buf, pass.at, pass.filled);
-        pass = take_front(pass, s, keys, marks, room);
-        pass = read_on(buf, pass);
+        pass = take_front(system, pass, s, keys, marks, room);
+        pass = read_on(file, buf, pass);
         if pass.state != ON {
             return pass;
         }

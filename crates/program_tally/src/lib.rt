@@ -1,15 +1,18 @@
 // Bottles per supplier over many SDfiles of any length. Each is judged and counted in one reading, into a copy of the list that is kept if nothing is refused.
+#![tactic(auto)]
+
 mod lines;
 
-use program_io::Filled;
+use program_io::{Filled, Input, System};
 use program_verdict::Verdict;
 use reader_feed::{Counter, Fed};
+use std::fs::File;
 use tally_file::Tallied;
 use tally_flat::NAMES;
 use tally_rules::{SUPPLIERS, Totals};
 
 // The list, passed on by value.
-#[derive(Drop)]
+#[derive(Clone, Copy)]
 pub struct Book {
     pub names: [u8; NAMES],
     pub lengths: [u32; SUPPLIERS],
@@ -152,10 +155,10 @@ fn take_part(buf: &mut [u8], n: usize, place: Place) -> Turn {
     }
 }
 
-fn take_turn(fd: i32, buf: &mut [u8], place: Place) -> Turn {
-    match program_io::fill(fd, buf, place.kept) {
+fn take_turn(file: &File, buf: &mut [u8], place: Place) -> Turn {
+    match program_io::fill(Input::Opened(file), buf, place.kept) {
         Filled::Bytes(n) => take_part(buf, n, place),
-        Filled::Failed => end(Verdict::Unreadable, place),
+        Filled::Failed(why) => end(Verdict::Unreadable(why), place),
     }
 }
 
@@ -186,7 +189,7 @@ fn settle(verdict: Verdict, place: Place, was: Book) -> Settled {
 }
 
 // An open file. Turns are counted so that the loop ends, and no run uses them up.
-fn count_within(fd: i32, buf: &mut [u8], was: Book) -> Settled {
+fn count_within(file: &File, buf: &mut [u8], was: Book) -> Settled {
     let mut place = Place {
         counter: Counter::new(),
         kept: 0,
@@ -196,7 +199,7 @@ fn count_within(fd: i32, buf: &mut [u8], was: Book) -> Settled {
     };
     let mut turns = u64::MAX;
     while turns > 0 {
-        let turn = take_turn(fd, buf, place);
+        let turn = take_turn(file, buf, place);
         let after = turn.place;
         place = after;
         if turn.ended {
@@ -211,13 +214,13 @@ fn count_within(fd: i32, buf: &mut [u8], was: Book) -> Settled {
     }
 }
 
-fn count_lent(fd: i32, buf: &mut [u8; BUFFER], was: Book) -> Settled {
-    count_within(fd, buf, was)
+fn count_lent(file: &File, buf: &mut [u8; BUFFER], was: Book) -> Settled {
+    count_within(file, buf, was)
 }
 
-fn count_open(fd: i32, was: Book) -> Settled {
+fn count_open(file: &File, was: Book) -> Settled {
     let mut buf = [0u8; BUFFER];
-    count_lent(fd, &mut buf, was)
+    count_lent(file, &mut buf, was)
 }
 
 // The month with a file of this verdict.
@@ -249,32 +252,35 @@ fn unread(month: Month) -> Month {
 }
 
 // A file by its name, or standard input; its verdict is announced.
-fn count_file(month: Month, name: &[u8]) -> Month {
-    let fd = os::open_read(name);
-    if fd < 0 {
-        program_verdict::tell(name, Verdict::Unreadable);
-        return unread(month);
+fn count_file(system: &System, month: Month, name: &[u8]) -> Month {
+    match system.open_read(name) {
+        Ok(file) => {
+            let book = month.book;
+            let settled = count_open(&file, book);
+            let verdict = settled.verdict;
+            program_verdict::tell(system, name, verdict);
+            with_file(month, settled)
+        }
+        Err(why) => {
+            program_verdict::tell(system, name, Verdict::Unreadable(why));
+            unread(month)
+        }
     }
-    let book = month.book;
-    let settled = count_open(fd, book);
-    libc::close(fd);
-    let verdict = settled.verdict;
-    program_verdict::tell(name, verdict);
-    with_file(month, settled)
 }
 
-fn count_argument(month: Month, i: usize) -> Month {
+fn count_argument(system: &System, month: Month, i: usize) -> Month {
     let mut name = io::buffer();
-    let n = os::arg(i, &mut name);
-    if os::errno() == 0 {
-        return count_file(month, program_io::front(&name, n));
+    match system.argument(i, &mut name) {
+        Ok(n) => count_file(system, month, program_io::front(&name, n)),
+        Err(why) => {
+            program_verdict::tell(system, b"file name", Verdict::Unreadable(why));
+            unread(month)
+        }
     }
-    program_verdict::tell(b"file name", Verdict::Unreadable);
-    unread(month)
 }
 
-fn count_arguments(from: usize) -> Month {
-    let count = os::arg_count();
+fn count_arguments(system: &System, from: usize) -> Month {
+    let count = system.argument_count();
     let mut month = Month {
         files: 0,
         refused: 0,
@@ -282,17 +288,19 @@ fn count_arguments(from: usize) -> Month {
     };
     let mut i = from;
     while i < count {
-        month = count_argument(month, i);
+        month = count_argument(system, month, i);
         i += 1;
     }
     month
 }
 
 // The files that the arguments from `from` on name, perhaps after `--json`; then the report.
-pub fn run(from: usize) {
-    if program_io::is_argument(from, b"--json") {
-        lines::write_json(count_arguments(program_io::plus(from, 1)));
+pub fn run(system: &System, from: usize) {
+    if program_io::is_argument(system, from, b"--json") {
+        let month = count_arguments(system, program_io::plus(from, 1));
+        lines::write_json(system, month);
     } else {
-        lines::write_report(count_arguments(from));
+        let month = count_arguments(system, from);
+        lines::write_report(system, month);
     }
 }

@@ -1,17 +1,17 @@
 // The report: as text for people, or as lines of JSON.
 use crate::{Book, Month};
-use program_io::Text;
+use program_io::{System, Target, Text};
 use tally_report::REPORT;
 use tally_rules::{SUPPLIER, SUPPLIERS};
 
-pub fn write_report(month: Month) {
+pub fn write_report(system: &System, month: Month) {
     let book = month.book;
     let names = book.names;
     let lengths = book.lengths;
     let counts = book.counts;
     let mut room = [0u8; REPORT];
     let n = tally_report::put_report(&mut room, &names, &lengths, &counts, book.totals);
-    io::write_all(libc::STDOUT_FILENO, program_io::front(&room, n));
+    let _ = system.write(Target::Output, program_io::front(&room, n));
 }
 
 // A byte of a string: quote and backslash have a backslash before them, and no supplier has other bytes than 32 to 126.
@@ -43,12 +43,12 @@ fn supplier(name: &[u8], count: u32) -> Text {
 }
 
 // The room of a name, of which so many bytes are its own.
-fn write_supplier(names: &[u8], place: usize, length: u32, count: u32) {
+fn write_supplier(system: &System, names: &[u8], place: usize, length: u32, count: u32) {
     let name = program_io::front(program_io::tail(names, place), length as usize);
-    supplier(name, count).write(libc::STDOUT_FILENO);
+    let _ = supplier(name, count).write(system, Target::Output);
 }
 
-fn write_suppliers(book: Book) {
+fn write_suppliers(system: &System, book: Book) {
     let names = book.names;
     let lengths = book.lengths;
     let counts = book.counts;
@@ -58,15 +58,15 @@ fn write_suppliers(book: Book) {
         if entries <= i {
             return;
         }
-        write_supplier(&names, SUPPLIER * i, lengths[i], counts[i]);
+        write_supplier(system, &names, SUPPLIER * i, lengths[i], counts[i]);
         i += 1;
     }
 }
 
-pub fn write_json(month: Month) {
+pub fn write_json(system: &System, month: Month) {
     let book = month.book;
     let totals = book.totals;
-    write_suppliers(book);
+    write_suppliers(system, book);
     let text = Text::new()
         .word(b"{\"missing\":")
         .number(totals.missing as u64)
@@ -77,5 +77,5 @@ pub fn write_json(month: Month) {
         .word(b",\"refused\":")
         .number(month.refused as u64)
         .word(b"}\n");
-    text.write(libc::STDOUT_FILENO);
+    let _ = text.write(system, Target::Output);
 }

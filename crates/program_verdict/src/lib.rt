@@ -1,20 +1,23 @@
 // A file judged as it is read, and what is said of it.
+#![tactic(auto)]
+
 mod say;
 
 ghost use Rattle.std.specs.Prelude.{◌<◌, length};
 
-use program_io::{Filled, Text};
+use program_io::{Filled, Input, Reason, System, Target, Text};
 use reader_check::Answer;
 use reader_feed::{Counter, Fed};
-pub use say::{CHANNEL, is_judged, report, tell};
+pub use say::{is_judged, report, tell};
+use std::fs::File;
 
-#[derive(Drop)]
+#[derive(Clone, Copy)]
 pub enum Verdict {
     Accepted { records: usize },
     Refused { no: u8, line: usize, column: usize },
     TooLong { record: usize },
-    // It was not opened, or a read failed; errno says why.
-    Unreadable,
+    // It was not opened, or a read failed.
+    Unreadable(Reason),
     // More input than turns are counted for.
     Endless,
     // What cannot be read a second time, as a pipe.
@@ -22,27 +25,27 @@ pub enum Verdict {
     // Accepted at the first reading and not at the second.
     Changed,
     // A write failed.
-    Unwritten,
+    Unwritten(Reason),
     // The canonical text of a record does not fit the room for it.
     NoRoom,
 }
 
 // The place in a file that is judged: records and lines so far, bytes kept at the front of the buffer, bytes done with.
-#[derive(Drop)]
+#[derive(Clone, Copy)]
 struct Place {
     counter: Counter,
     kept: usize,
     done: u64,
 }
 
-#[derive(Drop)]
+#[derive(Clone, Copy)]
 enum Turn {
     Next(Place),
     End(Verdict),
 }
 
 // What the counter says of a part.
-#[derive(Drop)]
+#[derive(Clone, Copy)]
 enum Told {
     More { counter: Counter, used: usize },
     End(Verdict),
@@ -60,16 +63,16 @@ pub fn plus(a: u64, b: u64) -> u64 {
 }
 
 // So many mebibytes are read.
-fn write_progress(mebibytes: u64) {
+fn write_progress(system: &System, mebibytes: u64) {
     let text = Text::new().number(mebibytes).word(b" MiB read\n");
-    text.write(libc::STDERR_FILENO);
+    let _ = text.write(system, Target::Errors);
 }
 
 // A line of progress where a stride is passed between the two counts of bytes.
-pub fn note_passed(progress: bool, before: u64, after: u64) {
+pub fn note_passed(system: &System, progress: bool, before: u64, after: u64) {
     if progress {
         if before / STRIDE < after / STRIDE {
-            write_progress(after / STRIDE * 16);
+            write_progress(system, after / STRIDE * 16);
         }
     }
 }
@@ -100,22 +103,33 @@ fn judge_part(buf: &mut [u8], n: usize, place: Place) -> Turn
 }
 
 // The buffer filled once, and judged.
-fn take_turn(fd: i32, buf: &mut [u8], progress: bool, place: Place) -> Turn
+fn take_turn(
+    system: &System,
+    input: Input<'_>,
+    buf: &mut [u8],
+    progress: bool,
+    place: Place,
+) -> Turn
     requires { 0 < length buf.old }
 {
     let kept = place.kept;
     let done = place.done;
-    match program_io::fill(fd, buf, kept) {
+    match program_io::fill(input, buf, kept) {
         Filled::Bytes(n) => {
-            note_passed(progress, plus(done, kept as u64), plus(done, n as u64));
+            note_passed(
+                system,
+                progress,
+                plus(done, kept as u64),
+                plus(done, n as u64),
+            );
             judge_part(buf, n, place)
         }
-        Filled::Failed => Turn::End(Verdict::Unreadable),
+        Filled::Failed(why) => Turn::End(Verdict::Unreadable(why)),
     }
 }
 
 // An SDfile, with a buffer of one byte less than is lent. Turns are counted so that the loop ends, and no run uses them up.
-fn judge_records(fd: i32, buf: &mut [u8], progress: bool) -> Verdict
+fn judge_records(system: &System, input: Input<'_>, buf: &mut [u8], progress: bool) -> Verdict
     requires { 0 < length buf.old }
 {
     let mut place = Place {
@@ -125,7 +139,7 @@ fn judge_records(fd: i32, buf: &mut [u8], progress: bool) -> Verdict
     };
     let mut turns = u64::MAX;
     while turns > 0 {
-        match take_turn(fd, buf, progress, place) {
+        match take_turn(system, input, buf, progress, place) {
             Turn::Next(p) => {
                 place = p;
             }
@@ -160,11 +174,11 @@ fn begun(v: Verdict) -> Verdict {
     }
 }
 
-fn judge_molfile(fd: i32, buf: &mut [u8]) -> Verdict
+fn judge_molfile(input: Input<'_>, buf: &mut [u8]) -> Verdict
     requires { 0 < length buf.old }
 {
     let room = buf.len() - 1;
-    match program_io::fill(fd, buf, 0) {
+    match program_io::fill(input, buf, 0) {
         Filled::Bytes(n) => {
             if n <= room {
                 molfile_whole(program_io::front(buf, n))
@@ -172,28 +186,40 @@ fn judge_molfile(fd: i32, buf: &mut [u8]) -> Verdict
                 begun(molfile_whole(program_io::front(buf, room)))
             }
         }
-        Filled::Failed => Verdict::Unreadable,
+        Filled::Failed(why) => Verdict::Unreadable(why),
     }
 }
 
 // A file of either kind, with a buffer of one byte less than is lent.
-pub fn judge(fd: i32, sd: bool, buf: &mut [u8], progress: bool) -> Verdict {
+pub fn judge(
+    system: &System,
+    input: Input<'_>,
+    sd: bool,
+    buf: &mut [u8],
+    progress: bool,
+) -> Verdict {
     if buf.len() == 0 {
         return Verdict::TooLong { record: 1 };
     }
     if sd {
-        return judge_records(fd, buf, progress);
+        return judge_records(system, input, buf, progress);
     }
-    judge_molfile(fd, buf)
+    judge_molfile(input, buf)
 }
 
 // The first of two readings of an open file, after which it stands at its start again. What has no place to go back to, as a pipe, is not read at all.
-pub fn judge_first(fd: i32, sd: bool, buf: &mut [u8], progress: bool) -> Verdict {
-    if libc::lseek(fd, 0, libc::SEEK_CUR) < 0 {
+pub fn judge_first(
+    system: &System,
+    file: &File,
+    sd: bool,
+    buf: &mut [u8],
+    progress: bool,
+) -> Verdict {
+    if !program_io::has_place(file) {
         return Verdict::Once;
     }
-    let v = judge(fd, sd, buf, progress);
-    if libc::lseek(fd, 0, libc::SEEK_SET) < 0 {
+    let v = judge(system, Input::Opened(file), sd, buf, progress);
+    if !program_io::go_back(file) {
         return Verdict::Once;
     }
     v

@@ -1,9 +1,6 @@
 // A verdict in words for people, and in one line for programs.
 use crate::Verdict;
-use program_io::Text;
-
-// The descriptor on which programs read the verdict. Where it is not open the line is lost, and nothing else changes.
-pub const CHANNEL: i32 = 3;
+use program_io::{Reason, System, Target, Text};
 
 // A refusal's numbers, with these words before line and column.
 fn refusal(
@@ -47,41 +44,44 @@ fn code(v: Verdict) -> Text {
         Verdict::Accepted { records } => accepted(begun, records),
         Verdict::Refused { no, line, column } => refusal(begun, no, line, b" ", column, b" "),
         Verdict::TooLong { record } => begun.word(b"too long ").number(record as u64),
-        Verdict::Unreadable => begun.word(b"unreadable"),
+        Verdict::Unreadable(_) => begun.word(b"unreadable"),
         Verdict::Endless => begun.word(b"endless"),
         Verdict::Once => begun.word(b"once"),
         Verdict::Changed => begun.word(b"changed"),
-        Verdict::Unwritten => begun.word(b"unwritten"),
+        Verdict::Unwritten(_) => begun.word(b"unwritten"),
         Verdict::NoRoom => begun.word(b"no room"),
     }
 }
 
 // The verdict on the channel of its own.
-fn announce(v: Verdict) {
-    code(v).byte(b'\n').write(CHANNEL);
+fn announce(system: &System, v: Verdict) {
+    let _ = code(v).byte(b'\n').write(system, Target::Channel);
 }
 
 // A line about a file on standard error.
-fn complain_of(name: &[u8], what: &[u8]) {
-    io::write_all(libc::STDERR_FILENO, name);
-    io::write_all(libc::STDERR_FILENO, what);
+fn complain_of(system: &System, name: &[u8], what: &[u8]) {
+    let _ = system.write(Target::Errors, name);
+    let _ = system.write(Target::Errors, what);
 }
 
 // The reason on standard error where a file was not judged, or not written.
-fn complain(name: &[u8], v: Verdict) {
+fn complain(system: &System, name: &[u8], v: Verdict) {
     match v {
-        Verdict::Unreadable => os::fail(name),
-        Verdict::Endless => complain_of(name, b": has no end that can be counted to\n"),
+        Verdict::Unreadable(why) => system.fail(name, why),
+        Verdict::Endless => complain_of(system, name, b": has no end that can be counted to\n"),
         Verdict::Once => complain_of(
+            system,
             name,
             b": cannot be read twice, so nothing of it is written\n",
         ),
         Verdict::Changed => complain_of(
+            system,
             name,
             b": changed while it was read, so what is written is not whole\n",
         ),
-        Verdict::Unwritten => os::fail(b"standard output"),
+        Verdict::Unwritten(why) => system.fail(b"standard output", why),
         Verdict::NoRoom => complain_of(
+            system,
             name,
             b": a record's canonical text does not fit the room for it\n",
         ),
@@ -103,33 +103,32 @@ pub fn is_judged(v: Verdict) -> bool {
     }
 }
 
-// The line on standard output, behind the file's name where it is to stand there; whether it was written.
-fn line(name: &[u8], named: bool, v: Verdict) -> bool {
+// The line on standard output, behind the file's name where it is to stand there.
+fn line(system: &System, name: &[u8], named: bool, v: Verdict) -> Result<(), Reason> {
     if named {
-        if io::write_all(libc::STDOUT_FILENO, name) {
-            let text = words(Text::new().word(b": "), v);
-            return text.byte(b'\n').write(libc::STDOUT_FILENO);
-        }
-        return false;
+        system.write(Target::Output, name)?;
+        let text = words(Text::new().word(b": "), v);
+        return text.byte(b'\n').write(system, Target::Output);
     }
-    words(Text::new(), v).byte(b'\n').write(libc::STDOUT_FILENO)
+    words(Text::new(), v)
+        .byte(b'\n')
+        .write(system, Target::Output)
 }
 
 // The reason of a failure on standard error, and the verdict on the channel: nothing on standard output.
-pub fn tell(name: &[u8], v: Verdict) {
-    complain(name, v);
-    announce(v);
+pub fn tell(system: &System, name: &[u8], v: Verdict) {
+    complain(system, name, v);
+    announce(system, v);
 }
 
 // What was judged goes to standard output, what failed to standard error, and either to the channel.
-pub fn report(name: &[u8], named: bool, v: Verdict) {
+pub fn report(system: &System, name: &[u8], named: bool, v: Verdict) {
     if is_judged(v) {
-        if line(name, named, v) {
-            announce(v);
-        } else {
-            tell(name, Verdict::Unwritten);
+        match line(system, name, named, v) {
+            Ok(()) => announce(system, v),
+            Err(why) => tell(system, name, Verdict::Unwritten(why)),
         }
     } else {
-        tell(name, v);
+        tell(system, name, v);
     }
 }

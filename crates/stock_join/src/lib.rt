@@ -12,7 +12,7 @@ pub const MARKS: usize = 1536;
 
 // What becomes of a record: counted under the lot at a place of the store, never received, or without a key; and none of
 // these where the record is refused, or no store has so many lots.
-#[derive(Drop)]
+#[derive(Clone, Copy)]
 pub enum Fate {
     Under { lot: usize },
     Never,
@@ -21,7 +21,7 @@ pub enum Fate {
 }
 
 // So many files and records of the last one are taken, and so many records had each fate. Numbers stop at 2^64 - 1.
-#[derive(Drop)]
+#[derive(Clone, Copy)]
 pub struct Join {
     pub file: u64,
     pub number: u64,

@@ -7,7 +7,7 @@ use reader_first_line::FirstLine;
 use store_event::Key;
 
 // Why a text makes no part of a key.
-#[derive(Drop)]
+#[derive(Clone, Copy)]
 pub enum Fault {
     Missing,
     TooLong,
@@ -15,7 +15,7 @@ pub enum Fault {
 }
 
 // The key; or which text makes none, and why; or the record's own refusal.
-#[derive(Drop)]
+#[derive(Clone, Copy)]
 pub enum KeyRead {
     Key { key: Key },
     NoSupplier { why: Fault },

@@ -1,0 +1,15 @@
+use borrow.Author.Rules.{rules}
+use Rattle.program_compare_lines.specs.Signs.{size_laws}
+use Rattle.program_compare_lines.proofs.say.size_of.Goals as goal
+
+pub overflow_sub-result : goal.overflow_sub-result
+overflow_sub-result c = search (rules, size_laws)
+
+pub overflow_cast-result : goal.overflow_cast-result
+overflow_cast-result c = search (rules, size_laws)
+
+pub overflow_add-result : goal.overflow_add-result
+overflow_add-result c = search (rules, size_laws)
+
+pub overflow_cast-result-2 : goal.overflow_cast-result-2
+overflow_cast-result-2 c = search (rules, size_laws)

@@ -1,0 +1,230 @@
+// What the programs reach of the system: arguments, files, the three standard streams, and the channel on which programs read verdicts.
+ghost use Rattle.std.specs.Prelude.{◌≤◌, length};
+ghost use Rattle.std.specs.Io.{ReadsAtMost, WritesAtMost};
+
+use crate::channel;
+use crate::channel::Channel;
+use std::env::FillError;
+use std::fs::File;
+use std::io::{Error, Print, Read, Seek, SeekFrom, Stdin, Stdout, Write};
+use std::rt::Env;
+
+// Numbers that the system gives to what fails.
+const INTERRUPTED: i32 = 4;
+
+const INVALID: i32 = 22;
+
+const TOO_LONG: i32 = 36;
+
+const NO_TEXT: i32 = 84;
+
+// Why something failed, by the system's number for it.
+#[derive(Clone, Copy)]
+pub struct Reason {
+    code: i32,
+}
+
+impl Reason {
+    // Nothing failed yet.
+    pub fn none() -> Reason {
+        Reason { code: 0 }
+    }
+
+    pub fn interrupted() -> Reason {
+        Reason { code: INTERRUPTED }
+    }
+
+    pub fn is_interrupted(self) -> bool {
+        self.code == INTERRUPTED
+    }
+
+    // What std says of itself and not of the system is a call that cannot be made.
+    pub fn of(error: Error) -> Reason {
+        match error.raw_os_error() {
+            Some(code) => Reason { code },
+            None => Reason { code: INVALID },
+        }
+    }
+
+    fn of_argument(error: FillError) -> Reason {
+        match error {
+            FillError::NotPresent => Reason { code: INVALID },
+            FillError::TooLong => Reason { code: TOO_LONG },
+        }
+    }
+
+    // The system's words for it at the front of a buffer; answers how many bytes they are. std puts the number behind them, in brackets.
+    fn words(self, buf: &mut [u8]) -> usize {
+        let error = Error::from_raw_os_error(self.code);
+        let size = buf.len();
+        let mut rest: &mut [u8] = buf;
+        let _ = write!(rest, "{error}");
+        let left = rest.len();
+        if size < left {
+            return 0;
+        }
+        size - left
+    }
+}
+
+// Where bytes are read from.
+#[derive(Clone, Copy)]
+pub enum Input<'a> {
+    Standard(Stdin),
+    Opened(&'a File),
+}
+
+impl<'a> Input<'a> {
+    // One read to the front of a buffer.
+    pub fn read(self, buf: &mut [u8]) -> Result<usize, Reason>
+        ensures bound { WritesAtMost result buf.new }
+    {
+        let got = match self {
+            Input::Standard(stdin) => {
+                let mut from = stdin;
+                from.read(buf)
+            }
+            Input::Opened(file) => {
+                let mut from = file;
+                from.read(buf)
+            }
+        };
+        match got {
+            Ok(n) => Ok(n),
+            Err(e) => Err(Reason::of(e)),
+        }
+    }
+}
+
+// Where text is written to. What goes to a channel that is not open is lost, and nothing else changes.
+#[derive(Clone, Copy)]
+pub enum Target {
+    Output,
+    Errors,
+    Channel,
+}
+
+// The system, as `main` is given it.
+#[derive(Drop)]
+pub struct System {
+    rt: HostRuntime,
+    channel: Channel,
+}
+
+fn told(done: std::io::Result<()>) -> Result<(), Reason> {
+    match done {
+        Ok(()) => Ok(()),
+        Err(e) => Err(Reason::of(e)),
+    }
+}
+
+// All of some bytes, to standard output.
+pub fn put_all(to: Stdout, bytes: &[u8]) -> Result<(), Reason> {
+    told(Print::write_all(&to, bytes))
+}
+
+impl System {
+    pub fn new(rt: HostRuntime) -> System {
+        let channel = channel::find(&rt);
+        System { rt, channel }
+    }
+
+    pub fn stdin(&self) -> Input<'static> {
+        Input::Standard(self.rt.stdin())
+    }
+
+    pub fn stdout(&self) -> Stdout {
+        self.rt.stdout()
+    }
+
+    // Argument i at the front of a buffer, and how many bytes it has.
+    pub fn argument(&self, i: usize, buf: &mut [u8]) -> Result<usize, Reason>
+        ensures bound { WritesAtMost result buf.new }
+    {
+        match self.rt.arg(i, buf) {
+            Ok(n) => Ok(n),
+            Err(e) => Err(Reason::of_argument(e)),
+        }
+    }
+
+    // How many arguments there are, with the program's own name.
+    pub fn argument_count(&self) -> usize {
+        let mut none = [0u8; 1];
+        for i in 0..usize::MAX {
+            match self.rt.arg(i, &mut none) {
+                Err(FillError::NotPresent) => {
+                    return i;
+                }
+                _ => {}
+            }
+        }
+        usize::MAX
+    }
+
+    // A file to be read. std takes names that are text.
+    pub fn open_read(&self, name: &[u8]) -> Result<File, Reason> {
+        let Ok(path) = str::from_utf8(name) else {
+            return Err(Reason { code: NO_TEXT });
+        };
+        match File::open(&self.rt, path) {
+            Ok(file) => Ok(file),
+            Err(e) => Err(Reason::of(e)),
+        }
+    }
+
+    // All of some bytes.
+    pub fn write(&self, to: Target, bytes: &[u8]) -> Result<(), Reason> {
+        match to {
+            Target::Output => put_all(self.rt.stdout(), bytes),
+            Target::Errors => told(Print::write_all(&self.rt.stderr(), bytes)),
+            Target::Channel => match &self.channel {
+                Channel::Output => put_all(self.rt.stdout(), bytes),
+                Channel::Errors => told(Print::write_all(&self.rt.stderr(), bytes)),
+                Channel::Opened(file) => {
+                    let mut to = file;
+                    told(Write::write_all(&mut to, bytes))
+                }
+                Channel::Nowhere => Ok(()),
+            },
+        }
+    }
+
+    // A line on standard error of what failed, and why.
+    pub fn fail(&self, what: &[u8], why: Reason) {
+        let mut text = [0u8; 128];
+        let n = why.words(&mut text);
+        let _ = self.write(Target::Errors, what);
+        let _ = self.write(Target::Errors, b": ");
+        let _ = self.write(Target::Errors, without_number(crate::front(&text, n)));
+        let _ = self.write(Target::Errors, b"\n");
+    }
+}
+
+// What stands before the last bracket and the space before it.
+fn without_number(text: &[u8]) -> &[u8] {
+    let mut n = text.len();
+    for i in 0..text.len() {
+        if text[i] == b'(' {
+            n = i;
+        }
+    }
+    if n == text.len() {
+        return text;
+    }
+    if n == 0 {
+        return text;
+    }
+    crate::front(text, n - 1)
+}
+
+// Whether a file has a place to which reading can go back.
+pub fn has_place(file: &File) -> bool {
+    let mut at = file;
+    at.seek(SeekFrom::Current(0)).is_ok()
+}
+
+// The file is read from its start again; whether that can be.
+pub fn go_back(file: &File) -> bool {
+    let mut at = file;
+    at.seek(SeekFrom::Start(0)).is_ok()
+}
