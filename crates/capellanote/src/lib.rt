@@ -1,5 +1,7 @@
 // The library for C: answers are arrays of numbers, the first 0 or that of the refusal (include/capellanote.h).
 // What an array holds is said by a definition over the judge's answer, and what it tells by the promise in the words of the rules.
+#![tactic(auto)]
+
 mod compare;
 mod formula;
 mod items;

@@ -1,4 +1,6 @@
 // The answers of the library for C as arrays of numbers, the first 0 or that of the refusal (include/capellanote.h).
+#![tactic(auto)]
+
 ghost use Rattle.std.specs.Prelude.{◌≡◌};
 ghost use Rattle.reader_check.specs.Promised.{numbers_of};
 ghost use Rattle.reader_item.specs.Find.{numbers_of as item_of};

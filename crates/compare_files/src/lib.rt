@@ -1,4 +1,6 @@
 // Two SDfiles compared record by record: both are judged, the differences are counted, and then listed if the lent list has room for all of them.
+#![tactic(auto)]
+
 ghost use Rattle.std.specs.Prelude.{◌≡◌, ◌-◌, ◌^◌, ◌≤◌, ◌<◌, length};
 ghost use Rattle.rules.specs.Record.{limit};
 ghost use Rattle.judge_file.specs.Place.{sdfile};

@@ -1,4 +1,6 @@
 // The items of two records compared in lock-step: names, value lines, items on one side only.
+#![tactic(auto)]
+
 ghost use Rattle.std.specs.Prelude.{◌≡◌, ◌+◌, ◌≤◌, ◌<◌, ◌^◌, length};
 ghost use Rattle.text.specs.Find.{same_bytes};
 ghost use Rattle.compare_rules.specs.Along.{along};

@@ -1,4 +1,6 @@
 // Two records compared: header lines, counts, tables, items.
+#![tactic(auto)]
+
 ghost use Rattle.std.specs.Prelude.{◌≡◌, ◌-◌, ◌*◌, ◌≤◌, ◌<◌, ◌^◌, length, take, drop};
 ghost use Rattle.rules.specs.Rows.{rows_of};
 ghost use Rattle.compare_rules.specs.Along.{along};

@@ -1,4 +1,5 @@
 // Two SDfiles compared, record by record: definitions and theorems, all in specs/. Nothing runs here; the code above shares these forms.
+#![tactic(auto)]
 
 // Where two files differ: the record's number, the part of it, the place in that part, the field. Numbers count from 1; 0 where there is none.
 #[derive(Clone, Copy)]

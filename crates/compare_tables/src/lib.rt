@@ -1,4 +1,6 @@
 // What differs, as rows of seven numbers in a lent list: figures, rows and tables compared.
+#![tactic(auto)]
+
 ghost use Rattle.std.specs.Prelude.{◌≡◌, [], ◌∷◌, ◌+◌, ◌*◌, ◌≤◌, ◌<◌, ◌^◌, length, set};
 ghost use Rattle.rules.specs.Rows.{rows_of};
 ghost use Rattle.compare_rules.specs.Along.{along};

@@ -1,4 +1,6 @@
 // Coordinate fields of a line, as signed counts of ten-thousandths.
+#![tactic(auto)]
+
 ghost use Rattle.std.specs.Prelude.{◌≡◌, ◌+◌, ◌-◌, ◌≤◌, length};
 ghost use Rattle.text.specs.Columns.{columns, columns_for};
 ghost use Rattle.field_coordinates.specs.Read.{point_read, inked, coordinate_in};

@@ -1,4 +1,6 @@
 // Integer fields of a line: what they hold and how they are written; spaces and digits, column by column.
+#![tactic(auto)]
+
 ghost use Rattle.std.specs.Prelude.{◌≡◌, ◌+◌, ◌-◌, ◌≤◌, ◌<◌, length};
 ghost use Rattle.text.specs.Columns.{columns_for};
 ghost use Rattle.field_numbers.specs.Read.{after_spaces, signed};

@@ -1,4 +1,6 @@
 // Integer fields of a line, written right-aligned.
+#![tactic(auto)]
+
 ghost use Rattle.std.specs.Prelude.{◌≡◌, true, ◌+◌, ◌-◌, ◌≤◌, ◌<◌, length};
 ghost use Rattle.std.proofs.lemmas.List.Edits.{sets};
 ghost use Rattle.field_numbers.specs.Write.{sized_text, number_text, signed_text, first_digit};

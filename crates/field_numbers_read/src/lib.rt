@@ -1,4 +1,6 @@
 // Integer fields of a line, read by columns.
+#![tactic(auto)]
+
 ghost use Rattle.std.specs.Prelude.{◌≡◌, true, ◌+◌, ◌-◌, ◌≤◌, ◌<◌, pos, length};
 ghost use Rattle.text.specs.Columns.{columns, columns_for};
 ghost use Rattle.field_numbers.specs.Read.{before_spaces, is, signed, ranged, number_in, signed_ranged, signed_in};

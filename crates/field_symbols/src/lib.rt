@@ -1,4 +1,6 @@
 // The symbols of atoms and their numbers.
+#![tactic(auto)]
+
 ghost use Rattle.std.specs.Prelude.{◌≡◌, ◌+◌, ◌*◌, ◌≤◌};
 ghost use Rattle.text.specs.Columns.{columns};
 ghost use Rattle.field_symbols.specs.Read.{symbol_in};

@@ -1,4 +1,6 @@
 // The atoms drawn, counted by element, and the list of elements that differ from a formula.
+#![tactic(auto)]
+
 ghost use Rattle.std.specs.Prelude.{◌≡◌, [], ◌∷◌, ◌+◌, ◌*◌, ◌≤◌, ◌<◌, length};
 ghost use Rattle.std.proofs.lemmas.List.Edits.{sets};
 ghost use Rattle.formula_rules.specs.Sums.{Below};

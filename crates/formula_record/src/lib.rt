@@ -1,4 +1,6 @@
 // A record's formula held against the atoms that are drawn.
+#![tactic(auto)]
+
 ghost use Rattle.std.specs.Prelude.{◌≡◌, cond, ◌*◌, ◌≤◌, eqb, length};
 ghost use Rattle.reader_answer.specs.Read.{atoms_after, bonds_after};
 ghost use Rattle.formula_rules.specs.Judged.{verdict_of};

@@ -1,1 +1,2 @@
 // Formulas: definitions and theorems, all in specs/. Nothing runs here.
+#![tactic(auto)]

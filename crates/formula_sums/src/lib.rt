@@ -1,4 +1,6 @@
 // The counts of a formula, multiplied out into a lent table with a place for each element. A count stays at 10,000 once it is there: that is too many anyway.
+#![tactic(auto)]
+
 ghost use Rattle.std.specs.Prelude.{◌≡◌, true, ◌+◌, ◌-◌, ◌*◌, ◌≤◌, ◌<◌, length, get_or, set};
 ghost use Rattle.formula_rules.specs.Parse.{units_of, group_of, element_at};
 ghost use Rattle.formula_rules.specs.Sums.{sat, Below, read_units, read_unit, added_units, added_unit};

@@ -1,4 +1,6 @@
 // Formulas recognised in a text: units call groups, and groups call units.
+#![tactic(auto)]
+
 ghost use Rattle.std.specs.Prelude.{◌≡◌, ◌≤◌, ◌<◌, length};
 ghost use Rattle.formula_rules.specs.Formula.{byte_at, between};
 ghost use Rattle.formula_rules.specs.Element.{element_of};

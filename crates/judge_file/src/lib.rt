@@ -1,1 +1,2 @@
 // The judge of a whole text and its agreement with the rules: definitions and theorems, all in specs/. Nothing runs here.
+#![tactic(auto)]

@@ -1,1 +1,2 @@
 // Pairs of atoms that bonds join: theorems, all in specs/. Nothing runs here.
+#![tactic(auto)]

@@ -1,4 +1,6 @@
 // Atom lines, judged.
+#![tactic(auto)]
+
 ghost use Rattle.std.specs.Prelude.{◌≡◌, true};
 ghost use Rattle.judge_line.specs.Judge.{atom_of};
 ghost use Rattle.line_fields.specs.Answer.{field_got};

@@ -1,4 +1,6 @@
 // Counts lines and bond lines, judged.
+#![tactic(auto)]
+
 ghost use Rattle.std.specs.Prelude.{◌≡◌, true, ◌-◌, ◌*◌, ◌≤◌, leb};
 ghost use Rattle.field_numbers.specs.Number.{Between};
 ghost use Rattle.rules.specs.Forms.{stereos, centres};

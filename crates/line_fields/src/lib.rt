@@ -1,4 +1,6 @@
 // The fields of a line, each a value or the refusal with its column.
+#![tactic(auto)]
+
 ghost use Rattle.std.specs.Prelude.{◌≡◌, ◌+◌, ◌≤◌};
 ghost use Rattle.judge_line.specs.Field.{number_at, signed_at, coordinate_at, symbol_at};
 ghost use Rattle.line_fields.specs.Answer.{field_got, signed_field_got};

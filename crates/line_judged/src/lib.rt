@@ -1,4 +1,6 @@
 // Lines of header and items that were judged good before: one look tells what a line is, and nothing is judged again.
+#![tactic(auto)]
+
 ghost use Rattle.std.specs.Prelude.{◌≡◌, drop};
 ghost use Rattle.text.specs.Find.{line_at, first_from};
 ghost use Rattle.text.specs.declared.LineAt.{LineAt};

@@ -1,4 +1,6 @@
 // Property lines, judged and entered into a lent table.
+#![tactic(auto)]
+
 ghost use Rattle.std.specs.Prelude.{◌≡◌, ◌+◌, ◌*◌, ◌≤◌, length};
 ghost use Rattle.rules.specs.Record.{limit};
 ghost use Rattle.text.specs.Find.{ink_column};

@@ -1,4 +1,6 @@
 // The first header line, data headers, `$$$$` lines, value lines and blank lines, judged one at a time.
+#![tactic(auto)]
+
 ghost use Rattle.std.specs.Prelude.{◌≡◌, true, [], ◌+◌, ◌-◌, ◌≤◌, ◌<◌, length, take, drop};
 ghost use Rattle.text.specs.Text.{bytes};
 ghost use Rattle.text.specs.Find.{is_blank};

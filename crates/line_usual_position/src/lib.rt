@@ -1,4 +1,6 @@
 // The three coordinates of an atom line in their usual form, with one digit or two before the point: most have it, and it is asked of all thirty columns at once.
+#![tactic(auto)]
+
 ghost use Rattle.std.specs.Prelude.{◌≡◌, true, ◌+◌, ◌-◌, ◌≤◌, length};
 ghost use Rattle.text.specs.Columns.{column};
 ghost use Rattle.field_numbers.specs.Number.{Digit};

@@ -1,4 +1,6 @@
 // A whole SDfile mended into lent room, with the list of repairs.
+#![tactic(auto)]
+
 ghost use Rattle.std.specs.Prelude.{◌≡◌, ◌*◌, length};
 ghost use Rattle.rules.specs.Record.{limit};
 ghost use Rattle.line_property.specs.Listed.{places};

@@ -1,4 +1,6 @@
 // One line of an SDfile judged at its place, without tables: the state keeps the reader's state and how many bonds have keys.
+#![tactic(auto)]
+
 ghost use Rattle.std.specs.Prelude.{◌≡◌, ◌≤◌, length, take};
 ghost use Rattle.rules.specs.Record.{limit};
 ghost use Rattle.judge_line.specs.Field.{elem};

@@ -1,4 +1,6 @@
 // The lines of a file to be mended, each as it came, and what is to be done with each at its place.
+#![tactic(auto)]
+
 ghost use Rattle.std.specs.Prelude.{◌≡◌, ◌-◌, ◌≤◌, ◌<◌, length, take, drop};
 ghost use Rattle.text.specs.Find.{line_at};
 ghost use Rattle.text.specs.declared.LineAt.{LineAt};

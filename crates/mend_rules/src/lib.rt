@@ -1,1 +1,2 @@
 // A file mended: definitions and theorems, all in specs/. Nothing runs here.
+#![tactic(auto)]

@@ -1,4 +1,6 @@
 // Labels of atoms: each of n atoms gets the lowest atom of its piece.
+#![tactic(auto)]
+
 ghost use Rattle.std.specs.Prelude.{◌≡◌, ◌≤◌, ◌<◌, length};
 ghost use Rattle.rules.specs.Record.{limit};
 ghost use Rattle.piece_labels.specs.Labels.{Labels, Numbered, Moved, Met, moved_to, lower_of, higher_of, own_label};

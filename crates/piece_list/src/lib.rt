@@ -1,4 +1,6 @@
 // The pieces of n atoms, listed from their labels: each piece's lowest atom, and its size as the ones of the set of its atoms.
+#![tactic(auto)]
+
 ghost use Rattle.std.specs.Prelude.{◌≡◌, ◌+◌, ◌≤◌, ◌<◌, length};
 ghost use Rattle.rules.specs.Record.{limit};
 ghost use Rattle.piece_rules.specs.Pieces.{Split};

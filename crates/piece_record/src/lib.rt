@@ -1,4 +1,6 @@
 // A record read into lent tables and split into its pieces.
+#![tactic(auto)]
+
 ghost use Rattle.std.specs.Prelude.{◌≡◌};
 ghost use Rattle.piece_labels.specs.Table.{BondTable, bonds_in};
 ghost use Rattle.piece_record.specs.Promise.{lists_of, lists_after, SplitInto, SplitPromise};

@@ -1,4 +1,6 @@
 // What reading a record answers. What it promises, and what both lent tables and the rows hold after it, is said in specs/.
+#![tactic(auto)]
+
 ghost use Rattle.std.specs.Prelude.{◌≡◌};
 ghost use Rattle.reader_answer.specs.Read.{answered};
 

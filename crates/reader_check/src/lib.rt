@@ -1,4 +1,6 @@
 // The check of a whole text: a molfile is one record, an SDfile is walked record by record.
+#![tactic(auto)]
+
 ghost use Rattle.std.specs.Prelude.{◌≡◌};
 ghost use Rattle.judge_file.specs.Place.{molfile, sdfile};
 ghost use Rattle.reader_walk.specs.Checking.{said_of};

@@ -1,4 +1,6 @@
 // Zeros in the lent memory where a reading leaves no rows.
+#![tactic(auto)]
+
 ghost use Rattle.std.specs.Prelude.{◌≡◌, ◌*◌, ◌≤◌, length};
 ghost use Rattle.rules.specs.Record.{limit, atom_places, bond_places};
 ghost use Rattle.reader_rows.specs.Says.{row_places};

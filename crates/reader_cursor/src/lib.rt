@@ -1,4 +1,6 @@
 // The walk over an SDfile's records: where it stands, and its end. Each record is read from the tail where it starts.
+#![tactic(auto)]
+
 ghost use Rattle.std.specs.Prelude.{◌≡◌, ◌+◌, ◌*◌, ◌^◌, ◌≤◌, ◌<◌, length};
 ghost use Rattle.rules.specs.Record.{limit, atom_places, bond_places};
 ghost use Rattle.line_property.specs.Listed.{places};

@@ -1,4 +1,6 @@
 // How the walk over a record's lines ends, and what it then answers.
+#![tactic(auto)]
+
 ghost use Rattle.std.specs.Prelude.{◌≡◌, ◌≤◌, ◌<◌};
 ghost use Rattle.reader_state.specs.StateParts.{finished};
 ghost use Rattle.reader_end.specs.Ending.{last_of, end_walked};

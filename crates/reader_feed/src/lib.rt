@@ -1,4 +1,6 @@
 // The records of an SDfile that comes in parts, counted with one buffer of fixed size.
+#![tactic(auto)]
+
 ghost use Rattle.std.specs.Prelude.{◌≡◌};
 ghost use Rattle.reader_feed.specs.Fed.{plus_of, begun, counted, wait_of, short_of, end_of, fed_of};
 

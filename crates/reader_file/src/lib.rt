@@ -1,4 +1,6 @@
 // A file visited record by record, each read into lent tables from the tail where it starts.
+#![tactic(auto)]
+
 ghost use Rattle.std.specs.Prelude.{◌≡◌, length};
 ghost use Rattle.reader_file.specs.Next.{Within, next_at, atoms_at, bonds_at, next_on, atoms_on, bonds_on, next_of, atoms_next, bonds_next};
 ghost use Rattle.reader_file.specs.Promise.{NextPromise};

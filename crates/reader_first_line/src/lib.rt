@@ -1,4 +1,6 @@
 // The first value line of a data item, as a stretch of the caller's bytes.
+#![tactic(auto)]
+
 ghost use Rattle.std.specs.Prelude.{◌≡◌};
 ghost use Rattle.reader_first_line.specs.First.{line_from};
 ghost use Rattle.reader_first_line.specs.Promise.{FirstPromise};

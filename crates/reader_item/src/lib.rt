@@ -1,4 +1,6 @@
 // The value lines of a data item, fetched from a record of an SDfile as a part of the caller's bytes.
+#![tactic(auto)]
+
 ghost use Rattle.std.specs.Prelude.{◌≡◌, ◌*◌, ◌≤◌, length};
 ghost use Rattle.text.specs.Find.{same_bytes};
 ghost use Rattle.rules.specs.Record.{atom_places, bond_places};

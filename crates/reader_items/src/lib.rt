@@ -1,4 +1,6 @@
 // The items of a record, stepped over one after the other, from any position of any text.
+#![tactic(auto)]
+
 ghost use Rattle.std.specs.Prelude.{◌≡◌, ◌≤◌, length};
 ghost use Rattle.text.specs.Find.{ink_column};
 ghost use Rattle.judge_line.specs.Judge.{item_of};

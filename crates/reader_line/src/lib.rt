@@ -1,4 +1,6 @@
 // One line taken into the lent tables: an atom's or a bond's row stored, and what is noted of the record.
+#![tactic(auto)]
+
 ghost use Rattle.std.specs.Prelude.{◌≡◌, ◌*◌, ◌<◌, set};
 ghost use Rattle.std.proofs.lemmas.List.Edits.{sets};
 ghost use Rattle.rules.specs.Meaning.{bond_numbers};

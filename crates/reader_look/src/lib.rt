@@ -1,4 +1,6 @@
 // A record that was accepted before, looked through for an item: of the lines before its items nothing is judged again.
+#![tactic(auto)]
+
 ghost use Rattle.std.specs.Prelude.{◌≡◌, ◌≤◌, length};
 ghost use Rattle.reader_look.specs.Look.{begins_item, Reaches, keep, keep_first, looked_by, unlooked, Looks};
 ghost use Rattle.reader_look.specs.Promise.{Promised};

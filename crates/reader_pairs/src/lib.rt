@@ -1,4 +1,6 @@
 // A pair of atoms as one number, and the search for it among the pairs before.
+#![tactic(auto)]
+
 ghost use Rattle.std.specs.Prelude.{◌≡◌, ◌+◌, ◌≤◌, length};
 ghost use Rattle.rules.specs.Record.{limit};
 ghost use Rattle.reader_pairs.specs.Keys.{pair_key, Searching, Missed};

@@ -1,4 +1,6 @@
 // The places of a record's lines: how long a line may be there, where the input may end, which place comes next.
+#![tactic(auto)]
+
 ghost use Rattle.std.specs.Prelude.{◌≡◌, ◌≤◌};
 ghost use Rattle.judge_line.specs.Got.{got};
 ghost use Rattle.judge_line.specs.Field.{within};

@@ -1,4 +1,6 @@
 // A record read into lent tables.
+#![tactic(auto)]
+
 ghost use Rattle.std.specs.Prelude.{◌≡◌, ◌≤◌, length};
 ghost use Rattle.rules.specs.Record.{atom_places, bond_places};
 ghost use Rattle.reader_rows.specs.Rowed.{Lent};

@@ -1,4 +1,6 @@
 // An SDfile judged record by record, in parts: behind a refused record judging goes on after the next line that begins `$$$$`.
+#![tactic(auto)]
+
 ghost use Rattle.std.specs.Prelude.{◌≡◌, ◌*◌, ◌≤◌, length};
 ghost use Rattle.rules.specs.Record.{limit, atom_places, bond_places};
 ghost use Rattle.line_property.specs.Listed.{places};

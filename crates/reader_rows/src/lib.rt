@@ -1,4 +1,6 @@
 // Rows of bits that say which atoms are bonded, lent to the record reader. Rows of no words are none: then the list is searched.
+#![tactic(auto)]
+
 ghost use Rattle.std.specs.Prelude.{◌≡◌, ◌≤◌, length};
 ghost use Rattle.reader_pairs.specs.Keys.{Searching};
 ghost use Rattle.reader_rows.specs.Says.{row_places, emptied};

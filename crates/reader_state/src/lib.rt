@@ -1,4 +1,6 @@
 // The reader's state, by value: at every line in one place of the record, with the lines still owed there.
+#![tactic(auto)]
+
 ghost use Rattle.std.specs.Prelude.{◌≡◌, [], ◌*◌, ◌≤◌, length};
 ghost use Rattle.line_counts_bonds.specs.Answer.{counts_is};
 ghost use Rattle.line_property.specs.Listed.{places};

@@ -1,4 +1,6 @@
 // One record from the front of a text.
+#![tactic(auto)]
+
 ghost use Rattle.std.specs.Prelude.{◌≡◌, ◌*◌, ◌≤◌, length};
 ghost use Rattle.rules.specs.Record.{limit, atom_places, bond_places};
 ghost use Rattle.line_property.specs.Listed.{places};

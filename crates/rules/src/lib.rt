@@ -1,4 +1,6 @@
 // The rules of the format: definitions and theorems, all in specs/. What runs is in the crates above; here are the sizes that they share, each made from one.
+#![tactic(auto)]
+
 ghost use Rattle.std.specs.Prelude.{◌≡◌, [], ◌∷◌, suc, ◌*◌};
 ghost use Rattle.rules.specs.Record.{limit, atom_places, bond_places};
 

@@ -1,4 +1,6 @@
 // A set of numbers as words of 64 bits.
+#![tactic(auto)]
+
 ghost use Rattle.std.specs.Prelude.{◌≡◌, ◌*◌, ◌^◌, ◌≤◌, ◌<◌, length};
 ghost use Rattle.std.specs.Int.Count.{ones};
 ghost use Rattle.sets_words.specs.Bits.{has_bit, word_with, with_bit, in_row};

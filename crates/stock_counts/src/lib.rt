@@ -1,4 +1,6 @@
 // The last count of each lot, kept in lent memory.
+#![tactic(auto)]
+
 ghost use Rattle.std.specs.Prelude.{◌≡◌, ◌+◌, ◌<◌};
 ghost use Rattle.stock_counts.specs.Promise.{Promise};
 

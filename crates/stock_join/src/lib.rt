@@ -1,4 +1,6 @@
 // The join of the store and the catalogue, one step a record, over memory that the caller lends.
+#![tactic(auto)]
+
 ghost use Rattle.std.specs.Prelude.{◌≡◌, ◌<◌};
 ghost use Rattle.stock_join.specs.Step.{up_to, marked, place_in, fresh, next_file, after, under_at};
 ghost use Rattle.stock_join.specs.Promise.{FatePromise, Promise};

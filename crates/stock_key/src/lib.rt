@@ -1,4 +1,6 @@
 // The key of a record, from its two items.
+#![tactic(auto)]
+
 ghost use Rattle.std.specs.Prelude.{◌≡◌, ◌+◌, ◌≤◌, ◌<◌, length};
 ghost use Rattle.stock_key.specs.Read.{byte_of, word_of, text_in, absent_by, text_of, lot_of};
 ghost use Rattle.stock_key.specs.Promise.{KeyPromise};

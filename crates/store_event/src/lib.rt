@@ -1,4 +1,6 @@
 // One event of the scanner log, read where it starts.
+#![tactic(auto)]
+
 ghost use Rattle.std.specs.Prelude.{◌≡◌, ◌+◌, ◌≤◌, ◌<◌, length};
 ghost use Rattle.store_event.specs.Scan.{word_at, half_at, key_at, is_scan, scan_of, scan_at};
 

@@ -1,4 +1,6 @@
 // The lots in lent memory: the search for a key, a lot's paper, a new key.
+#![tactic(auto)]
+
 ghost use Rattle.std.specs.Prelude.{◌≡◌, ◌+◌, ◌-◌, ◌≤◌, ◌<◌};
 ghost use Rattle.store_lots.specs.Memory.{same_key_at, place_from, paper_at, put_key};
 ghost use Rattle.store_lots.specs.Looking.{Missed};

@@ -1,4 +1,6 @@
 // The replay of a scanner log, one event a step, over memory that the caller lends.
+#![tactic(auto)]
+
 ghost use Rattle.std.specs.Prelude.{◌≡◌, ◌≤◌, ◌<◌, pos, ◌-ℤ◌};
 ghost use Rattle.store_replay.specs.Next.{fresh, past, after, receipt_at, issue_at, count_at, Stands, next_at};
 ghost use Rattle.store_replay.specs.Promise.{Promise};

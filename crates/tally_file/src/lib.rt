@@ -1,4 +1,6 @@
 // A file's records added to a list of tallies in flat memory: all of them, or a refusal and none.
+#![tactic(auto)]
+
 ghost use Rattle.std.specs.Prelude.{◌≡◌, ◌+◌, ◌≤◌, length};
 ghost use Rattle.tally_rules.specs.Book.{with_name, record_on};
 ghost use Rattle.tally_flat.specs.Flat.{memory, Sized};

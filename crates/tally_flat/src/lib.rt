@@ -1,4 +1,6 @@
 // Tallies in three flat arrays: tally i has its name at byte 24 i of the names, its length and its count at place i of the others.
+#![tactic(auto)]
+
 ghost use Rattle.std.specs.Prelude.{◌≡◌, ◌+◌, ◌*◌, ◌-◌, ◌≤◌, ◌<◌, length, get_or, set};
 ghost use Rattle.tally_rules.specs.Tally.{order, longest, most_suppliers, most_records};
 ghost use Rattle.tally_flat.specs.Flat.{memory, Looked, names_from, slot_from, shifted, put_from, inserted, Near, Placed, new_of, after_new, AddReady, added_of, AddedTo};

@@ -1,4 +1,6 @@
 // Whether a list of tallies can be added to: few enough, names that fit and rise, counts that add up to the total.
+#![tactic(auto)]
+
 ghost use Rattle.std.specs.Prelude.{◌≡◌, ◌+◌, ◌≤◌, ◌<◌, eqb, length};
 ghost use Rattle.tally_rules.specs.Tally.{order};
 ghost use Rattle.tally_flat.specs.Flat.{memory, Sized, name_at, names_from, Looked};

@@ -1,4 +1,6 @@
 // A lent list of tally records: a name found, a tally inserted, a record added. Each says of the list what the flat layer says of its arrays.
+#![tactic(auto)]
+
 ghost use Rattle.std.specs.Prelude.{◌≡◌, ◌-◌, ◌<◌, ◌≤◌, length, set, take};
 ghost use Rattle.tally_rules.specs.Tally.{order, fresh, one_more, added, longest, most_records};
 ghost use Rattle.tally_flat.specs.Flat.{now_of, laid_by};

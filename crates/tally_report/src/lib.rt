@@ -1,4 +1,6 @@
 // The report's text, put into lent room line by line.
+#![tactic(auto)]
+
 ghost use Rattle.std.specs.Prelude.{◌≡◌, ◌++◌, ◌+◌, ◌*◌, ◌≤◌, length};
 ghost use Rattle.text.specs.Text.{bytes};
 ghost use Rattle.writer_lines.specs.Laid.{Laid};

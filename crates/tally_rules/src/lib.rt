@@ -1,4 +1,5 @@
 // Bottles per supplier: definitions and theorems, all in specs/. What runs is in the crates above; here are the sizes and the types that they share.
+#![tactic(auto)]
 
 // The most suppliers of a list, the most bytes of a supplier, the most records of a report.
 pub const SUPPLIERS: usize = 64;

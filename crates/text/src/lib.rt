@@ -1,4 +1,6 @@
 // Lines of a text and columns of a line.
+#![tactic(auto)]
+
 ghost use Rattle.std.specs.Prelude.{◌≡◌, true, ◌+◌, ◌≤◌, ◌<◌, length, drop};
 ghost use Rattle.text.specs.Columns.{column};
 ghost use Rattle.text.specs.Find.{first_from, is_lf, is_bad, bad_column, ink_column, line_to, line_at, is_blank, has_text};

@@ -1,4 +1,5 @@
 // What copying a record and writing a catalogue answer. What they promise is said in specs/.
+#![tactic(auto)]
 
 // A record copied: the bytes and lines that the record takes and the length of its text, or the first refusal.
 #[derive(Drop)]

@@ -1,4 +1,6 @@
 // A whole SDfile in its canonical form, written into lent room: one pass judges and measures, one reads and writes.
+#![tactic(auto)]
+
 ghost use Rattle.std.specs.Prelude.{◌≡◌, [], ◌+◌, ◌-◌, ◌*◌, ◌^◌, ◌≤◌, ◌<◌, length};
 ghost use Rattle.rules.specs.Record.{atom_places, bond_places};
 ghost use Rattle.writer_lines.specs.Laid.{Laid};

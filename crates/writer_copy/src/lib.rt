@@ -1,4 +1,6 @@
 // A record read into lent tables and written in its canonical form. What was read can be written, so it is laid, and not judged again.
+#![tactic(auto)]
+
 ghost use Rattle.std.specs.Prelude.{◌≡◌};
 ghost use Rattle.reader_walk.specs.Stands.{kind_of};
 ghost use Rattle.writer_copy.specs.Most.{surely};

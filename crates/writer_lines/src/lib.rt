@@ -1,4 +1,6 @@
 // Lines of a molecule written into lent room: fields, and the counts, atom and bond lines that they make.
+#![tactic(auto)]
+
 ghost use Rattle.std.specs.Prelude.{◌≡◌, [], ◌∷◌, map, ◌+◌, ◌-◌, ◌*◌, ◌≤◌, ◌<◌, length, get_or, pos, nat_abs};
 ghost use Rattle.text.specs.Written.{text};
 ghost use Rattle.field_numbers.specs.Write.{number_text, signed_text};

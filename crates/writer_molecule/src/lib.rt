@@ -1,4 +1,6 @@
 // The molecule of a record written into lent room: counts, atoms and bonds, then property lines and `M  END`.
+#![tactic(auto)]
+
 ghost use Rattle.std.specs.Prelude.{◌≡◌, [], ◌∷◌, cond, ◌+◌, ◌*◌, ◌≤◌, ◌<◌, length, take};
 ghost use Rattle.text.specs.Text.{bytes};
 ghost use Rattle.text.specs.Written.{text};

@@ -1,4 +1,6 @@
 // Header lines and items handed to the writer: judged and measured; those of a record that was read, measured alone.
+#![tactic(auto)]
+
 ghost use Rattle.std.specs.Prelude.{◌≡◌, ◌≤◌, length};
 ghost use Rattle.judge_file.specs.Verdict.{accepted};
 ghost use Rattle.judge_parts.specs.Written.{text_of, written_headers, written_items};

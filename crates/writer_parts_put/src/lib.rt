@@ -1,4 +1,6 @@
 // Good header lines and items, written into lent room: they were judged before, so none is refused here.
+#![tactic(auto)]
+
 ghost use Rattle.std.specs.Prelude.{◌+◌, ◌-◌, ◌≤◌, length, take, drop};
 ghost use Rattle.rules.specs.Write.{header_text};
 ghost use Rattle.judge_parts.specs.Written.{text_of, written_headers, written_items};

@@ -1,4 +1,6 @@
 // The canonical text of a record, written into lent room.
+#![tactic(auto)]
+
 ghost use Rattle.std.specs.Prelude.{◌≡◌, ◌+◌, ◌*◌, ◌≤◌, length};
 ghost use Rattle.rules.specs.Record.{limit};
 ghost use Rattle.writer_lines.specs.Laid.{Laid};

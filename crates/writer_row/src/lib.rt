@@ -1,4 +1,6 @@
 // One row of a table that is to be written: the ranges of an atom's numbers, the ranges and rules of a bond's.
+#![tactic(auto)]
+
 ghost use Rattle.std.specs.Prelude.{◌≡◌, ◌≤◌, ◌<◌, not, length, get_or, pos};
 ghost use Rattle.rules.specs.Record.{limit};
 ghost use Rattle.rules.specs.Canon.{atom_row, bond_row};

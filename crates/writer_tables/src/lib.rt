@@ -1,4 +1,6 @@
 // Tables that can be written: every range and bond rule of the format, asked of tables before they are put into a text.
+#![tactic(auto)]
+
 ghost use Rattle.std.specs.Prelude.{◌≡◌, ◌+◌, ◌-◌, ◌*◌, ◌≤◌, ◌<◌, leb, length, get_or, pos};
 ghost use Rattle.rules.specs.Record.{limit};
 ghost use Rattle.rules.specs.Canon.{atom_row, bond_row, is_zero};

@@ -7,6 +7,6 @@ pub returns : goal.returns
 returns c =
     let p = c.copy_record.ensures in
     record {
-        answer_after = copied_held _ _ _ _ _ _ _ _ _ _ c.of_copied.ensures p;
-        copy_promise = copied_told_lem _ _ _ _ _ _ _ _ _ _ c.of_copied.ensures p;
+      answer_after = copied_held _ _ _ _ _ _ _ _ _ _ c.of_copied.ensures p;
+      copy_promise = copied_told_lem _ _ _ _ _ _ _ _ _ _ c.of_copied.ensures p;
     }

@@ -8,8 +8,8 @@ returns c =
     let o = c.of_next.ensures in
     let q = c.next_record.ensures in
     record {
-        answer_after = next_held _ _ _ _ o q.value;
-        atoms_after = q.atoms_after;
-        bonds_after = q.bonds_after;
-        next_promise = next_told_lem _ _ _ _ _ _ _ _ o q.next_promise;
+      answer_after = next_held _ _ _ _ o q.value;
+      atoms_after = q.atoms_after;
+      bonds_after = q.bonds_after;
+      next_promise = next_told_lem _ _ _ _ _ _ _ _ o q.next_promise;
     }

@@ -7,6 +7,6 @@ pub returns : goal.returns
 returns c =
     let p = c.write_catalogue.ensures in
     record {
-        answer_after = catalogue_held _ _ _ _ _ _ _ _ _ c.of_catalogue.ensures p;
-        catalogue_promise = catalogue_told_lem _ _ _ _ _ _ _ _ _ c.of_catalogue.ensures p;
+      answer_after = catalogue_held _ _ _ _ _ _ _ _ _ c.of_catalogue.ensures p;
+      catalogue_promise = catalogue_told_lem _ _ _ _ _ _ _ _ _ c.of_catalogue.ensures p;
     }

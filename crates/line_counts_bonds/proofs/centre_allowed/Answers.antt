@@ -15,6 +15,6 @@ pub overflow_cast-centre : goal.overflow_cast-centre
 overflow_cast-centre c = rw (next_number c.args.centre c.requires c.ranges.centre) (tt, record { fits = omega (arith, next_small c.args.centre c.requires) })
 
 pub returns : goal.returns
-returns c =    c.next_allowed.ensures
+returns c = c.next_allowed.ensures
     ∙ ap (λ (z : ℤ). elem (nat_abs z) next_centres) (next_number c.args.centre c.requires c.ranges.centre)
     ∙ centre_next c.args.centre c.requires

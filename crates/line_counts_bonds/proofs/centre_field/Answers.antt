@@ -13,7 +13,7 @@ unfolding listed_at signed_listed_at
 returns-in-Bad c = search steps depth 24 fits 20000
 
 pub centre_allowed-requires : goal.centre_allowed-requires
-centre_allowed-requires c =    let f : SFits w32 c.in-Is.z = search rules in
+centre_allowed-requires c = let f : SFits w32 c.in-Is.z = search rules in
     rw (hop c.in-Is.z f) (signed_range c.args.line.now 19 21 1 13 _ _ c.signed_field.ensures c.in-Is.is)
 
 pub returns-then-centre_allowed : goal.returns-then-centre_allowed

@@ -15,7 +15,7 @@ unfolding counts_of after_counts
 returns-in-Bad-number_field c = search steps depth 24 fits 20000
 
 pub enough_pairs-requires : goal.enough_pairs-requires
-enough_pairs-requires c =    let s = c in
+enough_pairs-requires c = let s = c in
     let a = field_most s.args.line.now 1 3 0 s.args.limit _ _ c.number_field.ensures c.in-Is.is in
     let b = field_most s.args.line.now 4 6 0 s.args.limit _ _ c.number_field-2.ensures c.in-Is-number_field.is in
     (omega (arith, s.requires), omega (arith, s.requires))

@@ -13,19 +13,19 @@ pub returns-then-outside-ne0 : goal.returns-then-outside-ne0
 returns-then-outside-ne0 c = false_true
 
 pub has_lead-requires : goal.has_lead-requires
-has_lead-requires c =    (omega arith, omega arith, search rules, (lead_bound c.args.line.now (search rules) (c.outside.ensures (search rules))).0)
+has_lead-requires c = (omega arith, omega arith, search rules, (lead_bound c.args.line.now (search rules) (c.outside.ensures (search rules))).0)
 
 pub returns-then-not-has_lead : goal.returns-then-not-has_lead
 returns-then-not-has_lead c = false_true
 
 pub has_lead-requires-2 : goal.has_lead-requires-2
-has_lead-requires-2 c =    (omega arith, omega arith, search rules, (lead_bound c.args.line.now (search rules) (c.outside.ensures (search rules))).1)
+has_lead-requires-2 c = (omega arith, omega arith, search rules, (lead_bound c.args.line.now (search rules) (c.outside.ensures (search rules))).1)
 
 pub returns-then-not-has_lead-2 : goal.returns-then-not-has_lead-2
 returns-then-not-has_lead-2 c = false_true
 
 pub has_lead-requires-3 : goal.has_lead-requires-3
-has_lead-requires-3 c =    (omega arith, omega arith, search rules, (lead_bound c.args.line.now (search rules) (c.outside.ensures (search rules))).2)
+has_lead-requires-3 c = (omega arith, omega arith, search rules, (lead_bound c.args.line.now (search rules) (c.outside.ensures (search rules))).2)
 
 pub returns : goal.returns
 returns c = λ e. line_usual c.args.line.now (search rules) (c.outside.ensures (search rules))

@@ -16,12 +16,14 @@ loop-k-preserved c =
     let a = c.args in
     let b = c.inner_column-b in (
       search rules,
-      λ e. elim c.if-high-k.branch
-        [ then-high-k w ↦ absurd (omega (arith, e, w))
+      λ e. elim c.if-high-k.branch [
+        | then-high-k w ↦ absurd (omega (arith, e, w))
         | else-high-k w ↦
-            elim c.if-b-low.branch
-            [ then-b-low v ↦ absurd (omega (arith, e, w, v))
-            | else-b-low v ↦ between_next a.line.now a.low.now a.high.now c.loop-k.k b.result (c.loop-k.invariant.1 (omega (arith, e, w, v))) b.ensures (search rules) (search rules) ] ],
+            elim c.if-b-low.branch [
+              | then-b-low v ↦ absurd (omega (arith, e, w, v))
+              | else-b-low v ↦ between_next a.line.now a.low.now a.high.now c.loop-k.k b.result (c.loop-k.invariant.1 (omega (arith, e, w, v))) b.ensures (search rules) (search rules)
+            ]
+      ],
     )
 
 pub returns : goal.returns

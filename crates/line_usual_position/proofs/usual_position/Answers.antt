@@ -14,5 +14,5 @@ pub coordinate-requires-then-is_usual-2 : goal.coordinate-requires-then-is_usual
 coordinate-requires-then-is_usual-2 c = (omega arith, omega arith, (c.is_usual.ensures (search rules)).2)
 
 pub returns-then-is_usual : goal.returns-then-is_usual
-returns-then-is_usual c =    let u = c.is_usual.ensures (search rules) in
+returns-then-is_usual c = let u = c.is_usual.ensures (search rules) in
     search (rules, line_said, u)

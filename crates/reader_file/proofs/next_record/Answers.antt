@@ -6,24 +6,24 @@ use Rattle.reader_file.proofs.next_record.Goals as goal
 
 pub returns-then-atoms-lt-ATOMS : goal.returns-then-atoms-lt-ATOMS
 returns-then-atoms-lt-ATOMS c = record {
-        value = search room_laws;
-        atoms_after = search room_laws;
-        bonds_after = search room_laws;
-        next_promise = search promise_laws;
-    }
+  value = search room_laws;
+  atoms_after = search room_laws;
+  bonds_after = search room_laws;
+  next_promise = search promise_laws;
+}
 
 pub returns-then-bonds-lt-BONDS : goal.returns-then-bonds-lt-BONDS
 returns-then-bonds-lt-BONDS c = record {
-        value = search room_laws;
-        atoms_after = search room_laws;
-        bonds_after = search room_laws;
-        next_promise = search promise_laws;
-    }
+  value = search room_laws;
+  atoms_after = search room_laws;
+  bonds_after = search room_laws;
+  next_promise = search promise_laws;
+}
 
 pub returns : goal.returns
 returns c = record {
-        value = search room_laws;
-        atoms_after = search room_laws;
-        bonds_after = search room_laws;
-        next_promise = search promise_laws;
-    }
+  value = search room_laws;
+  atoms_after = search room_laws;
+  bonds_after = search room_laws;
+  next_promise = search promise_laws;
+}

@@ -8,9 +8,9 @@ clear_after-requires c = search cleared_laws
 
 pub returns : goal.returns
 returns c = record {
-        read_value = search cleared_laws;
-        asked_value = search cleared_laws;
-        atoms_after = search cleared_laws;
-        bonds_after = search cleared_laws;
-        rows_marked = search cleared_laws;
-    }
+  read_value = search cleared_laws;
+  asked_value = search cleared_laws;
+  atoms_after = search cleared_laws;
+  bonds_after = search cleared_laws;
+  rows_marked = search cleared_laws;
+}

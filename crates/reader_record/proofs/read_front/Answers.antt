@@ -8,16 +8,16 @@ mean-requires c = search walked_laws
 
 pub returns-in-Whole : goal.returns-in-Whole
 returns-in-Whole c = record {
-        read_value = search walked_laws;
-        asked_value = search walked_laws;
-        rows_left = search walked_laws;
-        rows_marked = search walked_laws;
-    }
+  read_value = search walked_laws;
+  asked_value = search walked_laws;
+  rows_left = search walked_laws;
+  rows_marked = search walked_laws;
+}
 
 pub returns-in-Refused : goal.returns-in-Refused
 returns-in-Refused c = record {
-        read_value = search walked_laws;
-        asked_value = search walked_laws;
-        rows_left = search walked_laws;
-        rows_marked = search walked_laws;
-    }
+  read_value = search walked_laws;
+  asked_value = search walked_laws;
+  rows_left = search walked_laws;
+  rows_marked = search walked_laws;
+}

@@ -35,7 +35,7 @@ pub loop-i-smaller : goal.loop-i-smaller
 loop-i-smaller c = search (rules, halves_laws)
 
 pub loop-i-preserved : goal.loop-i-preserved
-loop-i-preserved c =    let first = c in
+loop-i-preserved c = let first = c in
     let start = first in
     halves_next _ _ _ _ _ _ start.loop-i.invariant start.loop-i-test.true _ first.clear_block.ensures _ c.clear_block-in-loop-i.ensures
 

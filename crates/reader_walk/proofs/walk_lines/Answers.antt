@@ -31,12 +31,12 @@ shape_of-rows-in_default c = search (rules, line_laws, at_end_laws)
 
 pub returns-in_default : goal.returns-in_default
 returns-in_default c = record {
-        walked_value = search (rules, line_laws, at_end_laws);
-        asked_value = end_asked _ _ _ _ _ _ _ _ _ _ _ _ _ _ c.walk.invariant (sym c.line_at.ensures ∙ c.in_default.is) _ c.ended.ensures.asked_value;
-        left = search (rules, line_laws, at_end_laws);
-        keys_len = search (rules, line_laws);
-        rows_marked = search (rules, line_laws, at_end_laws);
-    }
+  walked_value = search (rules, line_laws, at_end_laws);
+  asked_value = end_asked _ _ _ _ _ _ _ _ _ _ _ _ _ _ c.walk.invariant (sym c.line_at.ensures ∙ c.in_default.is) _ c.ended.ensures.asked_value;
+  left = search (rules, line_laws, at_end_laws);
+  keys_len = search (rules, line_laws);
+  rows_marked = search (rules, line_laws, at_end_laws);
+}
 
 pub slice_bounds-take_line-count : goal.slice_bounds-take_line-count
 slice_bounds-take_line-count c = search (rules, line_laws)
@@ -61,15 +61,15 @@ walk-preserved-in-Next c = search (rules, line_laws)
 
 pub pair_key-key-requires : goal.pair_key-key-requires
 pair_key-key-requires c = (
-    first_small _ _ _ _ _ _ _ _ _ _ _ _ _ _ c.walk.invariant _ _ _ c.line_at.ensures c.in-Line.is _ _ _ _ _ c.take_line.ensures c.in-Bond.is,
-    second_small _ _ _ _ _ _ _ _ _ _ _ _ _ _ c.walk.invariant _ _ _ c.line_at.ensures c.in-Line.is _ _ _ _ _ c.take_line.ensures c.in-Bond.is,
-  )
+  first_small _ _ _ _ _ _ _ _ _ _ _ _ _ _ c.walk.invariant _ _ _ c.line_at.ensures c.in-Line.is _ _ _ _ _ c.take_line.ensures c.in-Bond.is,
+  second_small _ _ _ _ _ _ _ _ _ _ _ _ _ _ c.walk.invariant _ _ _ c.line_at.ensures c.in-Line.is _ _ _ _ _ c.take_line.ensures c.in-Bond.is,
+)
 
 pub first_key-j-requires : goal.first_key-j-requires
 first_key-j-requires c = pair_asks _ _ _ _ _ _ _ _ _ _ _ _ _ _ c.walk.invariant _ _ _ c.line_at.ensures c.in-Line.is _ _ _ _ _ c.take_line.ensures c.in-Bond.is _ c.pair_key-key.ensures
 
 pub loop-j-init : goal.loop-j-init
-loop-j-init c =    pairing_start _ _ _ _ _ _ _ _ _ _ _ _ _ _ c.walk.invariant _ _ _ c.line_at.ensures c.in-Line.is _ _ _ _ _
+loop-j-init c = pairing_start _ _ _ _ _ _ _ _ _ _ _ _ _ _ c.walk.invariant _ _ _ c.line_at.ensures c.in-Line.is _ _ _ _ _
     c.take_line.ensures c.in-Bond.is _ _ c.pair_key-key.ensures c.first_key-j.ensures
 
 pub offset_bounds-keys-j : goal.offset_bounds-keys-j
@@ -103,7 +103,7 @@ pub walk-smaller : goal.walk-smaller
 walk-smaller c = walking_less _ _ _ _ _ c.line_at.ensures c.in-Line.is
 
 pub walk-preserved : goal.walk-preserved
-walk-preserved c =    pairing_end _ _ _ _ _ _ _ _ _ _ _ _ _ _ _ c.loop-j.invariant c.loop-j-test.false _ _ _ c.walk.invariant.rowed
+walk-preserved c = pairing_end _ _ _ _ _ _ _ _ _ _ _ _ _ _ _ c.loop-j.invariant c.loop-j-test.false _ _ _ c.walk.invariant.rowed
     (bond_beside _ _ _ _ _ _ _ _ _ _ _ _ _ _ c.walk.invariant _ _ _ c.line_at.ensures c.in-Line.is _ _ _ _ _ c.take_line.ensures c.in-Bond.is)
     c.walk.invariant.bonds_beside _ _ _ _ c.keep_bond-notes.ensures.value c.keep_bond-notes.ensures.keys_after c.keep_bond-notes.ensures.bonds_after c.mark.ensures
 
@@ -118,12 +118,12 @@ shape_of-rows-in-Done c = search (rules, line_laws)
 
 pub returns-in-Done : goal.returns-in-Done
 returns-in-Done c = record {
-        walked_value = search (rules, line_laws);
-        asked_value = search (rules, line_laws);
-        left = search (rules, line_laws);
-        keys_len = search (rules, line_laws);
-        rows_marked = search (rules, line_laws);
-    }
+  walked_value = search (rules, line_laws);
+  asked_value = search (rules, line_laws);
+  left = search (rules, line_laws);
+  keys_len = search (rules, line_laws);
+  rows_marked = search (rules, line_laws);
+}
 
 pub shape_of-atoms-in-Refused : goal.shape_of-atoms-in-Refused
 shape_of-atoms-in-Refused c = search (rules, line_laws)
@@ -136,12 +136,12 @@ shape_of-rows-in-Refused c = search (rules, line_laws)
 
 pub returns-in-Refused : goal.returns-in-Refused
 returns-in-Refused c = record {
-        walked_value = search (rules, line_laws);
-        asked_value = search (rules, line_laws);
-        left = search (rules, line_laws);
-        keys_len = search (rules, line_laws);
-        rows_marked = search (rules, line_laws);
-    }
+  walked_value = search (rules, line_laws);
+  asked_value = search (rules, line_laws);
+  left = search (rules, line_laws);
+  keys_len = search (rules, line_laws);
+  rows_marked = search (rules, line_laws);
+}
 
 pub repeated-requires : goal.repeated-requires
 repeated-requires c = repeat_fits _ _ _ _ _ _ _ _ _ _ _ _ _ _ _ c.loop-j.invariant c.loop-j-test.true c.if-keys-j.true
@@ -157,12 +157,12 @@ shape_of-rows c = rows_size _ _ _ _ _ _ _ _ _ _ _ _ _ _ c.walk.invariant
 
 pub returns : goal.returns
 returns c = record {
-        walked_value = pairing_found _ _ _ _ _ _ _ _ _ _ _ _ _ _ _ c.loop-j.invariant c.loop-j-test.true c.if-keys-j.true _ c.repeated.ensures.walked_value;
-        asked_value = found_asked _ _ _ _ _ _ _ _ _ _ _ _ _ _ _ c.loop-j.invariant c.loop-j-test.true c.if-keys-j.true _ c.repeated.ensures.asked_value;
-        left =
-            found_left _ _ _ _ _ _ _ _ _ _ _ _ _ _ _ c.loop-j.invariant c.loop-j-test.true c.if-keys-j.true _ _
-            (bond_beside _ _ _ _ _ _ _ _ _ _ _ _ _ _ c.walk.invariant _ _ _ c.line_at.ensures c.in-Line.is _ _ _ _ _ c.take_line.ensures c.in-Bond.is)
-            c.walk.invariant.bonds_beside;
-        keys_len = c.walk.invariant.key_room;
-        rows_marked = found_rows _ _ _ _ _ _ _ _ _ _ _ _ _ _ _ c.loop-j.invariant c.loop-j-test.true c.if-keys-j.true _ c.walk.invariant.rowed;
-    }
+  walked_value = pairing_found _ _ _ _ _ _ _ _ _ _ _ _ _ _ _ c.loop-j.invariant c.loop-j-test.true c.if-keys-j.true _ c.repeated.ensures.walked_value;
+  asked_value = found_asked _ _ _ _ _ _ _ _ _ _ _ _ _ _ _ c.loop-j.invariant c.loop-j-test.true c.if-keys-j.true _ c.repeated.ensures.asked_value;
+  left =
+      found_left _ _ _ _ _ _ _ _ _ _ _ _ _ _ _ c.loop-j.invariant c.loop-j-test.true c.if-keys-j.true _ _
+      (bond_beside _ _ _ _ _ _ _ _ _ _ _ _ _ _ c.walk.invariant _ _ _ c.line_at.ensures c.in-Line.is _ _ _ _ _ c.take_line.ensures c.in-Bond.is)
+      c.walk.invariant.bonds_beside;
+  keys_len = c.walk.invariant.key_room;
+  rows_marked = found_rows _ _ _ _ _ _ _ _ _ _ _ _ _ _ _ c.loop-j.invariant c.loop-j-test.true c.if-keys-j.true _ c.walk.invariant.rowed;
+}

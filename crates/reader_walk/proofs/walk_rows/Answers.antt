@@ -6,8 +6,8 @@ pub returns : goal.returns
 returns c =
     let e = c.walk_lines.ensures in
     record {
-        walked_value = e.walked_value;
-        asked_value = e.asked_value;
-        left = e.left;
-        rows_marked = e.rows_marked;
+      walked_value = e.walked_value;
+      asked_value = e.asked_value;
+      left = e.left;
+      rows_marked = e.rows_marked;
     }

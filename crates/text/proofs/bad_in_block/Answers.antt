@@ -14,11 +14,12 @@ loop-k-init c = (search rules, λ e. block_start is_bad _ _)
 
 pub loop-k-preserved : goal.loop-k-preserved
 loop-k-preserved c = (
-    search rules,
-    λ e. elim c.if-is_bad.branch
-      [ then-is_bad w ↦ absurd (omega (arith, e, w))
-      | else-is_bad w ↦ block_next is_bad _ _ _ (c.loop-k.invariant.1 (omega (arith, e, w))) (search rules) (sym c.is_bad.ensures ∙ w.if-is_bad.false) ],
-  )
+  search rules,
+  λ e. elim c.if-is_bad.branch [
+    | then-is_bad w ↦ absurd (omega (arith, e, w))
+    | else-is_bad w ↦ block_next is_bad _ _ _ (c.loop-k.invariant.1 (omega (arith, e, w))) (search rules) (sym c.is_bad.ensures ∙ w.if-is_bad.false)
+  ],
+)
 
 pub returns : goal.returns
 returns c = λ e. block_over is_bad _ _ _ 16 (c.loop-k.invariant.1 e) (search rules) (search rules)

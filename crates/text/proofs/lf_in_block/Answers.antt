@@ -15,11 +15,12 @@ loop-k-init c = (search rules, λ e. block_start is_lf _ _)
 
 pub loop-k-preserved : goal.loop-k-preserved
 loop-k-preserved c = (
-    search rules,
-    λ e. elim c.if-s-at-eq10.branch
-      [ then-s-at-eq10 w ↦ absurd (omega (arith, e, w))
-      | else-s-at-eq10 w ↦ block_next is_lf _ _ _ (c.loop-k.invariant.1 (omega (arith, e, w))) (search rules) (ne_eqb _ _ w.if-s-at-eq10.false) ],
-  )
+  search rules,
+  λ e. elim c.if-s-at-eq10.branch [
+    | then-s-at-eq10 w ↦ absurd (omega (arith, e, w))
+    | else-s-at-eq10 w ↦ block_next is_lf _ _ _ (c.loop-k.invariant.1 (omega (arith, e, w))) (search rules) (ne_eqb _ _ w.if-s-at-eq10.false)
+  ],
+)
 
 pub returns : goal.returns
 returns c = λ e. block_over is_lf _ _ _ 16 (c.loop-k.invariant.1 e) (search rules) (search rules)

@@ -14,11 +14,12 @@ loop-k-init c = (search rules, λ e. text_start _ _ _)
 
 pub loop-k-preserved : goal.loop-k-preserved
 loop-k-preserved c = (
-    search rules,
-    λ e. elim c.if-inner_column-text.branch
-      [ then-inner_column-text w ↦ absurd (omega (arith, e, w))
-      | else-inner_column-text w ↦ text_next _ _ _ _ _ (c.loop-k.invariant.1 (omega (arith, e, w))) (search rules) c.inner_column.ensures w.if-inner_column-text.false ],
-  )
+  search rules,
+  λ e. elim c.if-inner_column-text.branch [
+    | then-inner_column-text w ↦ absurd (omega (arith, e, w))
+    | else-inner_column-text w ↦ text_next _ _ _ _ _ (c.loop-k.invariant.1 (omega (arith, e, w))) (search rules) c.inner_column.ensures w.if-inner_column-text.false
+  ],
+)
 
 pub returns : goal.returns
 returns c = λ e. sym (text_over _ _ _ _ (c.loop-k.invariant.1 e) (search rules))

@@ -4,7 +4,7 @@ use Rattle.writer_lines.specs.LineParts.{counts_parts}
 use Rattle.writer_lines.proofs.put_counts.Goals as goal
 
 pub returns : goal.returns
-returns c =    let p₅ = c in
+returns c = let p₅ = c in
     let p₄ = p₅ in
     let p₃ = p₄ in
     let p₂ = p₃ in

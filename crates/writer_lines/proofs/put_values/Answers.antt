@@ -4,7 +4,7 @@ use Rattle.writer_lines.specs.LineParts.{values_parts}
 use Rattle.writer_lines.proofs.put_values.Goals as goal
 
 pub returns : goal.returns
-returns c =    let p₆ = c in
+returns c = let p₆ = c in
     let p₅ = p₆ in
     let p₄ = p₅ in
     let p₃ = p₄ in

@@ -9,5 +9,5 @@ use borrow.Author.Rules.{rules}
 use Rattle.writer_tables.proofs.atom_at.Goals as goal
 
 pub returns : goal.returns
-returns c =    let a = c.args in
+returns c = let a = c.args in
     c.atom_holds.ensures ∙ ap (λ (t : List ℤ). atom_holds a.n (atom_row t)) (row_part 16 a.atoms.now a.i)

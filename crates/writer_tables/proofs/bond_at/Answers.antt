@@ -9,5 +9,5 @@ use borrow.Author.Rules.{rules}
 use Rattle.writer_tables.proofs.bond_at.Goals as goal
 
 pub returns : goal.returns
-returns c =    let a = c.args in
+returns c = let a = c.args in
     c.bond_holds.ensures ∙ ap (λ (t : List ℤ). bond_holds a.n (bond_row t)) (row_part 6 a.bonds.now a.i)

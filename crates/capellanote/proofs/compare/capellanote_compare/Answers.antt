@@ -7,6 +7,6 @@ returns c =
     let o = c.of_files.ensures in
     let q = c.compare_files.ensures in
     record {
-        answer_after = files_held _ _ _ o q.answer;
-        promise = files_told_lem _ _ _ _ _ _ _ _ o q;
+      answer_after = files_held _ _ _ o q.answer;
+      promise = files_told_lem _ _ _ _ _ _ _ _ o q;
     }

@@ -4,6 +4,6 @@ use Rattle.capellanote.proofs.mend.capellanote_mend.Goals as goal
 
 pub returns : goal.returns
 returns c = record {
-        answer_after = search (rules, mend_laws);
-        promise = search (rules, mend_laws);
-    }
+  answer_after = search (rules, mend_laws);
+  promise = search (rules, mend_laws);
+}
