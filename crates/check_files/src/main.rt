@@ -3,6 +3,7 @@
 
 use program_delivery::{BUFFER, Way};
 use program_io::{Input, System};
+use std::process::ExitCode;
 
 fn judge_file(system: &System, name: &[u8], way: Way, buf: &mut [u8; BUFFER]) {
     if check::same(name, b"-") {
@@ -58,7 +59,7 @@ fn judge_all(
     }
 }
 
-fn main(rt: HostRuntime) {
+fn main(rt: HostRuntime) -> ExitCode {
     let system = System::new(rt);
     let mut buf = [0u8; BUFFER];
     let sd = program_io::is_argument(&system, 1, b"sdfile");
@@ -67,4 +68,5 @@ fn main(rt: HostRuntime) {
     } else {
         judge_all(&system, 2, 3, sd, false, &mut buf);
     }
+    system.ending()
 }

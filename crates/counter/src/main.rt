@@ -2,6 +2,7 @@
 #![tactic(auto)]
 
 use program_io::System;
+use std::process::ExitCode;
 
 // The last byte stands beside the buffer: it tells whether input follows a full one.
 fn count(system: &System, buf: &mut [u8; 65537], progress: bool) {
@@ -9,7 +10,7 @@ fn count(system: &System, buf: &mut [u8; 65537], progress: bool) {
     program_verdict::report(system, b"standard input", false, verdict);
 }
 
-fn main(rt: HostRuntime) {
+fn main(rt: HostRuntime) -> ExitCode {
     let system = System::new(rt);
     let mut buf = [0u8; 65537];
     count(
@@ -17,4 +18,5 @@ fn main(rt: HostRuntime) {
         &mut buf,
         program_io::is_argument(&system, 1, b"--progress"),
     );
+    system.ending()
 }

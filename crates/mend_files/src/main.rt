@@ -2,7 +2,10 @@
 #![tactic(auto)]
 
 use program_io::System;
+use std::process::ExitCode;
 
-fn main(rt: HostRuntime) {
-    program_mend::run(&System::new(rt));
+fn main(rt: HostRuntime) -> ExitCode {
+    let system = System::new(rt);
+    program_mend::run(&system);
+    system.ending()
 }

@@ -404,6 +404,9 @@ fn judge_records(
         let met = look(place, buf, &mut atoms, &mut bonds, &mut listed, &mut keys);
         match act(system, place, met, input, buf, table, room) {
             Did::Next(p) => {
+                if p.out.is_cut() {
+                    return p;
+                }
                 place = p;
             }
             Did::End(p) => {
@@ -507,5 +510,5 @@ pub fn cannot_open(system: &System, name: &[u8], why: Reason) {
     let out = Out::new(system).text(&mut room, Text::new().word(b"file "));
     let named = facts::put_quoted(out, &mut room, name);
     let done = named.text(&mut room, Text::new().word(b"unread\n"));
-    done.flush(&room);
+    system.note(done.flush(&room).why);
 }

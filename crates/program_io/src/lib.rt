@@ -270,6 +270,14 @@ impl Out {
         }
     }
 
+    // Whether nobody reads any more what is written.
+    pub fn is_cut(self) -> bool {
+        if self.good {
+            return false;
+        }
+        self.why.is_closed()
+    }
+
     pub fn failed(self) -> Out {
         Out {
             stdout: self.stdout,

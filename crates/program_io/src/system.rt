@@ -4,15 +4,19 @@ ghost use Rattle.std.specs.Io.{ReadsAtMost, WritesAtMost};
 
 use crate::channel;
 use crate::channel::Channel;
+use std::cell::Cell;
 use std::env::FillError;
 use std::fs::File;
 use std::io::{Error, Print, Read, Seek, SeekFrom, Stdin, Stdout, Write};
+use std::process::ExitCode;
 use std::rt::Env;
 
 // Numbers that the system gives to what fails.
 const INTERRUPTED: i32 = 4;
 
 const INVALID: i32 = 22;
+
+const CLOSED: i32 = 32;
 
 const TOO_LONG: i32 = 36;
 
@@ -36,6 +40,11 @@ impl Reason {
 
     pub fn is_interrupted(self) -> bool {
         self.code == INTERRUPTED
+    }
+
+    // Nobody reads any more what is written.
+    pub fn is_closed(self) -> bool {
+        self.code == CLOSED
     }
 
     // What std says of itself and not of the system is a call that cannot be made.
@@ -104,12 +113,16 @@ pub enum Target {
     Channel,
 }
 
-// The system, as `main` is given it.
+// The system, as `main` is given it; and whether someone has stopped reading what is written. From then on no file is opened and nothing is written, and the
+// program ends with the status of one that the signal for this ends, which std keeps from its programs.
 #[derive(Drop)]
 pub struct System {
     rt: HostRuntime,
     channel: Channel,
+    cut: Cell<bool>,
 }
+
+const CUT: u8 = 141;
 
 fn told(done: std::io::Result<()>) -> Result<(), Reason> {
     match done {
@@ -126,7 +139,11 @@ pub fn put_all(to: Stdout, bytes: &[u8]) -> Result<(), Reason> {
 impl System {
     pub fn new(rt: HostRuntime) -> System {
         let channel = channel::find(&rt);
-        System { rt, channel }
+        System {
+            rt,
+            channel,
+            cut: Cell::new(false),
+        }
     }
 
     pub fn stdin(&self) -> Input<'static> {
@@ -161,8 +178,26 @@ impl System {
         usize::MAX
     }
 
+    // Why a write failed is taken note of.
+    pub fn note(&self, why: Reason) {
+        if why.is_closed() {
+            self.cut.set(true);
+        }
+    }
+
+    // How the program ends.
+    pub fn ending(&self) -> ExitCode {
+        if self.cut.get() {
+            return ExitCode::from(CUT);
+        }
+        ExitCode::SUCCESS
+    }
+
     // A file to be read. std takes names that are text.
     pub fn open_read(&self, name: &[u8]) -> Result<File, Reason> {
+        if self.cut.get() {
+            return Err(Reason { code: CLOSED });
+        }
         let Ok(path) = str::from_utf8(name) else {
             return Err(Reason { code: NO_TEXT });
         };
@@ -174,6 +209,19 @@ impl System {
 
     // All of some bytes.
     pub fn write(&self, to: Target, bytes: &[u8]) -> Result<(), Reason> {
+        if self.cut.get() {
+            return Err(Reason { code: CLOSED });
+        }
+        match self.put(to, bytes) {
+            Ok(()) => Ok(()),
+            Err(why) => {
+                self.note(why);
+                Err(why)
+            }
+        }
+    }
+
+    fn put(&self, to: Target, bytes: &[u8]) -> Result<(), Reason> {
         match to {
             Target::Output => put_all(self.rt.stdout(), bytes),
             Target::Errors => told(Print::write_all(&self.rt.stderr(), bytes)),

@@ -140,6 +140,10 @@ fn replay(
     let mut turns = u64::MAX;
     while turns > 0 {
         pass = take_turn(input, buf, room, keys, papers, pass);
+        let out = pass.out;
+        if out.is_cut() {
+            return Verdict::Unwritten(out.why);
+        }
         let reading = pass.reading;
         if !reading.on {
             if reading.failed {

@@ -79,7 +79,10 @@ fn complain(system: &System, name: &[u8], v: Verdict) {
             name,
             b": changed while it was read, so what is written is not whole\n",
         ),
-        Verdict::Unwritten(why) => system.fail(b"standard output", why),
+        Verdict::Unwritten(why) => {
+            system.note(why);
+            system.fail(b"standard output", why);
+        }
         Verdict::NoRoom => complain_of(
             system,
             name,

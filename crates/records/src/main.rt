@@ -3,6 +3,7 @@
 
 use program_io::{System, Target};
 use program_printer::Task;
+use std::process::ExitCode;
 
 #[derive(Drop)]
 enum Verb {
@@ -78,7 +79,7 @@ fn formula(system: &System) {
     program_printer::run(system, Task::Formula, true, b"", 2);
 }
 
-fn main(rt: HostRuntime) {
+fn main(rt: HostRuntime) -> ExitCode {
     let system = System::new(rt);
     match asked(&system) {
         Verb::Read => of_records(&system, Task::Readings),
@@ -95,4 +96,5 @@ fn main(rt: HostRuntime) {
             let _ = system.write(Target::Errors, b"records: no sub-command of this name\n");
         }
     }
+    system.ending()
 }
