@@ -26,6 +26,7 @@ stopped() { # SIGNAL
     [ -z "$locked" ] || printf 'capellanote: the build was stopped; call it again, and it goes on from there\n' >&2
     clean_up
     kill -s "$1" $$
+    [ "$1" != PIPE ] || printf 'standard output: Broken pipe\n' >&2 # where signals of pipes are not heard
     exit 2
 }
 
