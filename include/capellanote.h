@@ -1,7 +1,7 @@
 /* Capellanote for C: a proved reader and writer of CTfile V2000 molfiles and SDfiles.
 
    Build: `library/build` writes target/staticlib/libcapellanote.a and target/sharedlib/libcapellanote.so for x86-64 Linux
-   (`rt staticlib capellanote` the first alone). They need memset and memcpy and nothing else.
+   (`library/build --static` the first alone). They need memset and memcpy and nothing else.
 
    Memory
      The library keeps nothing between calls and asks for no memory of its own but about 105 kB of stack.
