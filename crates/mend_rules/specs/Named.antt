@@ -1,5 +1,5 @@
 -- The list of what was done. It says all: the mended lines are made of the lines as they came and the list, and a line that the list does not name comes out as it is.
-use Rattle.std.specs.Prelude.{ℕ, suc, ◌+◌, ◌*◌, ◌≤◌, ◌≡◌, refl, List, [], ◌∷◌, ◌++◌, map, Bool, true, false, cond, ◌&&◌, eqb}
+use Rattle.std.specs.Prelude.{ℕ, suc, ◌+◌, ◌*◌, ◌≤◌, ◌≡◌, refl, List, [], ◌∷◌, ◌++◌, map, Bool, true, false, cond, ◌&&◌, eqb, length}
 use Rattle.text.specs.Text.{Line}
 use Rattle.mend_rules.specs.Mend.{Action, keep, put, lose, piece}
 

@@ -316,7 +316,8 @@ fn hold(
         sum = put_place(
             sum, room, &mut list, way, patterns, s, x, &ta, &tb, u, y, &ua, &ub,
         );
-        if is_enough(way, sum.places) {
+        let is_unread = sum.out.is_cut();
+        if is_unread || is_enough(way, sum.places) {
             return Held {
                 sum,
                 turn: Turn::Over,

@@ -63,7 +63,7 @@ fn is_one(rt: &HostRuntime, a: &str, b: &str) -> bool {
     one.dev() == other.dev() && one.ino() == other.ino()
 }
 
-// Whether it is a pipe, which is opened for reading, too, so that the opening does not wait for a reader.
+// Whether it is a pipe.
 fn is_pipe(rt: &HostRuntime) -> bool {
     match rt.metadata("/proc/self/fd/3") {
         Ok(m) => m.file_type().is_fifo(),
@@ -72,14 +72,24 @@ fn is_pipe(rt: &HostRuntime) -> bool {
 }
 
 // Every line goes to the end of a file, where the descriptor stands, too.
+fn append(rt: &HostRuntime) -> Channel {
+    match OpenOptions::new().append(true).open(rt, "/proc/self/fd/3") {
+        Ok(file) => Channel::Opened(file),
+        Err(_) => Channel::Nowhere,
+    }
+}
+
+// The opening of a pipe waits for a reader, so it is held open for reading meanwhile, and no longer: who reads it is another.
 fn open(rt: &HostRuntime) -> Channel {
-    let both = is_pipe(rt);
+    if !is_pipe(rt) {
+        return append(rt);
+    }
     match OpenOptions::new()
-        .read(both)
-        .append(true)
+        .read(true)
+        .write(true)
         .open(rt, "/proc/self/fd/3")
     {
-        Ok(file) => Channel::Opened(file),
+        Ok(_held) => append(rt),
         Err(_) => Channel::Nowhere,
     }
 }
