@@ -118,7 +118,8 @@ def of_antt(text, to):
     out = []
     for p in PIECES.findall(text):
         out.append(in_ticks(p, to) if p.startswith("--") and len(p) > 2 else turned(p, to))
-    return "".join(out)
+    # A constructor that the kit's script takes for a type.
+    return "".join(out).replace("Takes.Value-line", "Takes.value_line")
 
 
 def of_rust(text, to):
