@@ -241,11 +241,30 @@ impl System {
     pub fn fail(&self, what: &[u8], why: Reason) {
         let mut text = [0u8; 128];
         let n = why.words(&mut text);
-        let _ = self.write(Target::Errors, what);
-        let _ = self.write(Target::Errors, b": ");
-        let _ = self.write(Target::Errors, without_number(crate::front(&text, n)));
-        let _ = self.write(Target::Errors, b"\n");
+        let words = without_number(crate::front(&text, n));
+        let mut line = [0u8; LINE];
+        let mut used = put_in(&mut line, 0, what);
+        used = put_in(&mut line, used, b": ");
+        used = put_in(&mut line, used, words);
+        used = put_in(&mut line, used, b"\n");
+        // In one piece, so that lines of several programs on one stream stay whole.
+        let _ = self.write(Target::Errors, crate::front(&line, used));
     }
+}
+
+// Bytes of a line that says what failed: the longest name of a file, and the reason.
+const LINE: usize = 4608;
+
+// The text behind what is used; answers how much is used then. What does not fit is left out, and no name is so long.
+fn put_in(line: &mut [u8; LINE], used: usize, text: &[u8]) -> usize {
+    let mut at = used;
+    for b in text {
+        if at < LINE {
+            line[at] = *b;
+            at += 1;
+        }
+    }
+    at
 }
 
 // What stands before the last bracket and the space before it.
