@@ -1,12 +1,11 @@
 -- Atom lines that end in the usual zeros: what their fields hold.
-use Rattle.std.specs.Prelude.{ℕ, ◌≤◌, ◌≡◌, Bool, true, pos, length, drop}
+use Rattle.std.specs.Prelude.{None, ℕ, ◌≤◌, ◌≡◌, Bool, true, pos, length, drop}
 use Rattle.std.proofs.Common.{sym, ap, ◌∙◌}
 use Rattle.std.proofs.Math.ListN.{take}
 use Rattle.text.specs.Text.{Line, bytes}
 use Rattle.text.specs.Columns.{columns_for}
 use Rattle.text.specs.Find.{is_ink, ink_column, has_text}
 use Rattle.text.specs.First.{first_none}
-use Rattle.text.specs.declared.Found.{Found}
 use Rattle.text.specs.Agree.{has_text_is}
 use Rattle.judge_line.specs.Got.{got, then}
 use Rattle.judge_line.specs.Field.{spaces_from}
@@ -43,7 +42,7 @@ module _ (l : Line) (z : AtomZeros l) where
   cols : columns_for l 35 35 ≡ bytes " 0  0  0  0  0  0  0  0  0  0  0  0"
   cols = (has_text_is l 35 (bytes " 0  0  0  0  0  0  0  0  0  0  0  0")).0 z.zeros
 
-  atom_over : ink_column l 70 ≡ Found.Nothing
+  atom_over : ink_column l 70 ≡ None
   unfolding ink_column
   atom_over = first_none is_ink l 69 70 z.ends
 

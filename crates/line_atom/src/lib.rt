@@ -8,8 +8,7 @@ ghost use Rattle.line_atom.specs.Answer.{position_got, position_of, place_got, c
 ghost use Rattle.line_atom.specs.Usual.{AtomZeros, plain_atom};
 
 use line_fields::{Field, SignedField};
-use line_usual_position::{Position, Usual};
-use text::Found;
+use line_usual_position::Position;
 
 #[derive(Drop)]
 pub enum PositionRead {
@@ -92,8 +91,8 @@ fn atom_position(line: &[u8]) -> PositionRead
     ensures { position_got result ≡ position_of line.now }
 {
     match line_usual_position::usual_position(line) {
-        Usual::At(p) => PositionRead::Is(p),
-        Usual::Other => any_position(line),
+        Some(p) => PositionRead::Is(p),
+        None => any_position(line),
     }
 }
 
@@ -172,8 +171,8 @@ fn exact_field(line: &[u8]) -> Field
         }
     };
     match text::ink_column(line, 70) {
-        Found::Nothing => Field::Is(exact),
-        Found::At(column) => Field::Bad { no: 15, column },
+        None => Field::Is(exact),
+        Some(column) => Field::Bad { no: 15, column },
     }
 }
 

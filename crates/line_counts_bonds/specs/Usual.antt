@@ -1,5 +1,5 @@
 -- Bond lines that end in the usual zeros: what their fields hold.
-use Rattle.std.specs.Prelude.{ℕ, ◌≤◌, ◌≡◌, Bool, true, not, eqb, pos, length, drop}
+use Rattle.std.specs.Prelude.{None, ℕ, ◌≤◌, ◌≡◌, Bool, true, not, eqb, pos, length, drop}
 use Rattle.std.proofs.Math.Path.{refl, sym}
 use Rattle.std.proofs.Common.{ap, ◌∙◌}
 use Rattle.std.proofs.Math.ListN.{take}
@@ -7,7 +7,6 @@ use Rattle.text.specs.Text.{Line, bytes}
 use Rattle.text.specs.Columns.{columns_for}
 use Rattle.text.specs.Find.{is_ink, ink_column, has_text}
 use Rattle.text.specs.First.{first_none}
-use Rattle.text.specs.declared.Found.{Found}
 use Rattle.text.specs.Agree.{has_text_is}
 use Rattle.rules.specs.Forms as R
 use Rattle.judge_line.specs.Got.{Got, got, then, need}
@@ -33,7 +32,7 @@ module _ (l : Line) (z : BondZeros l) where
   tail : columns_for l 10 12 ≡ bytes "  0  0  0  0"
   tail = (has_text_is l 10 (bytes "  0  0  0  0")).0 z.zeros
 
-  bond_over : ink_column l 22 ≡ Found.Nothing
+  bond_over : ink_column l 22 ≡ None
   unfolding ink_column
   bond_over = first_none is_ink l 21 22 z.ends
 

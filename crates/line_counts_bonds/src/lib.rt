@@ -11,7 +11,6 @@ ghost use Rattle.line_counts_bonds.specs.Answer.{counts_got, bond_got, after_cou
 ghost use Rattle.line_counts_bonds.specs.Usual.{BondZeros, plain_bond};
 
 use line_fields::{Field, SignedField};
-use text::Found;
 
 // The most atoms, and the most bonds, of a record.
 pub const LIMIT: u32 = rules::LIMIT as u32;
@@ -69,12 +68,12 @@ fn counts_rest(line: &[u8], atoms: u32, bonds: u32) -> CountsRead
     };
     if text::has_text(line, 34, b" V2000") {
         match text::ink_column(line, 40) {
-            Found::Nothing => CountsRead::Is(Counts {
+            None => CountsRead::Is(Counts {
                 atoms,
                 bonds,
                 chiral,
             }),
-            Found::At(column) => CountsRead::Bad { no: 15, column },
+            Some(column) => CountsRead::Bad { no: 15, column },
         }
     } else {
         CountsRead::Bad { no: 6, column: 34 }
@@ -232,7 +231,7 @@ fn bond_rest(line: &[u8], first: u32, second: u32, order: u32, stereo: u32) -> B
         }
     };
     match text::ink_column(line, 22) {
-        Found::Nothing => {
+        None => {
             if first == second {
                 return BondRead::Bad { no: 10, column: 1 };
             }
@@ -245,7 +244,7 @@ fn bond_rest(line: &[u8], first: u32, second: u32, order: u32, stereo: u32) -> B
                 centre,
             })
         }
-        Found::At(column) => BondRead::Bad { no: 15, column },
+        Some(column) => BondRead::Bad { no: 15, column },
     }
 }
 

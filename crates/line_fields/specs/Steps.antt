@@ -1,25 +1,21 @@
 -- One field after the other, as the code goes: how a line's judgement goes on after a field that is good, and what it is after one that is not.
-use Rattle.std.specs.Prelude.{ℕ, ◌≤◌, ◌≡◌, refl, Bool, true, false, not, eqb, ℤ}
+use Rattle.std.specs.Prelude.{Result, Ok, Err, Option, Some, None, ℕ, ◌≤◌, ◌≡◌, refl, Bool, true, false, not, eqb, ℤ}
 use Rattle.std.proofs.Common.{sym, ap, ◌∙◌, SFits, to_z, of_z, to_z-of_z, eq-eqb, ne_eqb}
 use Rattle.std.specs.Int.{w32}
 use Rattle.text.specs.Text.{Line, byte}
 use Rattle.text.specs.Columns.{column, columns}
 use Rattle.text.specs.Find.{ink_column}
-use Rattle.text.specs.declared.Found.{Found}
 use Rattle.field_numbers.specs.Number.{Between}
 use Rattle.field_numbers.specs.Read.{number_in, signed_in}
-use Rattle.field_numbers.specs.declared.NumberRead.{NumberRead}
-use Rattle.field_numbers.specs.declared.SignedRead.{SignedRead}
 use Rattle.field_coordinates.specs.Read.{coordinate_in}
-use Rattle.field_coordinates.specs.declared.CoordinateRead.{CoordinateRead}
 use Rattle.field_symbols.specs.Read.{symbol_in}
-use Rattle.field_symbols.specs.declared.SymbolRead.{SymbolRead}
 use Rattle.judge_line.specs.Got.{Got, got, bad, then, need}
 use Rattle.judge_line.specs.Field.{number_at, signed_at, coordinate_at, symbol_at, space_at, spaces_from}
 use Rattle.judge_line.specs.AgreeField.{number_got_lem, signed_got_lem}
 use Rattle.line_fields.specs.Answer.{field_got, signed_field_got}
 use Rattle.line_fields.specs.declared.Field.{Field}
 use Rattle.line_fields.specs.declared.SignedField.{SignedField}
+use Rattle.field_numbers.specs.declared.NumberFault.{NumberFault}
 
 -- an i32 that fits is the number it was made of
 pub hop : (z : ℤ) → SFits w32 z → to_z w32 (of_z w32 z) ≡ z
@@ -52,11 +48,11 @@ module _ {A : Type 0} (x : Got A) where
   unfolding need
   need_stop b e column h = rw h
 
-  pub rest_next : (l : Line) (i : ℕ) (found : Found) (g : Got A) → found ≡ ink_column l i → found ≡ Found.Nothing → g ≡ x → g ≡ spaces_from l i x
+  pub rest_next : (l : Line) (i : ℕ) (found : Option ℕ) (g : Got A) → found ≡ ink_column l i → found ≡ None → g ≡ x → g ≡ spaces_from l i x
   unfolding spaces_from
   rest_next l i found g e h k = rw (← e, h) k
 
-  pub rest_stop : (l : Line) (i : ℕ) (found : Found) (column : ℕ) → found ≡ ink_column l i → found ≡ Found.At column → bad 15 column ≡ spaces_from l i x
+  pub rest_stop : (l : Line) (i : ℕ) (found : Option ℕ) (column : ℕ) → found ≡ ink_column l i → found ≡ Some column → bad 15 column ≡ spaces_from l i x
   unfolding spaces_from
   rest_stop l i found column e h = rw (← e, h)
 
@@ -97,47 +93,47 @@ pub ruleset steps = (field_next, field_stop, signed_next, signed_stop, need_next
 
 -- ---- one field
 
-module _ (l : Line) (i j least most : ℕ) (x : NumberRead) (e : x ≡ number_in least most (columns l i j)) where
-  pub number_is : (k : ℕ) → x ≡ NumberRead.Is k → got k ≡ number_at l i j least most
+module _ (l : Line) (i j least most : ℕ) (x : Result ℕ NumberFault) (e : x ≡ number_in least most (columns l i j)) where
+  pub number_is : (k : ℕ) → x ≡ Ok k → got k ≡ number_at l i j least most
   unfolding number_at
   number_is k h = rw (← e, h)
 
-  pub number_malformed : x ≡ NumberRead.Malformed → bad 7 i ≡ number_at l i j least most
+  pub number_malformed : x ≡ (Err NumberFault.Malformed) → bad 7 i ≡ number_at l i j least most
   unfolding number_at
   number_malformed h = rw (← e, h)
 
-  pub number_outside : x ≡ NumberRead.Outside → bad 8 i ≡ number_at l i j least most
+  pub number_outside : x ≡ (Err NumberFault.Outside) → bad 8 i ≡ number_at l i j least most
   unfolding number_at
   number_outside h = rw (← e, h)
 
-module _ (l : Line) (i j below above : ℕ) (x : SignedRead) (e : x ≡ signed_in below above (columns l i j)) where
-  pub signed_is : (z : ℤ) → x ≡ SignedRead.Is z → SFits w32 z → got (to_z w32 (of_z w32 z)) ≡ signed_at l i j below above
+module _ (l : Line) (i j below above : ℕ) (x : Result ℤ NumberFault) (e : x ≡ signed_in below above (columns l i j)) where
+  pub signed_is : (z : ℤ) → x ≡ Ok z → SFits w32 z → got (to_z w32 (of_z w32 z)) ≡ signed_at l i j below above
   unfolding signed_at
   signed_is z h f = rw (← e, h) (ap got (hop z f))
 
-  pub signed_malformed : x ≡ SignedRead.Malformed → bad 7 i ≡ signed_at l i j below above
+  pub signed_malformed : x ≡ (Err NumberFault.Malformed) → bad 7 i ≡ signed_at l i j below above
   unfolding signed_at
   signed_malformed h = rw (← e, h)
 
-  pub signed_outside : x ≡ SignedRead.Outside → bad 8 i ≡ signed_at l i j below above
+  pub signed_outside : x ≡ (Err NumberFault.Outside) → bad 8 i ≡ signed_at l i j below above
   unfolding signed_at
   signed_outside h = rw (← e, h)
 
-module _ (l : Line) (i j : ℕ) (x : CoordinateRead) (e : x ≡ coordinate_in (columns l i j)) where
-  pub coordinate_is : (z : ℤ) → x ≡ CoordinateRead.Is z → SFits w32 z → got (to_z w32 (of_z w32 z)) ≡ coordinate_at l i j
+module _ (l : Line) (i j : ℕ) (x : Option ℤ) (e : x ≡ coordinate_in (columns l i j)) where
+  pub coordinate_is : (z : ℤ) → x ≡ Some z → SFits w32 z → got (to_z w32 (of_z w32 z)) ≡ coordinate_at l i j
   unfolding coordinate_at
   coordinate_is z h f = rw (← e, h) (ap got (hop z f))
 
-  pub coordinate_malformed : x ≡ CoordinateRead.Malformed → bad 7 i ≡ coordinate_at l i j
+  pub coordinate_malformed : x ≡ None → bad 7 i ≡ coordinate_at l i j
   unfolding coordinate_at
   coordinate_malformed h = rw (← e, h)
 
-module _ (l : Line) (i j : ℕ) (x : SymbolRead) (e : x ≡ symbol_in (columns l i j)) where
-  pub symbol_is : (k : ℕ) → x ≡ SymbolRead.Is k → got k ≡ symbol_at l i j
+module _ (l : Line) (i j : ℕ) (x : Option ℕ) (e : x ≡ symbol_in (columns l i j)) where
+  pub symbol_is : (k : ℕ) → x ≡ Some k → got k ≡ symbol_at l i j
   unfolding symbol_at
   symbol_is k h = rw (← e, h)
 
-  pub symbol_unknown : x ≡ SymbolRead.Unknown → bad 9 i ≡ symbol_at l i j
+  pub symbol_unknown : x ≡ None → bad 9 i ≡ symbol_at l i j
   unfolding symbol_at
   symbol_unknown h = rw (← e, h)
 

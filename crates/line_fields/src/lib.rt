@@ -5,9 +5,7 @@ ghost use Rattle.std.specs.Prelude.{◌≡◌, ◌+◌, ◌≤◌};
 ghost use Rattle.judge_line.specs.Field.{number_at, signed_at, coordinate_at, symbol_at};
 ghost use Rattle.line_fields.specs.Answer.{field_got, signed_field_got};
 
-use field_coordinates::CoordinateRead;
-use field_numbers::{NumberRead, SignedRead};
-use field_symbols::SymbolRead;
+use field_numbers::NumberFault;
 
 // A number that columns hold, or the refusal.
 #[derive(Drop)]
@@ -29,9 +27,9 @@ pub fn number_field(line: &[u8], i: usize, j: usize, least: u32, most: u32) -> F
     ensures { field_got result ≡ number_at line.now i j least most }
 {
     match field_numbers_read::number(line, i, j, least, most) {
-        NumberRead::Is(k) => Field::Is(k),
-        NumberRead::Malformed => Field::Bad { no: 7, column: i },
-        NumberRead::Outside => Field::Bad { no: 8, column: i },
+        Ok(k) => Field::Is(k),
+        Err(NumberFault::Malformed) => Field::Bad { no: 7, column: i },
+        Err(NumberFault::Outside) => Field::Bad { no: 8, column: i },
     }
 }
 
@@ -41,9 +39,9 @@ pub fn signed_field(line: &[u8], i: usize, j: usize, below: u32, above: u32) -> 
     ensures { signed_field_got result ≡ signed_at line.now i j below above }
 {
     match field_numbers_read::signed_number(line, i, j, below, above) {
-        SignedRead::Is(z) => SignedField::Is(z),
-        SignedRead::Malformed => SignedField::Bad { no: 7, column: i },
-        SignedRead::Outside => SignedField::Bad { no: 8, column: i },
+        Ok(z) => SignedField::Is(z),
+        Err(NumberFault::Malformed) => SignedField::Bad { no: 7, column: i },
+        Err(NumberFault::Outside) => SignedField::Bad { no: 8, column: i },
     }
 }
 
@@ -53,8 +51,8 @@ pub fn coordinate_field(line: &[u8], i: usize) -> SignedField
     ensures { signed_field_got result ≡ coordinate_at line.now i (i + 9) }
 {
     match field_coordinates::coordinate(line, i) {
-        CoordinateRead::Is(z) => SignedField::Is(z),
-        CoordinateRead::Malformed => SignedField::Bad { no: 7, column: i },
+        Some(z) => SignedField::Is(z),
+        None => SignedField::Bad { no: 7, column: i },
     }
 }
 
@@ -64,7 +62,7 @@ pub fn symbol_field(line: &[u8], i: usize) -> Field
     ensures { field_got result ≡ symbol_at line.now i (i + 2) }
 {
     match field_symbols::symbol(line, i) {
-        SymbolRead::Is(k) => Field::Is(k),
-        SymbolRead::Unknown => Field::Bad { no: 9, column: i },
+        Some(k) => Field::Is(k),
+        None => Field::Bad { no: 9, column: i },
     }
 }

@@ -4,7 +4,6 @@
 ghost use Rattle.std.specs.Prelude.{◌≡◌, drop};
 ghost use Rattle.text.specs.Find.{line_at, first_from};
 ghost use Rattle.text.specs.declared.LineAt.{LineAt};
-ghost use Rattle.text.specs.declared.Found.{Found};
 ghost use Rattle.judge_line.specs.Judge.{is_close};
 ghost use Rattle.line_judged.specs.Known.{Standing, HeaderOrEnd, Header, Named, is_byte, Stands};
 
@@ -25,7 +24,7 @@ pub struct Name {
 // The first byte b from position `at` on, where one is known to stand.
 fn find(line: &[u8], at: usize, b: u8) -> usize
     requires { Stands b line.now at }
-    ensures { first_from (is_byte b) at (drop at line.now) ≡ Found.At result }
+    ensures { first_from (is_byte b) at (drop at line.now) ≡ Some result }
 {
     let mut i = at;
     loop {

@@ -1,7 +1,6 @@
 -- What the code's answers say, as the judge says it, with the table beside them.
-use Rattle.std.specs.Prelude.{ℕ, ◌+◌, List, eqb, get_or, set}
+use Rattle.std.specs.Prelude.{Option, Some, None, ℕ, ◌+◌, List, eqb, get_or, set}
 use Rattle.text.specs.Text.{Line}
-use Rattle.text.specs.declared.Found.{Found}
 use Rattle.rules.specs.Forms as R
 use Rattle.judge_line.specs.Got.{Got, got, bad, then, need}
 use Rattle.judge_line.specs.Field.{number_at, space_at}
@@ -61,6 +60,6 @@ entered_got (Entered.Bad e column) t = bad e column
 -- ---- the rest of a line
 
 -- what is read where nothing stands any more, and else the refusal
-abbrev pub rest_read : PropertyRead → Found → PropertyRead
-rest_read r Found.Nothing = r
-rest_read r (Found.At column) = PropertyRead.Bad 15 column
+abbrev pub rest_read : PropertyRead → Option ℕ → PropertyRead
+rest_read r None = r
+rest_read r (Some column) = PropertyRead.Bad 15 column

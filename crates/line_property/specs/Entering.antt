@@ -1,5 +1,5 @@
 -- How entries are entered one after the other, as the code goes; then the rest of the line.
-use Rattle.std.specs.Prelude.{ℕ, suc, ◌+◌, ◌*◌, ◌-◌, ◌≤◌, ◌<◌, ◌≡◌, refl, Bool, true, false, cond, not, T, eqb, length, get_or, set, ℤ, pos, negsuc, nat_abs, ◌+ℤ◌}
+use Rattle.std.specs.Prelude.{Option, Some, None, ℕ, suc, ◌+◌, ◌*◌, ◌-◌, ◌≤◌, ◌<◌, ◌≡◌, refl, Bool, true, false, cond, not, T, eqb, length, get_or, set, ℤ, pos, negsuc, nat_abs, ◌+ℤ◌}
 use native.Mathlib.Omega.{arith}
 use Rattle.std.proofs.Math.Path.{sym, ap}
 use Rattle.std.proofs.Common.{◌∙◌, subst, SFits, Fits, to_z, of_z, eq-eqb, ne_eqb, le-ltb}
@@ -9,7 +9,6 @@ use Rattle.std.specs.Int.{w32, w64}
 use Rattle.text.specs.Text.{Line}
 use Rattle.text.specs.Columns.{column}
 use Rattle.text.specs.Find.{ink_column}
-use Rattle.text.specs.declared.Found.{Found}
 use Rattle.field_numbers.specs.Number.{Between}
 use Rattle.rules.specs.Forms as R
 use Rattle.rules.specs.Record.{limit}
@@ -191,10 +190,10 @@ place_below n kind l i t x k most f h =
 
 -- ---- the list, and the rest of a line
 
-pub rest_good : (r : PropertyRead) (x found : Found) → x ≡ found → x ≡ Found.Nothing → r ≡ rest_read r found
+pub rest_good : (r : PropertyRead) (x found : Option ℕ) → x ≡ found → x ≡ None → r ≡ rest_read r found
 rest_good r x found e h = rw (← e, h)
 
-pub rest_ink : (r : PropertyRead) (x found : Found) (c : ℕ) → x ≡ found → x ≡ Found.At c → PropertyRead.Bad 15 c ≡ rest_read r found
+pub rest_ink : (r : PropertyRead) (x found : Option ℕ) (c : ℕ) → x ≡ found → x ≡ Some c → PropertyRead.Bad 15 c ≡ rest_read r found
 rest_ink r x found c e h = rw (← e, h)
 
 module _ (t : List ℕ) (t' : List ℕ) where
@@ -206,9 +205,9 @@ module _ (t : List ℕ) (t' : List ℕ) where
   unfolding spaces_from
   rest_kept l i v r₀ r k e = go (ink_column l i) e
     where
-      go : (found : Found) → r ≡ rest_read r₀ found → KeptBy (none_found 15 found (got v)) t r t'
-      go Found.Nothing q = rw q k
-      go (Found.At c) q = rw q (refused (bad 15 c) 15 c k.size refl)
+      go : (found : Option ℕ) → r ≡ rest_read r₀ found → KeptBy (none_found 15 found (got v)) t r t'
+      go None q = rw q k
+      go (Some c) q = rw q (refused (bad 15 c) 15 c k.size refl)
 
   list_kept : (kind : R.Kind) (es : List R.Entry) → length t' ≡ length t → t' ≡ enter kind t es → KeptBy (got (property (record { kind = kind; entries = es }))) t PropertyRead.Listed t'
   list_kept kind es stays h =

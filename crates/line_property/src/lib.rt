@@ -12,7 +12,6 @@ ghost use Rattle.line_property.specs.Kept.{Kept, KeptBy};
 
 use line_fields::{Field, SignedField};
 use rules::{LISTED, PLACES};
-use text::Found;
 
 #[derive(Clone, Copy)]
 pub enum Kind {
@@ -159,8 +158,8 @@ fn rest(line: &[u8], i: usize, read: PropertyRead) -> PropertyRead
     ensures { result ≡ rest_read read (ink_column line.now i) }
 {
     match text::ink_column(line, i) {
-        Found::Nothing => read,
-        Found::At(column) => PropertyRead::Bad { no: 15, column },
+        None => read,
+        Some(column) => PropertyRead::Bad { no: 15, column },
     }
 }
 

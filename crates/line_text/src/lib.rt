@@ -9,7 +9,6 @@ ghost use Rattle.judge_line.specs.Judge.{begins, first_header_of, is_close, name
 ghost use Rattle.line_text.specs.Answer.{header_got, name_got, name_in, item_got, item_in, value_got};
 ghost use Rattle.line_text.specs.HeaderParts.{spaceless, tagged, name_ends};
 
-use text::Found;
 
 // What the first header line is found to be.
 #[derive(Drop)]
@@ -153,8 +152,8 @@ fn name_spaced(line: &[u8]) -> NameRead
     ensures name_in { name_in line.now result }
 {
     match text::ink_column(line, 3) {
-        Found::At(k) => name_opened(line, k - 1),
-        Found::Nothing => NameRead::Unnamed,
+        Some(k) => name_opened(line, k - 1),
+        None => NameRead::Unnamed,
     }
 }
 

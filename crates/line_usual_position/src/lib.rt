@@ -13,14 +13,6 @@ pub struct Position {
     pub z: i32,
 }
 
-// What thirty columns are found to be.
-#[derive(Drop)]
-pub enum Usual {
-    At(Position),
-    // Another form, or none.
-    Other,
-}
-
 // 0 only where each column from 1 on lies within its bounds. All are compared, which compiles to a few vector tests.
 fn outside(line: &[u8], low: &[u8], high: &[u8]) -> usize
     requires { (length low.now ≤ length line.now) × (length low.now ≡ length high.now) }
@@ -138,15 +130,15 @@ fn is_usual(line: &[u8]) -> bool
 }
 
 // Columns 1 to 30 of an atom line, where all three coordinates are usual.
-pub fn usual_position(line: &[u8]) -> Usual
+pub fn usual_position(line: &[u8]) -> Option<Position>
     ensures { Said line.now result }
 {
     if is_usual(line) {
-        return Usual::At(Position {
+        return Some(Position {
             x: coordinate(line, 1),
             y: coordinate(line, 11),
             z: coordinate(line, 21),
         });
     }
-    Usual::Other
+    None
 }

@@ -1,5 +1,5 @@
 -- What the code finds at a position, what it does there, and that this is the action of the definition.
-use Rattle.std.specs.Prelude.{ℕ, suc, ◌-◌, ◌≤◌, ◌<◌, ◌≡◌, List, ◌∷◌, map, Bool, cond, ◌&&◌, eqb, leb, length, get_or, take, drop}
+use Rattle.std.specs.Prelude.{Option, Some, None, ℕ, suc, ◌-◌, ◌≤◌, ◌<◌, ◌≡◌, List, ◌∷◌, map, Bool, cond, ◌&&◌, eqb, leb, length, get_or, take, drop}
 use Rattle.std.proofs.Common.{arith, ap₂, ◌∙◌, eq-eqb, ne_eqb}
 use Rattle.std.proofs.Math.Path.{refl, sym, ap, subst}
 use Rattle.std.proofs.Math.Bool.{true, false}
@@ -10,7 +10,6 @@ use Rattle.text.specs.declared.LineAt.{LineAt}
 use Rattle.rules.specs.Record.{Raw, Molecule, Item}
 use Rattle.judge_line.specs.Got.{Got, got, bad, need}
 use Rattle.text.specs.Find.{bad_column}
-use Rattle.text.specs.declared.Found.{Found}
 use Rattle.judge_line.specs.Field.{within, none_found}
 use Rattle.judge_line.specs.Agree.{within_got, within_is}
 use Rattle.judge_line.specs.Judge.{item_of}
@@ -139,9 +138,9 @@ within_bad : {A B : Type 0} (longest : ℕ) (l : Line) (a : A) (y : Got B) (n c 
 unfolding within need
 within_bad {A} {B} longest l a y n c h = go (leb (length l) longest) (bad_column l) h
   where
-    go : (t : Bool) (f : Found) → need t 3 (suc longest) (none_found 4 f (got a)) ≡ bad n c → need t 3 (suc longest) (none_found 4 f y) ≡ bad n c
-    go true (Found.At k) h = cc
-    go true Found.Nothing h = absurd (let z : ◌≡◌ {A = ℕ} 0 1 = cc in omega arith)
+    go : (t : Bool) (f : Option ℕ) → need t 3 (suc longest) (none_found 4 f (got a)) ≡ bad n c → need t 3 (suc longest) (none_found 4 f y) ≡ bad n c
+    go true (Some k) h = cc
+    go true None h = absurd (let z : ◌≡◌ {A = ℕ} 0 1 = cc in omega arith)
     go false f h = cc
 
 module _ (l : Line) (x : LineJudged) (e : line_got l x ≡ within 80 l (got l)) where

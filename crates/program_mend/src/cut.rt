@@ -2,7 +2,7 @@
 // where the bytes up to one of them are cut short, the next one is tried.
 use line_text::ItemRead;
 use mend_file::Mended;
-use text::{Found, LineAt};
+use text::LineAt;
 
 // The mended text of any record that fits the buffer fits this room.
 pub const ROOM: usize = 2097408;
@@ -36,20 +36,20 @@ fn is_close(line: &[u8]) -> bool {
 }
 
 // Where the next `$$$$` line from a line's start on ends. Turns are counted so that the loop ends, and no run uses them up.
-fn next_end(s: &[u8], from: usize) -> Found {
+fn next_end(s: &[u8], from: usize) -> Option<usize> {
     let mut at = from;
     let mut turns = u64::MAX;
     while turns > 0 {
         let LineAt::Line { end, next } = text::line_at(s, at) else {
-            return Found::Nothing;
+            return None;
         };
         if is_close(program_json::part(s, at, end)) {
-            return Found::At(next);
+            return Some(next);
         }
         at = next;
         turns -= 1;
     }
-    Found::Nothing
+    None
 }
 
 // Bytes that may be a record, with what is wrong if they are not; cut short is no refusal here.
@@ -76,7 +76,7 @@ pub fn try_record(s: &[u8], room: &mut [u8; ROOM], list: &mut [u64; LIST]) -> Tr
     let mut turns = u64::MAX;
     while turns > 0 {
         match next_end(s, from) {
-            Found::At(end) => match try_one(program_io::front(s, end), room, list) {
+            Some(end) => match try_one(program_io::front(s, end), room, list) {
                 Tried::Short => {
                     from = end;
                 }
@@ -84,7 +84,7 @@ pub fn try_record(s: &[u8], room: &mut [u8; ROOM], list: &mut [u64; LIST]) -> Tr
                     return other;
                 }
             },
-            Found::Nothing => {
+            None => {
                 return Tried::Short;
             }
         }

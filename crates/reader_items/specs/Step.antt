@@ -1,10 +1,9 @@
 -- A step over the items of a record: the item whose data header starts at a position of a text, with the positions of its name and of its value lines, or the
 -- end of the record, or a refusal. Lines count from the one at that position.
-use Rattle.std.specs.Prelude.{ℕ, suc, ◌+◌, ◌-◌, List, [], ◌∷◌, length, take, drop}
+use Rattle.std.specs.Prelude.{Option, Some, None, ℕ, suc, ◌+◌, ◌-◌, List, [], ◌∷◌, length, take, drop}
 use Rattle.text.specs.Text.{Bytes, Line}
 use Rattle.text.specs.Find.{line_at, ink_column}
 use Rattle.text.specs.Cut.{cut}
-use Rattle.text.specs.declared.Found.{Found}
 use Rattle.text.specs.declared.LineAt.{LineAt}
 use Rattle.judge_line.specs.Got.{Got, got, bad, then}
 use Rattle.judge_line.specs.Field.{within}
@@ -25,9 +24,9 @@ abbrev pub value_is : Line → Got ValueOrBlank
 value_is l = then (within 200 l (got l)) value_of
 
 -- the name starts behind `<`, the first byte after `>` that is no space
-abbrev pub name_start : Found → ℕ
-name_start (Found.At k) = k
-name_start Found.Nothing = 0
+abbrev pub name_start : Option ℕ → ℕ
+name_start (Some k) = k
+name_start None = 0
 
 abbrev pub title_by : ℕ → ℕ → ItemRead
 title_by from size = ItemRead.Title from (from + size)

@@ -1,5 +1,5 @@
 -- A line where a data header or `$$$$` must stand, and where its name stands.
-use Rattle.std.specs.Prelude.{ℕ, zero, suc, ◌+◌, ◌-◌, ◌*◌, ◌^◌, ◌≤◌, ◌<◌, ◌≡◌, refl, ◌∷◌, ◌++◌, take, drop}
+use Rattle.std.specs.Prelude.{Option, Some, None, ℕ, zero, suc, ◌+◌, ◌-◌, ◌*◌, ◌^◌, ◌≤◌, ◌<◌, ◌≡◌, refl, ◌∷◌, ◌++◌, take, drop}
 use native.Mathlib.Omega.{arith}
 use Rattle.std.proofs.Common.{sym, ◌∙◌, subst, length-append, take_at, Fits}
 use Rattle.std.proofs.Math.Path.{ap}
@@ -11,7 +11,6 @@ use Rattle.text.specs.Text.{Bytes, Line}
 use Rattle.text.specs.Columns.{spaces, Within}
 use Rattle.text.specs.Find.{first_from, is_ink, ink_column}
 use Rattle.text.specs.First.{first_within}
-use Rattle.text.specs.declared.Found.{Found}
 use Rattle.rules.specs.Forms.{DataHeader, ValueLine, BlankLine, RecordEnd}
 use Rattle.judge_line.specs.Got.{Got, got, bad, then}
 use Rattle.judge_line.specs.GotLaws.{got_inj, then_got}
@@ -83,20 +82,20 @@ values_tell l =
 
 -- ---- Where the name stands
 
-ink_after : (i k : ℕ) (rest : Bytes) → first_from is_ink i (spaces k ++ (60 ∷ rest)) ≡ Found.At (i + k)
+ink_after : (i k : ℕ) (rest : Bytes) → first_from is_ink i (spaces k ++ (60 ∷ rest)) ≡ Some (i + k)
 unfolding first_from
-ink_after i zero rest = let z : i ≡ i + 0 = omega arith in ap Found.At z
-ink_after i (suc k) rest = let z : suc i + k ≡ i + suc k = omega arith in ink_after (suc i) k rest ∙ ap Found.At z
+ink_after i zero rest = let z : i ≡ i + 0 = omega arith in ap Some z
+ink_after i (suc k) rest = let z : suc i + k ≡ i + suc k = omega arith in ink_after (suc i) k rest ∙ ap Some z
 
 module _ (l name : Bytes) (d : DataHeader l name) where
   abbrev tail : Bytes
   tail = name ++ (62 ∷ spaces d.after)
 
-  pub header_start : ink_column l 2 ≡ Found.At (d.between + 2)
+  pub header_start : ink_column l 2 ≡ Some (d.between + 2)
   unfolding ink_column
   header_start =
       let z : 2 + d.between ≡ d.between + 2 = omega arith in
-      ap (λ (x : Line). first_from is_ink 2 (drop 1 x)) d.parts ∙ ink_after 2 d.between tail ∙ ap Found.At z
+      ap (λ (x : Line). first_from is_ink 2 (drop 1 x)) d.parts ∙ ink_after 2 d.between tail ∙ ap Some z
 
   pub header_inside : d.between + 2 + length name ≤ length l
   header_inside =
@@ -112,7 +111,7 @@ module _ (l name : Bytes) (d : DataHeader l name) where
 
   pub header_titled : title_of l (title_is l) ≡ ItemRead.Title (d.between + 2) (d.between + 2 + length name)
   unfolding title_of
-  header_titled = ap (title_of l) (titled_is l name d) ∙ ap (λ (x : Found). title_by (name_start x) (length name)) header_start
+  header_titled = ap (title_of l) (titled_is l name d) ∙ ap (λ (x : Option ℕ). title_by (name_start x) (length name)) header_start
 
 pub end_titled : (l : Line) → RecordEnd l → title_of l (title_is l) ≡ ItemRead.Close
 unfolding title_of
@@ -136,18 +135,18 @@ title_within l a b h = go (title_is l) refl
 
 -- ---- As the code finds it
 
-module _ (x f : Found) (e : x ≡ f) where
-  pub name_at : (k : ℕ) → x ≡ Found.At k → k ≡ name_start f
+module _ (x f : Option ℕ) (e : x ≡ f) where
+  pub name_at : (k : ℕ) → x ≡ Some k → k ≡ name_start f
   name_at k h = ap name_start (sym h ∙ e)
 
-  pub name_nowhere : x ≡ Found.Nothing → 0 ≡ name_start f
+  pub name_nowhere : x ≡ None → 0 ≡ name_start f
   name_nowhere h = ap name_start (sym h ∙ e)
 
 -- past the end of the line there is no byte
-start_within : (l : Line) (f : Found) → ink_column l 2 ≡ f → name_start f ≤ length l + 1
+start_within : (l : Line) (f : Option ℕ) → ink_column l 2 ≡ f → name_start f ≤ length l + 1
 unfolding ink_column
-start_within l (Found.At k) h = omega (arith, (first_within is_ink 2 k (drop 1 l) h).1, length-drop 1 l)
-start_within l Found.Nothing h = omega arith
+start_within l (Some k) h = omega (arith, (first_within is_ink 2 k (drop 1 l) h).1, length-drop 1 l)
+start_within l None h = omega arith
 
 pub start_fits : (l : Line) (r size : ℕ) → r ≡ name_start (ink_column l 2) → size ≤ length l → length l * 1 < 2 ^ 63 → Fits w64 (r + size)
 start_fits l r size e h k = record { fits = omega (arith, e, start_within l (ink_column l 2) refl, h, k) }

@@ -10,7 +10,7 @@ ghost use Rattle.reader_items.specs.Promise.{Stepped};
 
 use line_text::{ItemRead, ValueRead};
 use reader_places::LineJudged;
-use text::{Found, LineAt};
+use text::LineAt;
 
 // What stands at a position where a data header or `$$$$` must stand. Places are positions of the whole text; those of the values are both 0 where there
 // are none. `lines` and `line` count from the line at that position on.
@@ -55,8 +55,8 @@ fn name_start(line: &[u8]) -> usize
     ensures { result ≡ name_start (ink_column line.now 2) }
 {
     match text::ink_column(line, 2) {
-        Found::At(k) => k,
-        Found::Nothing => 0,
+        Some(k) => k,
+        None => 0,
     }
 }
 

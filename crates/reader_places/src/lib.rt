@@ -6,7 +6,6 @@ ghost use Rattle.judge_line.specs.Got.{got};
 ghost use Rattle.judge_line.specs.Field.{within};
 ghost use Rattle.reader_places.specs.Places.{longest_in, line_got, finished_at, bonds_owed, atoms_owed, after_end};
 
-use text::Found;
 
 // `owed` counts the lines that still belong to the place, the next one among them.
 #[derive(Clone, Copy)]
@@ -80,8 +79,8 @@ pub fn line_judged(line: &[u8], longest: usize) -> LineJudged
         };
     }
     match text::bad_column(line) {
-        Found::At(column) => LineJudged::Bad { no: 4, column },
-        Found::Nothing => LineJudged::Good,
+        Some(column) => LineJudged::Bad { no: 4, column },
+        None => LineJudged::Good,
     }
 }
 

@@ -1,4 +1,5 @@
 -- Laws on a step, place by place: what a callee answered decides what the step is.
+use Rattle.std.specs.Prelude.{Option, Some, None}
 use Prim.Native.Nat.{ℕ, suc, ◌+◌, ◌*◌, ◌-◌, ◌≤◌}
 use native.Mathlib.Omega.{arith}
 use mathlib.Core.Path.{◌≡◌, refl, sym, ap, ◌∙◌, subst}
@@ -9,7 +10,6 @@ use lib.ListN.{length, take, drop}
 use borrow.Author.Tests.{ne_eqb}
 use Rattle.text.specs.Text.{Line}
 use Rattle.text.specs.Find.{bad_column}
-use Rattle.text.specs.declared.Found.{Found}
 use Rattle.rules.specs.Record.{limit}
 use Rattle.judge_line.specs.Got.{Got, got, bad, then, need}
 use Rattle.judge_line.specs.GotLaws.{bad_got, then_got}
@@ -329,11 +329,11 @@ longest_most P.Values = omega arith
 pub longest_is : (n : ℕ) (p : Place) → n ≡ longest_in p → n ≤ 200
 longest_is n p e = let h = longest_most p in omega arith
 
-within_by : {A : Type 0} (longest : ℕ) (l : Line) (x : Got A) (b : Bool) (found : Found) →
+within_by : {A : Type 0} (longest : ℕ) (l : Line) (x : Got A) (b : Bool) (found : Option ℕ) →
     then (need b 3 (suc longest) (none_found 4 found (got l))) (λ k. x) ≡ need b 3 (suc longest) (none_found 4 found x)
 unfolding then need
-within_by longest l x true (Found.At i) = refl
-within_by longest l x true Found.Nothing = refl
+within_by longest l x true (Some i) = refl
+within_by longest l x true None = refl
 within_by longest l x false found = refl
 
 within_then : {A : Type 0} (longest : ℕ) (l : Line) (x : Got A) → then (within longest l (got l)) (λ k. x) ≡ within longest l x

@@ -6,13 +6,6 @@ ghost use Rattle.text.specs.Columns.{column};
 ghost use Rattle.text.specs.Find.{first_from, is_lf, is_bad, bad_column, ink_column, line_to, line_at, is_blank, has_text};
 ghost use Rattle.text.specs.Search.{Passed};
 
-// A position or a column that a search finds.
-#[derive(Drop)]
-pub enum Found {
-    At(usize),
-    Nothing,
-}
-
 // The line at a position of a text: its bytes end before `end`, and the next line starts at `next`.
 #[derive(Drop)]
 pub enum LineAt {
@@ -85,26 +78,26 @@ fn near_lf(s: &[u8], at: usize) -> usize
 }
 
 // The first LF from `at` on.
-fn find_lf(s: &[u8], at: usize) -> Found
+fn find_lf(s: &[u8], at: usize) -> Option<usize>
     ensures { result ≡ first_from is_lf at (drop at s.now) }
 {
     if s.len() <= at {
-        return Found::Nothing;
+        return None;
     }
     let mut i = near_lf(s, at);
     while i < s.len() {
         if s[i] == b'\n' {
-            return Found::At(i);
+            return Some(i);
         }
         i += 1;
     }
-    Found::Nothing
+    None
 }
 
 // The line from `at` to its LF at k.
 fn line_to(s: &[u8], at: usize, k: usize) -> LineAt
     requires { k < length s.now }
-    ensures { result ≡ line_to s.now at (Found.At k) }
+    ensures { result ≡ line_to s.now at (Some k) }
 {
     if at < k {
         if s[k - 1] == b'\r' {
@@ -131,8 +124,8 @@ pub fn line_at(s: &[u8], at: usize) -> LineAt
     ensures { result ≡ line_at s.now at }
 {
     match find_lf(s, at) {
-        Found::At(k) => line_to(s, at, k),
-        Found::Nothing => LineAt::Unfinished,
+        Some(k) => line_to(s, at, k),
+        None => LineAt::Unfinished,
     }
 }
 
@@ -191,32 +184,32 @@ fn near_bad(line: &[u8]) -> usize
 }
 
 // The column of the first byte that is not allowed.
-pub fn bad_column(line: &[u8]) -> Found
+pub fn bad_column(line: &[u8]) -> Option<usize>
     ensures { result ≡ bad_column line.now }
 {
     let mut i = near_bad(line);
     while i < line.len() {
         if is_bad(line[i]) {
-            return Found::At(i + 1);
+            return Some(i + 1);
         }
         i += 1;
     }
-    Found::Nothing
+    None
 }
 
 // The first column from column i on that is no space.
-pub fn ink_column(line: &[u8], i: usize) -> Found
+pub fn ink_column(line: &[u8], i: usize) -> Option<usize>
     requires { 1 ≤ i }
     ensures { result ≡ ink_column line.now i }
 {
     let mut k = i - 1;
     while k < line.len() {
         if line[k] != b' ' {
-            return Found::At(k + 1);
+            return Some(k + 1);
         }
         k += 1;
     }
-    Found::Nothing
+    None
 }
 
 // Whether the line is empty or spaces only.
@@ -224,8 +217,8 @@ pub fn is_blank(line: &[u8]) -> bool
     ensures { result ≡ is_blank line.now }
 {
     match ink_column(line, 1) {
-        Found::At(_) => false,
-        Found::Nothing => true,
+        Some(_) => false,
+        None => true,
     }
 }
 

@@ -1,4 +1,5 @@
 -- Laws on one line of a part: what each of the code's answers says of its turn.
+use Rattle.std.specs.Prelude.{Option, Some, None}
 use Prim.Native.Nat.{ℕ, suc, ◌+◌, ◌-◌, ◌≤◌, ◌<◌}
 use native.Mathlib.Omega.{arith}
 use mathlib.Core.Path.{◌≡◌, ap}
@@ -8,7 +9,6 @@ use mir.Val.{Fits}
 use borrow.Author.Tests.{le-leb, lt-leb}
 use Rattle.text.specs.Text.{Line}
 use Rattle.text.specs.Find.{bad_column}
-use Rattle.text.specs.declared.Found.{Found}
 use Rattle.judge_line.specs.Got.{then, need}
 use Rattle.judge_line.specs.Field.{within}
 use Rattle.judge_line.specs.Judge.{first_header_of, item_of, value_of}
@@ -95,11 +95,11 @@ module _ (l : Line) (p : Place) where
 
   -- ---- its bytes, its length
 
-  pub bad_byte : (x : Found) (column : ℕ) → x ≡ bad_column l → x ≡ Found.At column → Turn.Bad 4 column ≡ turned (allowed_as p l)
+  pub bad_byte : (x : Option ℕ) (column : ℕ) → x ≡ bad_column l → x ≡ Some column → Turn.Bad 4 column ≡ turned (allowed_as p l)
   unfolding allowed_as
   bad_byte x column e h = rw (← e, h)
 
-  pub good_bytes : (x : Found) (r : Turn) → x ≡ bad_column l → x ≡ Found.Nothing → r ≡ turned (line_as p l) → r ≡ turned (allowed_as p l)
+  pub good_bytes : (x : Option ℕ) (r : Turn) → x ≡ bad_column l → x ≡ None → r ≡ turned (line_as p l) → r ≡ turned (allowed_as p l)
   unfolding allowed_as
   good_bytes x r e h k = rw (← e, h) k
 

@@ -8,7 +8,7 @@ ghost use Rattle.writer_parts.specs.Step.{line_as, longest, turn_as, turned, all
 ghost use Rattle.writer_parts.specs.NeverRefused.{Taking};
 
 use line_text::{HeaderJudged, ItemRead, ValueRead};
-use text::{Found, LineAt};
+use text::LineAt;
 
 // What a part is found to be: the length of its canonical text, or the first refusal.
 #[derive(Drop)]
@@ -123,8 +123,8 @@ fn allowed_turn(place: Place, line: &[u8]) -> Turn
     ensures { result ≡ turned (allowed_as place line.now) }
 {
     match text::bad_column(line) {
-        Found::At(column) => Turn::Bad { no: 4, column },
-        Found::Nothing => good_turn(place, line),
+        Some(column) => Turn::Bad { no: 4, column },
+        None => good_turn(place, line),
     }
 }
 

@@ -1,4 +1,5 @@
 -- `line_counts_bonds::bond_rest` meets its contract.
+use Rattle.std.specs.Prelude.{Some}
 use Rattle.line_fields.specs.Steps.{steps}
 use Rattle.line_counts_bonds.specs.Answer.{bond_from}
 use borrow.Author.Rules.{rules}
@@ -20,6 +21,6 @@ pub returns-else-first-second : goal.returns-else-first-second
 unfolding bond_from
 returns-else-first-second c = search steps depth 24 fits 20000
 
-pub returns-in-At : goal.returns-in-At
+pub returns-in-Some : goal.returns-in-Some
 unfolding bond_from
-returns-in-At c = search steps depth 24 fits 20000
+returns-in-Some c = search steps depth 24 fits 20000

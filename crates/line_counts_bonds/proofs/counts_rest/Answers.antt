@@ -1,4 +1,5 @@
 -- `line_counts_bonds::counts_rest` meets its contract.
+use Rattle.std.specs.Prelude.{Some, None}
 use Rattle.line_fields.specs.Steps.{steps}
 use Rattle.text.specs.Find.{has_text}
 use Rattle.line_counts_bonds.specs.Answer.{after_counts}
@@ -17,13 +18,13 @@ pub returns-in-Bad-number_field-2 : goal.returns-in-Bad-number_field-2
 unfolding after_counts has_text
 returns-in-Bad-number_field-2 c = search steps depth 24 fits 20000
 
-pub returns-in-Nothing : goal.returns-in-Nothing
+pub returns-in-None : goal.returns-in-None
 unfolding after_counts has_text
-returns-in-Nothing c = search steps depth 24 fits 20000
+returns-in-None c = search steps depth 24 fits 20000
 
-pub returns-in-At : goal.returns-in-At
+pub returns-in-Some : goal.returns-in-Some
 unfolding after_counts has_text
-returns-in-At c = search steps depth 24 fits 20000
+returns-in-Some c = search steps depth 24 fits 20000
 
 pub returns-else-has_text : goal.returns-else-has_text
 unfolding after_counts has_text

@@ -1,10 +1,11 @@
 -- `line_fields::symbol_field` meets its contract.
+use Rattle.std.specs.Prelude.{Some, None}
 use Rattle.line_fields.specs.Steps.{one_field}
 use borrow.Author.Rules.{rules}
 use Rattle.line_fields.proofs.symbol_field.Goals as goal
 
-pub returns-in-Is : goal.returns-in-Is
-returns-in-Is c = search (rules, one_field)
+pub returns-in-Some : goal.returns-in-Some
+returns-in-Some c = search (rules, one_field)
 
-pub returns-in-Unknown : goal.returns-in-Unknown
-returns-in-Unknown c = search (rules, one_field)
+pub returns-in-None : goal.returns-in-None
+returns-in-None c = search (rules, one_field)
