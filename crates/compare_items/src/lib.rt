@@ -12,8 +12,9 @@ ghost use Rattle.compare_items.specs.Resting.{Rested, Passed, Valued};
 ghost use Rattle.compare_items.specs.Part.{name_on, items_at};
 ghost use Rattle.compare_items.specs.Items.{NameIn, alone_items};
 
+use judge_line::Refusal;
 use compare_rules::{Count, Place};
-use line_text::ItemRead;
+use line_text::ItemLine;
 use text::LineAt;
 
 // A value line of an item; or where the line after its blank line starts.
@@ -212,9 +213,9 @@ fn name_in(line: &[u8]) -> Span
     ensures { NameIn line.now result }
 {
     match line_text::item_line(line) {
-        ItemRead::Title { from, to } => Span { from, to },
-        ItemRead::Close => Span { from: 0, to: 0 },
-        ItemRead::Bad { no: _, column: _ } => Span { from: 0, to: 0 },
+        Ok(ItemLine::Title { from, to }) => Span { from, to },
+        Ok(ItemLine::Close) => Span { from: 0, to: 0 },
+        Err(Refusal { no: _, column: _ }) => Span { from: 0, to: 0 },
     }
 }
 

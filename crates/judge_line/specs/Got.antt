@@ -1,5 +1,6 @@
 -- What judging a part of a line finds: its value, or a refusal with its number and column.
-use Rattle.std.specs.Prelude.{ℕ, Bool, true, false}
+use Rattle.std.specs.Prelude.{ℕ, Bool, true, false, Result, Ok, Err}
+use Rattle.judge_line.specs.declared.Refusal.{Refusal}
 
 pub data Got (A : Type 0) : Type 0 where
   got : A → Got A
@@ -14,3 +15,8 @@ then (bad e column) f = bad e column
 unfoldable pub need : {A : Type 0} → Bool → ℕ → ℕ → Got A → Got A
 need true e column x = x
 need false e column x = bad e column
+
+-- what code answers, as the judge says it
+abbrev pub got_by : {T A : Type 0} → (T → A) → Result T Refusal → Got A
+got_by f (Ok x) = got (f x)
+got_by f (Err r) = bad r.no r.column

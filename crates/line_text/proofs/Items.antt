@@ -1,5 +1,5 @@
 -- Laws on data headers, `$$$$` lines, value lines and blank lines.
-use Rattle.std.specs.Prelude.{Option, Some, None}
+use Rattle.std.specs.Prelude.{Ok, Err, Option, Some, None}
 use Prim.Native.Nat.{ℕ, suc, ◌+◌, ◌-◌, ◌≤◌, ◌<◌}
 use native.Mathlib.Omega.{arith}
 use mathlib.Core.Path.{◌≡◌, refl, sym, ap, ◌∙◌, subst}
@@ -19,7 +19,8 @@ use Rattle.judge_line.specs.Judge.{HeaderRead, none, begins, opened, spaced, arr
 use Rattle.judge_line.specs.AgreeText.{begins_got}
 use Rattle.line_text.specs.Answer.{name_got, name_in, item_in}
 use Rattle.line_text.specs.declared.NameRead.{NameRead}
-use Rattle.line_text.specs.declared.ItemRead.{ItemRead}
+use Rattle.line_text.specs.declared.ItemLine.{ItemLine}
+use Rattle.judge_line.specs.declared.Refusal.{Refusal}
 use Rattle.line_text.proofs.Names.{unnamed_in}
 
 -- ---- spaces before `<`
@@ -152,17 +153,17 @@ module _ (l : Line) (v : NameRead) (e : name_got l v ≡ header_of l) where
   pub value_none : v ≡ NameRead.Unnamed → got value ≡ not_header (header_of l)
   value_none f = ap not_header (ap (name_got l) (sym f) ∙ e)
 
-pub title_in_lem : (l : Line) (v : NameRead) (from to : ℕ) → name_in l v → v ≡ NameRead.Named from to → item_in l (ItemRead.Title from to)
+pub title_in_lem : (l : Line) (v : NameRead) (from to : ℕ) → name_in l v → v ≡ NameRead.Named from to → item_in l (Ok (ItemLine.Title from to))
 unfolding name_in item_in
 title_in_lem l v from to h e = subst (name_in l) e h
 
-pub close_in : (l : Line) → item_in l ItemRead.Close
+pub close_in : (l : Line) → item_in l (Ok ItemLine.Close)
 unfolding item_in
 close_in l = tt
 
-pub bad_in : (l : Line) (e column : ℕ) → item_in l (ItemRead.Bad e column)
+pub bad_in : (l : Line) (r : Refusal) → item_in l (Err r)
 unfolding item_in
-bad_in l e column = tt
+bad_in l r = tt
 
 pub item_close : (l : Line) (r : Bool) → r ≡ is_close l → r ≡ true → got close ≡ item_of l
 unfolding item_of

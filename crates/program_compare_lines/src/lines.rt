@@ -1,5 +1,5 @@
 // Lines found by their numbers. Differences come in order, so the walk over a record's items only goes on.
-use line_text::ItemRead;
+use line_text::ItemLine;
 use text::LineAt;
 
 // Line k of a text; an empty one where there is none.
@@ -42,7 +42,7 @@ struct Span {
 
 fn span_of(line: &[u8]) -> Span {
     match line_text::item_line(line) {
-        ItemRead::Title { from, to } => Span { from, to },
+        Ok(ItemLine::Title { from, to }) => Span { from, to },
         _ => Span { from: 0, to: 0 },
     }
 }

@@ -2,7 +2,7 @@
 ghost use Rattle.std.specs.Prelude.{◌+◌, ◌≤◌, length};
 
 use crate::facts;
-use line_text::ItemRead;
+use line_text::ItemLine;
 use program_io::{Out, Text};
 use text::LineAt;
 
@@ -288,7 +288,7 @@ fn look_line(
     }
     let line = program_io::tail(program_io::front(s, end), k);
     match line_text::item_line(line) {
-        ItemRead::Title { from, to } => {
+        Ok(ItemLine::Title { from, to }) => {
             let name = program_io::tail(program_io::front(line, to), from);
             looked.note(s, k, name, table, room)
         }

@@ -1,5 +1,5 @@
 // Where a record that was accepted ends, told without judging it again.
-use line_text::ItemRead;
+use line_text::ItemLine;
 use text::LineAt;
 
 // Where the first record of the bytes ends.
@@ -19,7 +19,7 @@ fn is_last(line: &[u8], lines: usize) -> bool {
         return false;
     }
     match line_text::item_line(line) {
-        ItemRead::Close => true,
+        Ok(ItemLine::Close) => true,
         _ => false,
     }
 }

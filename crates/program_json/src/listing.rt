@@ -1,7 +1,8 @@
 // Items as JSON: name and value lines of each.
+use judge_line::Refusal;
 use crate::strings::put_string;
 use crate::{part, put_comma};
-use line_text::{ItemRead, ValueRead};
+use line_text::{ItemLine, ValueLine};
 use program_io::Out;
 use text::LineAt;
 
@@ -52,17 +53,17 @@ enum Line {
 
 fn title_line(line: &[u8]) -> Line {
     match line_text::item_line(line) {
-        ItemRead::Title { from, to } => Line::Name { from, to },
-        ItemRead::Close => Line::Other,
-        ItemRead::Bad { no: _, column: _ } => Line::Other,
+        Ok(ItemLine::Title { from, to }) => Line::Name { from, to },
+        Ok(ItemLine::Close) => Line::Other,
+        Err(Refusal { no: _, column: _ }) => Line::Other,
     }
 }
 
 fn inner_line(line: &[u8]) -> Line {
     match line_text::value_line(line) {
-        ValueRead::Value => Line::Value,
-        ValueRead::Blank => Line::Blank,
-        ValueRead::Bad { no: _, column: _ } => Line::Other,
+        Ok(ValueLine::Value) => Line::Value,
+        Ok(ValueLine::Blank) => Line::Blank,
+        Err(Refusal { no: _, column: _ }) => Line::Other,
     }
 }
 

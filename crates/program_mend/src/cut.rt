@@ -1,6 +1,6 @@
 // The next record of a file in a buffer, mended. A record ends with a `$$$$` line, but its second and third header lines may be such lines, too:
 // where the bytes up to one of them are cut short, the next one is tried.
-use line_text::ItemRead;
+use line_text::ItemLine;
 use mend_file::Mended;
 use text::LineAt;
 
@@ -30,7 +30,7 @@ pub enum Tried {
 
 fn is_close(line: &[u8]) -> bool {
     match line_text::item_line(line) {
-        ItemRead::Close => true,
+        Ok(ItemLine::Close) => true,
         _ => false,
     }
 }

@@ -7,11 +7,12 @@ ghost use Rattle.line_property.specs.Listed.{places};
 ghost use Rattle.reader_state.specs.LineRead.{step_got, went_of, Kept, Sane, line_in, header_in, moved, counted};
 ghost use Rattle.reader_state.specs.StateParts.{begun, finished, title_in, KeptAt};
 
-use line_atom::{Atom, AtomRead};
-use line_counts_bonds::{Bond, BondRead, Counts, CountsRead, LIMIT};
-use line_property::PropertyRead;
-use line_text::{HeaderJudged, ItemRead, ValueRead};
-use reader_places::{Finish, LineJudged, Place};
+use judge_line::Refusal;
+use line_atom::Atom;
+use line_counts_bonds::{Bond, Counts, LIMIT};
+use line_property::PropertyLine;
+use line_text::{ItemLine, ValueLine};
+use reader_places::{Finish, Place};
 use rules::LISTED;
 
 #[derive(Clone, Copy)]
@@ -85,8 +86,8 @@ impl Reader {
     {
         let place = self.place;
         match reader_places::line_judged(line, reader_places::longest(place)) {
-            LineJudged::Good => at_place(self, line, listed),
-            LineJudged::Bad { no, column } => Step::Refused { no, column },
+            Ok(()) => at_place(self, line, listed),
+            Err(Refusal { no, column }) => Step::Refused { no, column },
         }
     }
 
@@ -127,8 +128,8 @@ fn at_first(reader: Reader, line: &[u8]) -> Step
     ensures title_in { title_in line.now result }
 {
     match line_text::first_header(line) {
-        HeaderJudged::Good => Step::Next(reader.moved(Place::Header { owed: 2 })),
-        HeaderJudged::Bad { no, column } => Step::Refused { no, column },
+        Ok(()) => Step::Next(reader.moved(Place::Header { owed: 2 })),
+        Err(Refusal { no, column }) => Step::Refused { no, column },
     }
 }
 
@@ -164,11 +165,11 @@ fn at_counts(reader: Reader, line: &[u8], listed: &mut [u32; LISTED]) -> Step
     ensures title_in { title_in line.now result }
 {
     match line_counts_bonds::counts_line(line, LIMIT) {
-        CountsRead::Is(counts) => {
+        Ok(counts) => {
             line_property::empty(counts.atoms, listed);
             Step::Next(counted(reader, counts))
         }
-        CountsRead::Bad { no, column } => Step::Refused { no, column },
+        Err(Refusal { no, column }) => Step::Refused { no, column },
     }
 }
 
@@ -180,13 +181,13 @@ fn at_atoms(reader: Reader, owed: u32, line: &[u8]) -> Step
 {
     let counts = reader.counts;
     match line_atom::atom_line(line, counts.atoms) {
-        AtomRead::Is(atom) => {
+        Ok(atom) => {
             Step::Atom(
                 reader.moved(reader_places::atoms_owed(owed - 1, counts.bonds)),
                 atom,
             )
         }
-        AtomRead::Bad { no, column } => Step::Refused { no, column },
+        Err(Refusal { no, column }) => Step::Refused { no, column },
     }
 }
 
@@ -198,8 +199,8 @@ fn at_bonds(reader: Reader, owed: u32, line: &[u8]) -> Step
 {
     let counts = reader.counts;
     match line_counts_bonds::bond_line(line, counts.atoms) {
-        BondRead::Is(bond) => Step::Bond(reader.moved(reader_places::bonds_owed(owed - 1)), bond),
-        BondRead::Bad { no, column } => Step::Refused { no, column },
+        Ok(bond) => Step::Bond(reader.moved(reader_places::bonds_owed(owed - 1)), bond),
+        Err(Refusal { no, column }) => Step::Refused { no, column },
     }
 }
 
@@ -215,9 +216,9 @@ fn at_properties(reader: Reader, line: &[u8], listed: &mut [u32; LISTED]) -> Ste
     let sd = reader.sd;
     let counts = reader.counts;
     match line_property::property_line(line, counts.atoms, listed) {
-        PropertyRead::Listed => Step::Next(reader),
-        PropertyRead::End => Step::Ended(reader.moved(reader_places::after_end(sd))),
-        PropertyRead::Bad { no, column } => Step::Refused { no, column },
+        Ok(PropertyLine::Listed) => Step::Next(reader),
+        Ok(PropertyLine::End) => Step::Ended(reader.moved(reader_places::after_end(sd))),
+        Err(Refusal { no, column }) => Step::Refused { no, column },
     }
 }
 
@@ -227,13 +228,13 @@ fn at_items(reader: Reader, line: &[u8]) -> Step
     ensures title_in { title_in line.now result }
 {
     match line_text::item_line(line) {
-        ItemRead::Title { from, to } => Step::Title {
+        Ok(ItemLine::Title { from, to }) => Step::Title {
             reader: reader.moved(Place::Values),
             from,
             to,
         },
-        ItemRead::Close => Step::Done,
-        ItemRead::Bad { no, column } => Step::Refused { no, column },
+        Ok(ItemLine::Close) => Step::Done,
+        Err(Refusal { no, column }) => Step::Refused { no, column },
     }
 }
 
@@ -243,8 +244,8 @@ fn at_values(reader: Reader, line: &[u8]) -> Step
     ensures title_in { title_in line.now result }
 {
     match line_text::value_line(line) {
-        ValueRead::Value => Step::Value(reader),
-        ValueRead::Blank => Step::Blank(reader.moved(Place::Items)),
-        ValueRead::Bad { no, column } => Step::Refused { no, column },
+        Ok(ValueLine::Value) => Step::Value(reader),
+        Ok(ValueLine::Blank) => Step::Blank(reader.moved(Place::Items)),
+        Err(Refusal { no, column }) => Step::Refused { no, column },
     }
 }

@@ -7,7 +7,8 @@ ghost use Rattle.judge_parts.specs.Written.{text_of, written_headers, written_it
 ghost use Rattle.writer_parts.specs.Step.{line_as, longest, turn_as, turned, allowed_as, Next, place_of, judged, ends_as, written_from};
 ghost use Rattle.writer_parts.specs.NeverRefused.{Taking};
 
-use line_text::{HeaderJudged, ItemRead, ValueRead};
+use judge_line::Refusal;
+use line_text::{ItemLine, ValueLine};
 use text::LineAt;
 
 // What a part is found to be: the length of its canonical text, or the first refusal.
@@ -55,11 +56,11 @@ fn first_turn(line: &[u8]) -> Turn
     ensures { result ≡ turned (line_as Place.First line.now) }
 {
     match line_text::first_header(line) {
-        HeaderJudged::Good => Turn::Next {
+        Ok(()) => Turn::Next {
             place: Place::Second,
             size: line.len() + 1,
         },
-        HeaderJudged::Bad { no, column } => Turn::Bad { no, column },
+        Err(Refusal { no, column }) => Turn::Bad { no, column },
     }
 }
 
@@ -69,12 +70,12 @@ fn item_turn(line: &[u8]) -> Turn
     ensures { result ≡ turned (line_as Place.Items line.now) }
 {
     match line_text::item_line(line) {
-        ItemRead::Title { from, to } => Turn::Next {
+        Ok(ItemLine::Title { from, to }) => Turn::Next {
             place: Place::Values,
             size: to - from + 6,
         },
-        ItemRead::Close => Turn::Bad { no: 16, column: 1 },
-        ItemRead::Bad { no, column } => Turn::Bad { no, column },
+        Ok(ItemLine::Close) => Turn::Bad { no: 16, column: 1 },
+        Err(Refusal { no, column }) => Turn::Bad { no, column },
     }
 }
 
@@ -84,15 +85,15 @@ fn value_turn(line: &[u8]) -> Turn
     ensures { result ≡ turned (line_as Place.Values line.now) }
 {
     match line_text::value_line(line) {
-        ValueRead::Value => Turn::Next {
+        Ok(ValueLine::Value) => Turn::Next {
             place: Place::Values,
             size: line.len() + 1,
         },
-        ValueRead::Blank => Turn::Next {
+        Ok(ValueLine::Blank) => Turn::Next {
             place: Place::Items,
             size: 1,
         },
-        ValueRead::Bad { no, column } => Turn::Bad { no, column },
+        Err(Refusal { no, column }) => Turn::Bad { no, column },
     }
 }
 

@@ -10,14 +10,8 @@ loop-left-init c = search (rules, entering)
 pub entry-requires : goal.entry-requires
 entry-requires c = search (rules, entering)
 
-pub enum_told-1 : goal.enum_told-1
-enum_told-1 c = search (rules, entering)
-
-pub enum_known-no : goal.enum_known-no
-enum_known-no c = search (rules, entering)
-
-pub returns-in-Bad : goal.returns-in-Bad
-returns-in-Bad c = search (rules, entering)
+pub returns-in-Err : goal.returns-in-Err
+returns-in-Err c = search (rules, entering)
 
 pub overflow_add-i : goal.overflow_add-i
 overflow_add-i c = search (rules, entering)
