@@ -1,5 +1,5 @@
 -- What judging a part of a line finds: its value, or a refusal with its number and column.
-use Rattle.std.specs.Prelude.{ℕ, Bool, true, false, Result, Ok, Err}
+use Rattle.std.specs.Prelude.{◌≡◌, ℕ, Bool, true, false, Result, Ok, Err}
 use Rattle.judge_line.specs.declared.Refusal.{Refusal}
 
 pub data Got (A : Type 0) : Type 0 where
@@ -20,3 +20,7 @@ need false e column x = bad e column
 abbrev pub got_by : {T A : Type 0} → (T → A) → Result T Refusal → Got A
 got_by f (Ok x) = got (f x)
 got_by f (Err r) = bad r.no r.column
+
+-- refusals that are the same
+pub err_same : {T : Type 0} {e f : Refusal} → ◌≡◌ {A = Result T Refusal} (Err e) (Err f) → e ≡ f
+err_same h = cc

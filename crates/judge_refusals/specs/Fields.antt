@@ -4,7 +4,7 @@ use Prim.Native.String.{String}
 use Rattle.std.proofs.Math.Nat.{add-zero, suc-add}
 use Rattle.std.proofs.Common.{add-suc, sym, ap, ◌∙◌, subst, inl, inr, get_or-drop}
 use native.Mathlib.Omega.{arith}
-use Rattle.std.specs.Prelude.{Result, Ok, Err, Option, Some, None, ◌≡◌, Bool, cond, ◌&&◌, eqb, leb, length, get_or, drop, ℤ, pos, negsuc}
+use Rattle.std.specs.Prelude.{Result, Ok, Err, Option, Some as Found, None, ◌≡◌, Bool, cond, ◌&&◌, eqb, leb, length, get_or, drop, ℤ, pos, negsuc}
 use Rattle.std.proofs.Math.Path.{refl}
 use mathlib.Core.List.{List, [], ◌∷◌, ◌++◌}
 use Rattle.std.proofs.Math.Bool.{true, false}
@@ -38,24 +38,24 @@ none_such P h f s = bad_got (sym h ∙ f s.0 s.1)
 
 -- ---- numbers: an integer, and then one of its range
 
-in_range : (least most : ℕ) (z : ℤ) → ¬ (ranged least most (is z) ≡ (Err NumberFault.Malformed))
+in_range : (least most : ℕ) (z : ℤ) → ¬ (ranged least most (is z) ≡ Err NumberFault.Malformed)
 unfolding ranged
 in_range least most (pos k) h = go (leb least k && leb k most) h
   where
-    go : (t : Bool) → cond t (Ok k) (Err NumberFault.Outside) ≡ (Err NumberFault.Malformed) → ⊥
+    go : (t : Bool) → cond t (Ok k) (Err NumberFault.Outside) ≡ Err NumberFault.Malformed → ⊥
     go true h = let z : ◌≡◌ {A = ℕ} 0 1 = cc in omega arith
     go false h = let z : ◌≡◌ {A = ℕ} 0 1 = cc in omega arith
 in_range least most (negsuc k) h = let z : ◌≡◌ {A = ℕ} 0 1 = cc in omega arith
 
-number_malformed : (least most : ℕ) (cs : Bytes) → number_in least most cs ≡ (Err NumberFault.Malformed) → ¬ Some (Integer false cs)
+number_malformed : (least most : ℕ) (cs : Bytes) → number_in least most cs ≡ Err NumberFault.Malformed → ¬ Some (Integer false cs)
 unfolding number_in
 number_malformed least most cs h n = in_range least most n.0 (rw (integer_read false n.1) at h)
 
-number_outside : (least most : ℕ) (cs : Bytes) → number_in least most cs ≡ (Err NumberFault.Outside) → Some (Integer false cs)
+number_outside : (least most : ℕ) (cs : Bytes) → number_in least most cs ≡ Err NumberFault.Outside → Some (Integer false cs)
 unfolding number_in ranged
 number_outside least most cs h = go (integer_in false cs) refl h
   where
-    go : (r : IntegerRead) → integer_in false cs ≡ r → ranged least most r ≡ (Err NumberFault.Outside) → Some (Integer false cs)
+    go : (r : IntegerRead) → integer_in false cs ≡ r → ranged least most r ≡ Err NumberFault.Outside → Some (Integer false cs)
     go (is z) e h = (z, read_integer false cs z e)
     go malformed e h = absurd (let z : ◌≡◌ {A = ℕ} 0 1 = cc in omega arith)
 
@@ -73,23 +73,23 @@ number_tells l i j least most = go (number_in least most (columns l i j)) refl
 
 -- ---- numbers of a range with negatives
 
-in_signed_range : (below above : ℕ) (z : ℤ) → ¬ (signed_ranged below above (is z) ≡ (Err NumberFault.Malformed))
+in_signed_range : (below above : ℕ) (z : ℤ) → ¬ (signed_ranged below above (is z) ≡ Err NumberFault.Malformed)
 unfolding signed_ranged
 in_signed_range below above z h = go (is_between below above z) h
   where
-    go : (t : Bool) → cond t (Ok z) (Err NumberFault.Outside) ≡ (Err NumberFault.Malformed) → ⊥
+    go : (t : Bool) → cond t (Ok z) (Err NumberFault.Outside) ≡ Err NumberFault.Malformed → ⊥
     go true h = let z : ◌≡◌ {A = ℕ} 0 1 = cc in omega arith
     go false h = let z : ◌≡◌ {A = ℕ} 0 1 = cc in omega arith
 
-signed_malformed : (below above : ℕ) (cs : Bytes) → signed_in below above cs ≡ (Err NumberFault.Malformed) → ¬ Some (Integer true cs)
+signed_malformed : (below above : ℕ) (cs : Bytes) → signed_in below above cs ≡ Err NumberFault.Malformed → ¬ Some (Integer true cs)
 unfolding signed_in
 signed_malformed below above cs h n = in_signed_range below above n.0 (rw (integer_read true n.1) at h)
 
-signed_outside : (below above : ℕ) (cs : Bytes) → signed_in below above cs ≡ (Err NumberFault.Outside) → Some (Integer true cs)
+signed_outside : (below above : ℕ) (cs : Bytes) → signed_in below above cs ≡ Err NumberFault.Outside → Some (Integer true cs)
 unfolding signed_in signed_ranged
 signed_outside below above cs h = go (integer_in true cs) refl h
   where
-    go : (r : IntegerRead) → integer_in true cs ≡ r → signed_ranged below above r ≡ (Err NumberFault.Outside) → Some (Integer true cs)
+    go : (r : IntegerRead) → integer_in true cs ≡ r → signed_ranged below above r ≡ Err NumberFault.Outside → Some (Integer true cs)
     go (is z) e h = (z, read_integer true cs z e)
     go malformed e h = absurd (let z : ◌≡◌ {A = ℕ} 0 1 = cc in omega arith)
 
@@ -160,7 +160,7 @@ unfolding coordinate_at
 coordinate_tells l i j ten = go (coordinate_in (columns l i j)) refl
   where
     go : (r : Option ℤ) → coordinate_in (columns l i j) ≡ r → Tells (coordinate l i j) (coordinate_got i r)
-    go (Some z) e = value ((z, coordinate_got_lem l i j ten z (ap (coordinate_got i) e)), tt)
+    go (Found z) e = value ((z, coordinate_got_lem l i j ten z (ap (coordinate_got i) e)), tt)
     go None e =
         refusal (inl (none_such (Coordinate (columns l i j)) (ap (coordinate_got i) e) (λ z. coordinate_is l i j ten z), refl, refl))
 
@@ -169,7 +169,7 @@ unfolding symbol_at
 symbol_tells l i j = go (symbol_in (columns l i j)) refl
   where
     go : (r : Option ℕ) → symbol_in (columns l i j) ≡ r → Tells (symbol l i j) (symbol_got i r)
-    go (Some k) e = value ((k, symbol_got_lem l i j k (ap (symbol_got i) e)), tt)
+    go (Found k) e = value ((k, symbol_got_lem l i j k (ap (symbol_got i) e)), tt)
     go None e = refusal (inl (none_such (Symbol (columns l i j)) (ap (symbol_got i) e) (λ k. symbol_is l i j k), refl, refl))
 
 -- ---- spaces and texts
@@ -193,7 +193,7 @@ module _ (p : ℕ → Bool) (P : ℕ → Type 0) (good : (b : ℕ) → p b ≡ f
 
   -- the first byte
   one_tells : {A : Type 0} {es : List Demand} (x : Got A) (b i : ℕ) (u : Bool) (f : Option ℕ) → p b ≡ u → column l i ≡ b →
-      (u ≡ false → Tells es (none_found e f x)) → Tells (P (column l i) else e at_column i ∷ es) (none_found e (cond u (Some i) f) x)
+      (u ≡ false → Tells es (none_found e f x)) → Tells (P (column l i) else e at_column i ∷ es) (none_found e (cond u (Found i) f) x)
   one_tells x b i true f h here t = refusal (inl ((λ q. never_both (p b) h (ill b (subst P here q))), refl, refl))
   one_tells x b i false f h here t = past (P (column l i) else e at_column i ∷ []) (subst P (sym here) (good b h), tt) (t refl)
 

@@ -107,11 +107,11 @@ module _ (l : Line) (i j least most : ℕ) (x : Result ℕ NumberFault) (e : x �
   unfolding number_at
   number_is k h = rw (← e, h)
 
-  pub number_malformed : x ≡ (Err NumberFault.Malformed) → bad 7 i ≡ number_at l i j least most
+  pub number_malformed : x ≡ Err NumberFault.Malformed → bad 7 i ≡ number_at l i j least most
   unfolding number_at
   number_malformed h = rw (← e, h)
 
-  pub number_outside : x ≡ (Err NumberFault.Outside) → bad 8 i ≡ number_at l i j least most
+  pub number_outside : x ≡ Err NumberFault.Outside → bad 8 i ≡ number_at l i j least most
   unfolding number_at
   number_outside h = rw (← e, h)
 
@@ -120,11 +120,11 @@ module _ (l : Line) (i j below above : ℕ) (x : Result ℤ NumberFault) (e : x 
   unfolding signed_at
   signed_is z h f = rw (← e, h) (ap got (hop z f))
 
-  pub signed_malformed : x ≡ (Err NumberFault.Malformed) → bad 7 i ≡ signed_at l i j below above
+  pub signed_malformed : x ≡ Err NumberFault.Malformed → bad 7 i ≡ signed_at l i j below above
   unfolding signed_at
   signed_malformed h = rw (← e, h)
 
-  pub signed_outside : x ≡ (Err NumberFault.Outside) → bad 8 i ≡ signed_at l i j below above
+  pub signed_outside : x ≡ Err NumberFault.Outside → bad 8 i ≡ signed_at l i j below above
   unfolding signed_at
   signed_outside h = rw (← e, h)
 

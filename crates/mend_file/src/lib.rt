@@ -8,7 +8,8 @@ ghost use Rattle.mend_file.specs.Promise.{Promise, numbers_of};
 ghost use Rattle.mend_file.specs.Walked.{Walked, starts_at, end_of};
 ghost use Rattle.mend_file.specs.Promised.{Measured};
 
-use mend_judge::{Judge, Judged};
+use judge_line::Refusal;
+use mend_judge::Judge;
 use mend_lines::Deed;
 use mend_out::Mender;
 use reader_pairs::KEYS;
@@ -78,11 +79,11 @@ fn walk_lines(
         let end = p.end;
         match mend_lines::deed_at(judge, tail, s, at, end) {
             Deed::Keep => match mend_judge::judge_line(judge, &s[at..end], listed, keys) {
-                Judged::On(j) => {
+                Ok(j) => {
                     judge = j;
                     m = mend_out::keep_line(m, s, p, room, list);
                 }
-                Judged::Refused { no, column } => {
+                Err(Refusal { no, column }) => {
                     return Mended::Refused {
                         no,
                         line: m.out_line,

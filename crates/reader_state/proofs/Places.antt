@@ -1,5 +1,5 @@
 -- Laws on a step, place by place: what a callee answered decides what the step is.
-use Rattle.std.specs.Prelude.{Result, Ok, Err, Option, Some, None}
+use Rattle.std.specs.Prelude.{IsErrAnd, Result, Ok, Err, Option, Some, None}
 use Prim.Native.Nat.{ℕ, suc, ◌+◌, ◌*◌, ◌-◌, ◌≤◌}
 use native.Mathlib.Omega.{arith}
 use mathlib.Core.Path.{◌≡◌, refl, sym, ap, ◌∙◌, subst}
@@ -37,49 +37,66 @@ use Rattle.reader_places.specs.declared.Place.TheVariants as P
 use Rattle.reader_state.specs.declared.Reader.{Reader}
 use Rattle.reader_state.specs.declared.Step.{Step}
 use Rattle.reader_places.specs.Places.{bonds_owed, atoms_owed, after_end, longest_in, line_got}
-use Rattle.reader_state.specs.LineRead.{emptied_by, Went, on, headed, atom, bond, ended, title, value, blank, done, moved, counted, after_property, entered_by, header_in, line_in, went_of, Kept, Owing, Sane}
+use Rattle.reader_state.specs.LineRead.{step_got, emptied_by, Went, on, headed, atom, bond, ended, title, value, blank, done, moved, counted, after_property, entered_by, header_in, line_in, went_of, Kept, Owing, Sane}
 use Rattle.reader_state.specs.StateParts.{title_in, KeptAt}
 
 -- ---- a step that is no title
 
 module _ (l : Line) (r : Reader) where
-  pub next_in : title_in l (Step.Next r)
+  pub next_in : title_in l (Ok (Step.Next r))
   unfolding title_in
   next_in = tt
 
-  pub headed_in : title_in l (Step.Headed r)
+  pub headed_in : title_in l (Ok (Step.Headed r))
   unfolding title_in
   headed_in = tt
 
-  pub atom_in : (a : Atom) → title_in l (Step.Atom r a)
+  pub atom_in : (a : Atom) → title_in l (Ok (Step.Atom r a))
   unfolding title_in
   atom_in a = tt
 
-  pub bond_in : (b : Bond) → title_in l (Step.Bond r b)
+  pub bond_in : (b : Bond) → title_in l (Ok (Step.Bond r b))
   unfolding title_in
   bond_in b = tt
 
-  pub ended_in : title_in l (Step.Ended r)
+  pub ended_in : title_in l (Ok (Step.Ended r))
   unfolding title_in
   ended_in = tt
 
-  pub value_in : title_in l (Step.Value r)
+  pub value_in : title_in l (Ok (Step.Value r))
   unfolding title_in
   value_in = tt
 
-  pub blank_in : title_in l (Step.Blank r)
+  pub blank_in : title_in l (Ok (Step.Blank r))
   unfolding title_in
   blank_in = tt
 
-pub done_in : (l : Line) → title_in l Step.Done
+pub done_in : (l : Line) → title_in l (Ok Step.Done)
 unfolding title_in
 done_in l = tt
 
-pub refused_in : (l : Line) (e column : ℕ) → title_in l (Step.Refused e column)
+pub refused_in : (l : Line) (r : Refusal) → title_in l (Err r)
 unfolding title_in
-refused_in l e column = tt
+refused_in l r = tt
 
 pub ruleset untitled = (next_in, headed_in, atom_in, bond_in, ended_in, value_in, blank_in, done_in, refused_in)
+
+-- a refusal that is handed on
+module _ (l : Line) (y : Result Step Refusal) (r : Refusal) (is : IsErrAnd y (λ e. e ≡ r)) where
+  pub step_back : (g : Got Went) → bad r.no r.column ≡ g → step_got l y ≡ g
+  step_back g e = go y is
+    where
+      go : (z : Result Step Refusal) → IsErrAnd z (λ f. f ≡ r) → step_got l z ≡ g
+      go (Ok u) h = absurd h
+      go (Err f) h = rw h e
+
+  pub untitled_back : title_in l y
+  unfolding title_in
+  untitled_back = go y is
+    where
+      go : (z : Result Step Refusal) → IsErrAnd z (λ f. f ≡ r) → title_in l z
+      go (Ok u) h = absurd h
+      go (Err f) h = tt
 
 -- ---- header lines
 
@@ -167,7 +184,7 @@ pub ruleset bonds_laws = (bonds_next_lem, bonds_stop)
 abbrev read_went : Reader → Result PropertyLine Refusal → Got Went
 read_went r (Ok PropertyLine.Listed) = got (on r)
 read_went r (Ok PropertyLine.End) = got (ended (moved r (after_end r.sd)))
-read_went r (Err r) = bad r.no r.column
+read_went r (Err f) = bad f.no f.column
 
 read_went_lem : (r : Reader) (g : Got J.PropertyOrEnd) → read_went r (property_read g) ≡ then g (λ p. got (after_property r p))
 unfolding then
@@ -226,7 +243,7 @@ module _ (r : Reader) (t : List ℕ) (l : Line) (v : Result ItemLine Refusal) (e
   unfolding line_in then
   items_stop f h = rw (← e, h)
 
-pub items_in : (l : Line) (v : Result ItemLine Refusal) (from to : ℕ) (m : Reader) → item_in l v → v ≡ Ok (ItemLine.Title from to) → title_in l (Step.Title m from to)
+pub items_in : (l : Line) (v : Result ItemLine Refusal) (from to : ℕ) (m : Reader) → item_in l v → v ≡ Ok (ItemLine.Title from to) → title_in l (Ok (Step.Title m from to))
 unfolding title_in
 items_in l v from to m h e = (title_order l v from to h e, title_end l v from to h e)
 
