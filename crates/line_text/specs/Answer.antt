@@ -5,7 +5,7 @@ use Rattle.judge_line.specs.Got.{Got, got, bad}
 use Rattle.judge_line.specs.Judge.{HeaderRead, named, none, ItemOrEnd, title, close, ValueOrBlank, value, blank}
 use Rattle.judge_line.specs.declared.Refusal.{Refusal}
 use Rattle.line_text.specs.declared.ItemLine.{ItemLine}
-use Rattle.line_text.specs.declared.ValueLine.{ValueLine}
+use Rattle.line_text.specs.declared.ValueKind.{ValueKind}
 use Rattle.line_text.specs.declared.NameRead.{NameRead}
 
 abbrev pub header_got : Line → Result (Unit {0}) Refusal → Got Line
@@ -22,9 +22,9 @@ item_got l (Ok (ItemLine.Title from to)) = got (title (take (to - from) (drop fr
 item_got l (Ok ItemLine.Close) = got close
 item_got l (Err r) = bad r.no r.column
 
-abbrev pub value_got : Result ValueLine Refusal → Got ValueOrBlank
-value_got (Ok ValueLine.Value) = got value
-value_got (Ok ValueLine.Blank) = got blank
+abbrev pub value_got : Result ValueKind Refusal → Got ValueOrBlank
+value_got (Ok ValueKind.Value) = got value
+value_got (Ok ValueKind.Blank) = got blank
 value_got (Err r) = bad r.no r.column
 
 -- the name's positions lie in the line

@@ -21,7 +21,7 @@ pub enum ItemLine {
 
 // What a line is found to be where a value line or the blank line after the values must stand.
 #[derive(Drop)]
-pub enum ValueLine {
+pub enum ValueKind {
     Value,
     Blank,
 }
@@ -200,17 +200,17 @@ pub fn item_line(line: &[u8]) -> Result<ItemLine, Refusal>
 }
 
 // A line that begins with `>`, where a value line must stand.
-fn arrow_value(line: &[u8]) -> Result<ValueLine, Refusal>
+fn arrow_value(line: &[u8]) -> Result<ValueKind, Refusal>
     ensures { value_got result ≡ not_header (header_of line.now) }
 {
     match data_header(line) {
         NameRead::Named { from: _, to: _ } => Err(Refusal { no: 17, column: 1 }),
-        NameRead::Unnamed => Ok(ValueLine::Value),
+        NameRead::Unnamed => Ok(ValueKind::Value),
     }
 }
 
 // A line where a value line or the blank line after the values must stand. Most are values by their first byte.
-pub fn value_line(line: &[u8]) -> Result<ValueLine, Refusal>
+pub fn value_line(line: &[u8]) -> Result<ValueKind, Refusal>
     ensures { value_got result ≡ value_of line.now }
 {
     let first = text::column(line, 1);
@@ -221,13 +221,13 @@ pub fn value_line(line: &[u8]) -> Result<ValueLine, Refusal>
         if begins_with(line, b"$$$$") {
             return Err(Refusal { no: 17, column: 1 });
         }
-        return Ok(ValueLine::Value);
+        return Ok(ValueKind::Value);
     }
     if first == b' ' {
         if text::is_blank(line) {
-            return Ok(ValueLine::Blank);
+            return Ok(ValueKind::Blank);
         }
-        return Ok(ValueLine::Value);
+        return Ok(ValueKind::Value);
     }
-    Ok(ValueLine::Value)
+    Ok(ValueKind::Value)
 }

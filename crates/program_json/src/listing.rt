@@ -2,7 +2,7 @@
 use judge_line::Refusal;
 use crate::strings::put_string;
 use crate::{part, put_comma};
-use line_text::{ItemLine, ValueLine};
+use line_text::{ItemLine, ValueKind};
 use program_io::Out;
 use text::LineAt;
 
@@ -61,8 +61,8 @@ fn title_line(line: &[u8]) -> Line {
 
 fn inner_line(line: &[u8]) -> Line {
     match line_text::value_line(line) {
-        Ok(ValueLine::Value) => Line::Value,
-        Ok(ValueLine::Blank) => Line::Blank,
+        Ok(ValueKind::Value) => Line::Value,
+        Ok(ValueKind::Blank) => Line::Blank,
         Err(Refusal { no: _, column: _ }) => Line::Other,
     }
 }

@@ -13,7 +13,7 @@ use Rattle.judge_line.specs.Judge.{value, blank}
 use Rattle.line_text.specs.Answer.{value_got}
 use Rattle.line_text.specs.declared.ItemLine.{ItemLine}
 use Rattle.judge_line.specs.declared.Refusal.{Refusal}
-use Rattle.line_text.specs.declared.ValueLine.{ValueLine}
+use Rattle.line_text.specs.declared.ValueKind.{ValueKind}
 use Rattle.judge_file.specs.WalkText.{after_lines, after_none}
 use Rattle.reader_walk.specs.Walking.{after_more}
 use Rattle.reader_item.specs.Find.{line_end, from_of, to_of}
@@ -88,8 +88,8 @@ module _ (s : Bytes) (at from to i line : ℕ) (g : Running s at from to i line)
     pub lines_are : (cut (drop i s)).lines ≡ here ∷ (cut (drop n s)).lines
     lines_are = ap (λ (c : Cut). c.lines) (line_cut s i e n l_is)
 
-    module _ (v : Result ValueLine Refusal) (f : value_got v ≡ value_is here) where
-      pub running_value : v ≡ Ok ValueLine.Value → Running s at at e n (line + 1)
+    module _ (v : Result ValueKind Refusal) (f : value_got v ≡ value_is here) where
+      pub running_value : v ≡ Ok ValueKind.Value → Running s at at e n (line + 1)
       running_value h =
           let w = line_within s i e n l_is in
           record {

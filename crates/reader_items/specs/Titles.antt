@@ -26,7 +26,7 @@ use Rattle.judge_refusals.specs.Lists.{item_tells, value_tells}
 use Rattle.line_text.specs.Answer.{item_got, item_in, value_got}
 use Rattle.line_text.specs.Within.{title_order, title_end}
 use Rattle.line_text.specs.declared.ItemLine.{ItemLine}
-use Rattle.line_text.specs.declared.ValueLine.{ValueLine}
+use Rattle.line_text.specs.declared.ValueKind.{ValueKind}
 use Rattle.reader_places.specs.Places.{line_got}
 use Rattle.judge_line.specs.declared.Refusal.{Refusal}
 use Rattle.reader_items.specs.Step.{title_is, value_is, name_start, title_by, title_of}
@@ -188,7 +188,7 @@ module _ (l : Line) (x : Result (Unit {0}) Refusal) (e : line_got l x ≡ within
 pub ruleset line_laws = (line_title, line_no_title)
 
 module _ (l : Line) (x : Result (Unit {0}) Refusal) (e : line_got l x ≡ within 200 l (got l)) where
-  pub line_value : (r : Result ValueLine Refusal) → x ≡ Ok tt → value_got r ≡ value_of l → value_got r ≡ value_is l
+  pub line_value : (r : Result ValueKind Refusal) → x ≡ Ok tt → value_got r ≡ value_of l → value_got r ≡ value_is l
   unfolding then
   line_value r q h = h ∙ ap (λ (y : Got Line). then y value_of) (ap (line_got l) (sym q) ∙ e)
 

@@ -9,7 +9,7 @@ ghost use Rattle.reader_items.specs.Step.{name_start, title_by, title_is, title_
 ghost use Rattle.reader_items.specs.Promise.{Stepped};
 
 use judge_line::Refusal;
-use line_text::{ItemLine, ValueLine};
+use line_text::{ItemLine, ValueKind};
 use text::LineAt;
 
 // What stands at a position where a data header or `$$$$` must stand. Places are positions of the whole text; those of the values are both 0 where there
@@ -94,7 +94,7 @@ fn title_at(line: &[u8]) -> Result<ItemLine, Refusal>
 }
 
 // A line where a value line or the blank line after the values must stand.
-fn value_at(line: &[u8]) -> Result<ValueLine, Refusal>
+fn value_at(line: &[u8]) -> Result<ValueKind, Refusal>
     ensures { value_got result ≡ value_is line.now }
 {
     match reader_places::line_judged(line, 200) {
@@ -120,13 +120,13 @@ fn values_at(s: &[u8], at: usize) -> ValuesAt
             };
         };
         match value_at(&s[i..end]) {
-            Ok(ValueLine::Value) => {
+            Ok(ValueKind::Value) => {
                 from = at;
                 to = end;
                 i = next;
                 line += 1;
             }
-            Ok(ValueLine::Blank) => {
+            Ok(ValueKind::Blank) => {
                 return ValuesAt::Over {
                     from,
                     to,

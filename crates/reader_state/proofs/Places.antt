@@ -31,7 +31,7 @@ use Rattle.line_property.specs.declared.PropertyLine.{PropertyLine}
 use Rattle.line_text.specs.Answer.{header_got, item_got, item_in, value_got}
 use Rattle.line_text.specs.Within.{title_order, title_end}
 use Rattle.line_text.specs.declared.ItemLine.{ItemLine}
-use Rattle.line_text.specs.declared.ValueLine.{ValueLine}
+use Rattle.line_text.specs.declared.ValueKind.{ValueKind}
 use Rattle.reader_places.specs.declared.Place.{Place}
 use Rattle.reader_places.specs.declared.Place.TheVariants as P
 use Rattle.reader_state.specs.declared.Reader.{Reader}
@@ -249,12 +249,12 @@ items_in l v from to m h e = (title_order l v from to h e, title_end l v from to
 
 pub ruleset items_laws = (items_title, items_close, items_stop, items_in)
 
-module _ (r : Reader) (t : List ℕ) (l : Line) (v : Result ValueLine Refusal) (e : value_got v ≡ J.value_of l) where
-  pub values_value : v ≡ Ok ValueLine.Value → got (value r) ≡ line_in r P.Values t l
+module _ (r : Reader) (t : List ℕ) (l : Line) (v : Result ValueKind Refusal) (e : value_got v ≡ J.value_of l) where
+  pub values_value : v ≡ Ok ValueKind.Value → got (value r) ≡ line_in r P.Values t l
   unfolding line_in then
   values_value h = rw (← e, h)
 
-  pub values_blank : (m : Reader) → v ≡ Ok ValueLine.Blank → m ≡ moved r P.Items → got (blank m) ≡ line_in r P.Values t l
+  pub values_blank : (m : Reader) → v ≡ Ok ValueKind.Blank → m ≡ moved r P.Items → got (blank m) ≡ line_in r P.Values t l
   unfolding line_in then
   values_blank m h k = rw (← e, h, k)
 

@@ -11,7 +11,7 @@ use judge_line::Refusal;
 use line_atom::Atom;
 use line_counts_bonds::{Bond, Counts, LIMIT};
 use line_property::PropertyLine;
-use line_text::{ItemLine, ValueLine};
+use line_text::{ItemLine, ValueKind};
 use reader_places::{Finish, Place};
 use rules::LISTED;
 
@@ -224,7 +224,7 @@ fn at_values(reader: Reader, line: &[u8]) -> Result<Step, Refusal>
     ensures title_in { title_in line.now result }
 {
     match line_text::value_line(line)? {
-        ValueLine::Value => Ok(Step::Value(reader)),
-        ValueLine::Blank => Ok(Step::Blank(reader.moved(Place::Items))),
+        ValueKind::Value => Ok(Step::Value(reader)),
+        ValueKind::Blank => Ok(Step::Blank(reader.moved(Place::Items))),
     }
 }

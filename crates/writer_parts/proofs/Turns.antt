@@ -16,7 +16,7 @@ use Rattle.line_text.specs.Answer.{header_got, item_got, item_in, value_got}
 use Rattle.line_text.specs.Within.{title_order, title_end}
 use Rattle.judge_line.specs.declared.Refusal.{Refusal}
 use Rattle.line_text.specs.declared.ItemLine.{ItemLine}
-use Rattle.line_text.specs.declared.ValueLine.{ValueLine}
+use Rattle.line_text.specs.declared.ValueKind.{ValueKind}
 use Rattle.writer_parts.specs.Lengths.{line_length, title_length, name_length}
 use Rattle.writer_parts.specs.Step.{line_as, longest, allowed_as, turn_as, turned, ends_as}
 use Rattle.writer_parts.specs.declared.Place.{Place}
@@ -60,12 +60,12 @@ pub ruleset item_laws = (item_next, item_close, item_bad, title_order, title_fit
 
 -- ---- where a value line or the blank line after the values must stand
 
-module _ (l : Line) (x : Result ValueLine Refusal) (e : value_got x ≡ value_of l) where
-  pub value_next : x ≡ Ok ValueLine.Value → Turn.Next Place.Values (length l + 1) ≡ turned (line_as Place.Values l)
+module _ (l : Line) (x : Result ValueKind Refusal) (e : value_got x ≡ value_of l) where
+  pub value_next : x ≡ Ok ValueKind.Value → Turn.Next Place.Values (length l + 1) ≡ turned (line_as Place.Values l)
   unfolding line_as then
   value_next h = rw (← e, h) (ap (Turn.Next Place.Values) (line_length l))
 
-  pub value_blank : x ≡ Ok ValueLine.Blank → Turn.Next Place.Items 1 ≡ turned (line_as Place.Values l)
+  pub value_blank : x ≡ Ok ValueKind.Blank → Turn.Next Place.Items 1 ≡ turned (line_as Place.Values l)
   unfolding line_as then
   value_blank h = rw (← e, h)
 

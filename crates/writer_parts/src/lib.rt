@@ -8,7 +8,7 @@ ghost use Rattle.writer_parts.specs.Step.{line_as, longest, turn_as, turned, all
 ghost use Rattle.writer_parts.specs.NeverRefused.{Taking};
 
 use judge_line::Refusal;
-use line_text::{ItemLine, ValueLine};
+use line_text::{ItemLine, ValueKind};
 use text::LineAt;
 
 // What a part is found to be: the length of its canonical text, or the first refusal.
@@ -85,11 +85,11 @@ fn value_turn(line: &[u8]) -> Turn
     ensures { result ≡ turned (line_as Place.Values line.now) }
 {
     match line_text::value_line(line) {
-        Ok(ValueLine::Value) => Turn::Next {
+        Ok(ValueKind::Value) => Turn::Next {
             place: Place::Values,
             size: line.len() + 1,
         },
-        Ok(ValueLine::Blank) => Turn::Next {
+        Ok(ValueKind::Blank) => Turn::Next {
             place: Place::Items,
             size: 1,
         },
