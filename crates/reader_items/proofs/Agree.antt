@@ -109,11 +109,11 @@ module _ (s : Bytes) (at : ℕ) (l : Line) (t : List Line) (g : Begun s at l t) 
       go : (x : Got ItemOrEnd) → title_is l ≡ x → StepAt s at (step_of s at)
       go (got (title name)) h = run name (titled_got l name h) (values_run 0 t) refl
       go (got close) h = let d = closed_got l h in subst (StepAt s at) (sym (step_end s at l t g d)) (StepAt.end all d (next_behind s at l t g))
-      go (bad num c) h = subst (StepAt s at) (sym (step_bad num c h)) (StepAt.refused all (NoItem.bad_line ((tells_bad num c (title_tells l)).0 h)))
+      go (bad num c) h = subst (StepAt s at) (sym (step_bad (record { no = num; column = c }) h)) (StepAt.refused all (NoItem.bad_line ((tells_bad num c (title_tells l)).0 h)))
 
   -- and nothing else does
   refused_only : (e i c : ℕ) → NoItem (l ∷ t) e i c → step_of s at ≡ ItemAt.Refused e i c
-  refused_only e i c (NoItem.bad_line h) = step_bad e c ((tells_bad e c (title_tells l)).1 h)
+  refused_only e i c (NoItem.bad_line h) = step_bad (record { no = e; column = c }) ((tells_bad e c (title_tells l)).1 h)
   refused_only e i c (NoItem.bad_values {name = name} d v) = step_stopped name d e i c (stops_run v 0 (omega arith))
 
 module _ (s : Bytes) (at : ℕ) where

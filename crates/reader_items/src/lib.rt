@@ -76,10 +76,9 @@ fn named(line: &[u8], size: usize) -> Result<ItemLine, Refusal>
 fn good_title(line: &[u8]) -> Result<ItemLine, Refusal>
     ensures { result ≡ title_of line.now (item_of line.now) }
 {
-    match line_text::item_line(line) {
-        Ok(ItemLine::Title { from, to }) => named(line, to - from),
-        Ok(ItemLine::Close) => Ok(ItemLine::Close),
-        Err(refusal) => Err(refusal),
+    match line_text::item_line(line)? {
+        ItemLine::Title { from, to } => named(line, to - from),
+        ItemLine::Close => Ok(ItemLine::Close),
     }
 }
 
@@ -87,20 +86,16 @@ fn good_title(line: &[u8]) -> Result<ItemLine, Refusal>
 fn title_at(line: &[u8]) -> Result<ItemLine, Refusal>
     ensures { result ≡ title_of line.now (title_is line.now) }
 {
-    match reader_places::line_judged(line, 80) {
-        Ok(()) => good_title(line),
-        Err(refusal) => Err(refusal),
-    }
+    reader_places::line_judged(line, 80)?;
+    good_title(line)
 }
 
 // A line where a value line or the blank line after the values must stand.
 fn value_at(line: &[u8]) -> Result<ValueKind, Refusal>
     ensures { value_got result ≡ value_is line.now }
 {
-    match reader_places::line_judged(line, 200) {
-        Ok(()) => line_text::value_line(line),
-        Err(refusal) => Err(refusal),
-    }
+    reader_places::line_judged(line, 200)?;
+    line_text::value_line(line)
 }
 
 // The value lines that start at `at`, and the blank line that ends them.
