@@ -1,5 +1,5 @@
 -- Laws on a search that goes on: one for each turn and each end of a loop.
-use Prim.Native.Nat.{ℕ, ◌+◌, ◌-◌, ◌≤◌, ◌<◌}
+use Prim.Native.Nat.{ℕ, zero, suc, ◌+◌, ◌-◌, ◌≤◌, ◌<◌}
 use native.Mathlib.Nat.{add-zero}
 use native.Mathlib.Omega.{arith}
 use mathlib.Core.Path.{◌≡◌, refl, sym, ap, ◌∙◌}
@@ -38,19 +38,12 @@ module _ (p : ℕ → Bool) (s : Bytes) where
   unfolding Passed
   passed_none i j o a h = sym (a o ∙ first_none p s j (j + o) h)
 
-  -- inside a block that starts at i
-  pub block_start : (i : ℕ) → Passed p s i (i + 0)
-  block_start i = rw (add-zero i) (passed_start i)
-
-  pub block_next : (i k : ℕ) → Passed p s i (i + k) → i + k < length s → p (get_or s (i + k) 0) ≡ false → Passed p s i (i + (k + 1))
-  block_next i k a h t =
-      let e : i + (k + 1) ≡ i + k + 1 = omega arith in
-      rw e (passed_next i (i + k) a h t)
-
-  pub block_over : (i k n : ℕ) → Passed p s i (i + k) → k ≤ n → n ≤ k → Passed p s i (i + n)
-  block_over i k n a h g =
-      let e : k ≡ n = omega arith in
-      rw e at a
+  -- a block whose bytes all fail the test
+  pub passed_block : (i n : ℕ) → i + n ≤ length s → ((k : ℕ) → k < n → p (get_or s (i + k) 0) ≡ false) → Passed p s i (i + n)
+  passed_block i zero h f = rw (add-zero i) (passed_start i)
+  passed_block i (suc n) h f =
+      let e : i + suc n ≡ i + n + 1 = omega arith in
+      rw e (passed_next i (i + n) (passed_block i n (omega arith) (λ k g. f k (omega arith))) (omega arith) (f n (omega arith)))
 
   -- the last sixteen bytes, where fewer are left from i on
   pub passed_last : (i : ℕ) → Passed p s (length s - 16) (length s - 16 + 16) → 16 ≤ length s → length s ≤ i + 16 → Passed p s i (length s)
@@ -131,8 +124,6 @@ pub blank_ink : (l : Line) (v : Found) (k : ℕ) → v ≡ ink_column l 1 → v 
 blank_ink l v k e n = blank_by l k (is_blank l) refl (sym e ∙ n)
 
 pub ruleset blank_laws = (blank_none, blank_ink)
-
-pub ruleset block_laws = (block_start, block_next, block_over)
 
 pub ruleset lf_laws = (passed_start, passed_next, lf_hit, lf_over, eq-eqb, ne_eqb)
 
