@@ -136,16 +136,10 @@ fn add_group(s: &[u8], at: usize, depth: usize, times: u32, counts: &mut [u32; P
 }
 
 // Whether some element is named too often.
-#[tactic(auto, using(crate::specs::Adds::crowds))]
 fn too_many(counts: &[u32; PLACES]) -> bool
     ensures { result ≡ crowded counts.now 1 118 }
 {
-    for i in 1..PLACES {
-        if counts[i] > MOST {
-            return true;
-        }
-    }
-    false
+    counts[1..].iter().any(|count| *count > MOST)
 }
 
 // A formula whose depth is not judged yet.

@@ -37,7 +37,8 @@ pub fn inner_column(line: &[u8], i: usize) -> u8
     line[i - 1]
 }
 
-// Whether a number below n passes the test. It asks all of them, so that the test of a block of bytes compiles to a few vector tests.
+// Whether a number below n passes the test. It asks all of them, so that the test of a block of bytes compiles to a few
+// vector tests.
 pub fn any_below<P: Fn(usize) -> bool>(n: usize, test: P) -> bool
     requires { (k : ℕ) → k < n → P.pre test k }
     ensures { MatchBool result ((k : ℕ) × (k < n) × P.post test k true) ((k : ℕ) → k < n → P.post test k false) }
