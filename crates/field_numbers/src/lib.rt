@@ -21,38 +21,37 @@ pub struct SignedSize {
 }
 
 // The first column from i on that is no space, or e: columns i to e - 1 are looked at.
+#[tactic(auto, using(crate::proofs::Fields::passing_laws))]
 pub fn spaces_end(line: &[u8], i: usize, e: usize) -> usize
     requires { (1 ≤ i) × (i ≤ e) }
     ensures i_value { after_spaces (columns_for line.now i (e - i)) ≡ columns_for line.now result (e - result) }
     ensures lower_bound { (i ≤ result) × (result ≤ e) }
 {
-    let mut a = i;
-    while a < e {
+    for a in i..e {
         if text::column(line, a) != 32 {
             return a;
         }
-        a += 1;
     }
     e
 }
 
 // The same in columns that the line has.
+#[tactic(auto, using(crate::proofs::Fields::passing_laws))]
 pub fn inner_spaces_end(line: &[u8], i: usize, e: usize) -> usize
     requires { (1 ≤ i) × (i ≤ e) × (e ≤ length line.now + 1) }
     ensures i_value { after_spaces (columns_for line.now i (e - i)) ≡ columns_for line.now result (e - result) }
     ensures lower_bound { (i ≤ result) × (result ≤ e) }
 {
-    let mut a = i;
-    while a < e {
+    for a in i..e {
         if text::inner_column(line, a) != 32 {
             return a;
         }
-        a += 1;
     }
     e
 }
 
 // The digits in columns i to e - 1, all of which the line has.
+#[tactic(auto, using(crate::proofs::Fields::counting_laws))]
 pub fn inner_digits(line: &[u8], i: usize, e: usize) -> Option<u32>
     requires { (1 ≤ i) × (i ≤ e) × (e ≤ i + 9) × (e ≤ length line.now + 1) }
     ensures { result ≡ size_in (columns_for line.now i (e - i)) }
@@ -61,8 +60,7 @@ pub fn inner_digits(line: &[u8], i: usize, e: usize) -> Option<u32>
         return None;
     }
     let mut k: u32 = 0;
-    let mut a = i;
-    while a < e {
+    for a in i..e {
         let d = text::inner_column(line, a);
         if d < 48 {
             return None;
@@ -71,7 +69,6 @@ pub fn inner_digits(line: &[u8], i: usize, e: usize) -> Option<u32>
             return None;
         }
         k = k * 10 + ((d - 48) as u32);
-        a += 1;
     }
     Some(k)
 }

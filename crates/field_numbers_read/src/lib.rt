@@ -22,17 +22,16 @@ fn line_end(line: &[u8], e: usize) -> usize
 }
 
 // The column after the last one that is no space, or i: columns i to e - 1 are looked at, all of which the line has.
+#[tactic(auto, using(field_numbers::proofs::Fields::shedding_laws))]
 fn inner_ink_end(line: &[u8], i: usize, e: usize) -> usize
     requires { (1 ≤ i) × (e ≤ length line.now + 1) }
     ensures i_value { before_spaces (columns_for line.now i (e - i)) ≡ columns_for line.now i (result - i) }
     ensures lower_bound { (i ≤ result) × (result - i ≤ e - i) }
 {
-    let mut z = e;
-    while i < z {
-        if text::inner_column(line, z - 1) != 32 {
-            return z;
+    for z in (i..e).rev() {
+        if text::inner_column(line, z) != 32 {
+            return z + 1;
         }
-        z -= 1;
     }
     i
 }

@@ -1,8 +1,9 @@
 -- The sums in the facts that the code has.
 use Prim.Native.Nat.{ℕ, zero, suc, ◌+◌, ◌*◌, ◌-◌, ◌≤◌, ◌<◌}
-use Rattle.std.specs.Prelude.{Option, Some, None, ◌≡◌, refl, Bool, cond, ◌&&◌, eqb, ltb, length, get_or, set}
+use Rattle.std.specs.Prelude.{Option, Some, None, ◌≡◌, refl, Bool, cond, ◌&&◌, eqb, ltb, length, get_or, set, take, drop}
 use Rattle.std.proofs.Math.Path.{sym, ap}
-use Rattle.std.proofs.Common.{◌∙◌, subst, mul-le-mul, Fits, eqb-true, lt-ltb, le-ltb}
+use Rattle.std.proofs.Common.{◌∙◌, subst, add-one, drop-cons, mul-le-mul, Fits, eqb-true, lt-ltb, le-ltb}
+use Rattle.std.specs.List.{list_any}
 use mathlib.Core.List.{List, []}
 use Rattle.std.proofs.Math.Bool.{true, false, and-eq-true_iff}
 use native.Mathlib.Omega.{arith}
@@ -271,6 +272,15 @@ module _ (t : List ℕ) where
   pub crowd_end : (i : ℕ) → crowded t 1 118 ≡ crowded t i (119 - i) → 119 ≤ i → false ≡ crowded t 1 118
   unfolding crowded
   crowd_end i e l = let n : 119 - i ≡ 0 = omega arith in sym (e ∙ ap (crowded t i) n)
+
+-- the same as one test of n places from i on
+pub crowded_any : (t : List ℕ) (i n : ℕ) → i + n ≤ length t → crowded t i n ≡ list_any (λ c. ltb 9999 c) (take n (drop i t))
+unfolding crowded
+crowded_any t i zero h = refl
+crowded_any t i (suc n) h =
+    let one : i < length t = omega arith in
+    let more : i + 1 + n ≤ length t = omega arith in
+    rw (drop-cons t i 0 one, crowded_any t (i + 1) n more, add-one i)
 
 -- ---- a line
 

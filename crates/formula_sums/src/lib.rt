@@ -138,14 +138,7 @@ fn add_group(s: &[u8], at: usize, depth: usize, times: u32, counts: &mut [u32; P
 fn too_many(counts: &[u32; PLACES]) -> bool
     ensures { result ≡ crowded counts.now 1 118 }
 {
-    let mut i: usize = 1;
-    while i < PLACES {
-        if counts[i] > MOST {
-            return true;
-        }
-        i += 1;
-    }
-    false
+    counts[1..].iter().any(|count| *count > MOST)
 }
 
 // A formula whose depth is not judged yet.

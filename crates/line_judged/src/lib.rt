@@ -22,6 +22,8 @@ pub struct Name {
 }
 
 // The first byte b from position `at` on, where one is known to stand.
+// No `for`: it would ask for the line's end at each byte, and `records canon` counted 19.7 instructions a byte then, on
+// items of 10,000 bytes, and 16.3 so.
 fn find(line: &[u8], at: usize, b: u8) -> usize
     requires { Stands b line.now at }
     ensures { first_from (is_byte b) at (drop at line.now) ≡ Some result }

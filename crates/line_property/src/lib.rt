@@ -106,20 +106,14 @@ fn entry(line: &[u8], n: u32, i: usize, kind: Kind, listed: &mut [u32; LISTED]) 
 }
 
 // So many entries from column 10 on.
+#[tactic(auto, using(crate::specs::Entering::entering))]
 fn entries(line: &[u8], n: u32, kind: Kind, count: u32, listed: &mut [u32; LISTED]) -> Result<(), Refusal>
     requires { (n ≤ limit) × ((count ≤ 8) × (length listed.old ≡ 3 * places)) }
     ensures listed_after { entered_got result listed.new ≡ entered_from n (kind_is kind) line.now 10 count listed.old }
     ensures listed_len_unchanged { length listed.new ≡ length listed.old }
 {
-    let mut i: usize = 10;
-    let mut left = count;
-    while 0 < left {
-        match entry(line, n, i, kind, listed) {
-            Ok(()) => {}
-            Err(refusal) => return Err(refusal),
-        }
-        i += 8;
-        left -= 1;
+    for k in 0..count as usize {
+        entry(line, n, 10 + 8 * k, kind, listed)?;
     }
     Ok(())
 }
@@ -167,16 +161,14 @@ pub fn property_line(line: &[u8], n: u32, listed: &mut [u32; LISTED]) -> Result<
 }
 
 // Nothing is listed of n atoms, as where a record begins. What stands for further atoms is not looked at, and stays.
+#[tactic(auto, using(crate::specs::Emptied::emptying))]
 pub fn empty(n: u32, listed: &mut [u32; LISTED])
     requires { (n ≤ limit) × (length listed.old ≡ 3 * places) }
     ensures { listed.new ≡ emptied (n + 1) listed.old }
 {
-    let end = n as usize + 1;
-    let mut k: usize = 0;
-    while k < end {
+    for k in 0..n as usize + 1 {
         listed[k] = 0;
         listed[PLACES + k] = 0;
         listed[2 * PLACES + k] = 0;
-        k += 1;
     }
 }

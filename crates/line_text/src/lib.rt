@@ -77,15 +77,14 @@ fn tag_at(line: &[u8], i: usize) -> bool
 }
 
 // The first header line: it may not contain a reserved tag.
+#[tactic(auto, using(crate::proofs::Tags::untagged_laws))]
 pub fn first_header(line: &[u8]) -> Result<(), Refusal>
     ensures { header_got line.now result ≡ first_header_of line.now }
 {
-    let mut i: usize = 0;
-    while i < line.len() {
+    for i in 0..line.len() {
         if tag_at(line, i) {
             return Err(Refusal { no: 5, column: 1 });
         }
-        i += 1;
     }
     Ok(())
 }
@@ -109,20 +108,19 @@ fn name_to(line: &[u8], from: usize, to: usize) -> NameRead
 }
 
 // The name that starts at `from`, right after `<`: it ends at the next `<` or `>`, which has to be `>`.
+#[tactic(auto, using(crate::proofs::Names::naming_laws))]
 fn name_from(line: &[u8], from: usize) -> NameRead
     requires { from ≤ length line.now }
     ensures result_value { name_got line.now result ≡ name_on [] (drop from line.now) }
     ensures name_in { name_in line.now result }
 {
-    let mut i = from;
-    while i < line.len() {
+    for i in from..line.len() {
         if line[i] == b'<' {
             return NameRead::Unnamed;
         }
         if line[i] == b'>' {
             return name_to(line, from, i);
         }
-        i += 1;
     }
     NameRead::Unnamed
 }

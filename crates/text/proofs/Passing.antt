@@ -1,11 +1,13 @@
 -- Laws on a search that goes on: one for each turn and each end of a loop.
 use Rattle.std.specs.Prelude.{Option, Some, None}
-use Prim.Native.Nat.{ℕ, ◌+◌, ◌-◌, ◌≤◌, ◌<◌}
+use Prim.Native.Nat.{ℕ, zero, suc, ◌+◌, ◌-◌, ◌≤◌, ◌<◌}
 use native.Mathlib.Nat.{add-zero}
 use native.Mathlib.Omega.{arith}
 use mathlib.Core.Path.{◌≡◌, refl, sym, ap, ◌∙◌}
 use mathlib.Core.Bool.{Bool, true, false}
-use lib.ListN.{length, get_or, drop, length-drop}
+use mathlib.Core.List.{◌++◌}
+use lib.ListN.{length, get_or, drop, length-drop, length-append, get_or-append}
+use lib.Seq.{drop-append_seam, get_or-drop, drop-drop}
 use borrow.Author.Tests.{eq-eqb, ne_eqb}
 use Rattle.text.specs.Text.{Bytes, Line, LF, byte}
 use Rattle.text.specs.Find.{first_from, is_lf, is_bad, is_ink, bad_column, ink_column, line_to, line_at, is_blank}
@@ -37,19 +39,12 @@ module _ (p : ℕ → Bool) (s : Bytes) where
   unfolding Passed
   passed_none i j o a h = sym (a o ∙ first_none p s j (j + o) h)
 
-  -- inside a block that starts at i
-  pub block_start : (i : ℕ) → Passed p s i (i + 0)
-  block_start i = rw (add-zero i) (passed_start i)
-
-  pub block_next : (i k : ℕ) → Passed p s i (i + k) → i + k < length s → p (get_or s (i + k) 0) ≡ false → Passed p s i (i + (k + 1))
-  block_next i k a h t =
-      let e : i + (k + 1) ≡ i + k + 1 = omega arith in
-      rw e (passed_next i (i + k) a h t)
-
-  pub block_over : (i k n : ℕ) → Passed p s i (i + k) → k ≤ n → n ≤ k → Passed p s i (i + n)
-  block_over i k n a h g =
-      let e : k ≡ n = omega arith in
-      rw e at a
+  -- a block whose bytes all fail the test
+  pub passed_block : (i n : ℕ) → i + n ≤ length s → ((k : ℕ) → k < n → p (get_or s (i + k) 0) ≡ false) → Passed p s i (i + n)
+  passed_block i zero h f = rw (add-zero i) (passed_start i)
+  passed_block i (suc n) h f =
+      let e : i + suc n ≡ i + n + 1 = omega arith in
+      rw e (passed_next i (i + n) (passed_block i n (omega arith) (λ k g. f k (omega arith))) (omega arith) (f n (omega arith)))
 
   -- the last sixteen bytes, where fewer are left from i on
   pub passed_last : (i : ℕ) → Passed p s (length s - 16) (length s - 16 + 16) → 16 ≤ length s → length s ≤ i + 16 → Passed p s i (length s)
@@ -59,6 +54,19 @@ module _ (p : ℕ → Bool) (s : Bytes) where
       let l : length s - 16 ≤ i = omega arith in
       nothing_later p s (length s - 16) i (length s - 16 + o) (i + o) (a o ∙ first_none p s (length s - 16 + 16) (length s - 16 + 16 + o) e) l
       ∙ sym (first_none p s (length s) (length s + o) (omega arith))
+
+-- a chunk of sixteen bytes that begins at i, and what follows it
+module _ (s x r : Bytes) (i : ℕ) (e : drop i s ≡ x ++ r) (n : length x ≡ 16) where
+  pub chunk_get : (k : ℕ) → k < 16 → get_or x k 0 ≡ get_or s (i + k) 0
+  chunk_get k h = sym (get_or-append x r 0 k (omega (arith, n))) ∙ ap (λ (y : Bytes). get_or y k 0) (sym e) ∙ get_or-drop i s k 0
+
+  pub chunk_rest : r ≡ drop (i + 16) s
+  chunk_rest =
+      let seam : drop 16 (x ++ r) ≡ r = rw (← n) (drop-append_seam x r) in
+      sym seam ∙ ap (drop 16) (sym e) ∙ drop-drop 16 i s
+
+  pub chunk_inside : i + 16 ≤ length s
+  chunk_inside = omega (arith, length-drop i s, ap length e, length-append x r, n)
 
 -- the first LF: positions count from 0
 module _ (s : Bytes) (at i : ℕ) where
@@ -130,8 +138,6 @@ pub blank_ink : (l : Line) (v : Option ℕ) (k : ℕ) → v ≡ ink_column l 1 �
 blank_ink l v k e n = blank_by l k (is_blank l) refl (sym e ∙ n)
 
 pub ruleset blank_laws = (blank_none, blank_ink)
-
-pub ruleset block_laws = (block_start, block_next, block_over)
 
 pub ruleset lf_laws = (passed_start, passed_next, lf_hit, lf_over, eq-eqb, ne_eqb)
 
