@@ -216,8 +216,7 @@ fn rest_records(list: &mut [i64], count: Count, from: usize, to: usize, side: u8
     ensures { log list.new result ≡ noted (log list.old count) (alone_records side from (to - from)) }
 {
     let mut c = count;
-    let mut k = from;
-    while k < to {
+    for k in from..to {
         let spot = Place {
             position: k + 1,
             part: 10,
@@ -225,7 +224,6 @@ fn rest_records(list: &mut [i64], count: Count, from: usize, to: usize, side: u8
             field: 0,
         };
         c = compare_tables::put(list, c, spot, side, 0, 0);
-        k += 1;
     }
     c
 }

@@ -76,12 +76,10 @@ fn repeats(keys: &[u32; KEYS], count: usize, key: u32) -> bool
     requires keys_len { length keys.now ≡ limit }
     ensures { result ≡ elem key (take count keys.now) }
 {
-    let mut j = reader_pairs::near_key(keys, count, key);
-    while j < count {
+    for j in reader_pairs::near_key(keys, count, key)..count {
         if keys[j] == key {
             return true;
         }
-        j += 1;
     }
     false
 }

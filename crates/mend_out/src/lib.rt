@@ -103,10 +103,8 @@ fn lay(room: &mut [u8], at: usize, bytes: &[u8])
     requires { at + length bytes.now < 2 ^ 64 }
     ensures { room.new ≡ sets room.old at bytes.now }
 {
-    let mut k: usize = 0;
-    while k < bytes.len() {
+    for k in 0..bytes.len() {
         store_byte(room, at + k, bytes[k]);
-        k += 1;
     }
 }
 

@@ -25,12 +25,10 @@ fn key_in_block(keys: &[u32; KEYS], at: usize, key: u32) -> usize
     ensures { result ≡ 0 → Missed keys.now key at (at + 8) }
 {
     let mut w: usize = 0;
-    let mut k: usize = 0;
-    while k < 8 {
+    for k in 0..8 {
         if keys[at + k] == key {
             w = 1;
         }
-        k += 1;
     }
     w
 }
@@ -41,12 +39,10 @@ fn key_in_wide(keys: &[u32; KEYS], at: usize, key: u32) -> usize
     ensures { result ≡ 0 → Missed keys.now key at (at + 32) }
 {
     let mut w: usize = 0;
-    let mut k: usize = 0;
-    while k < 32 {
+    for k in 0..32 {
         if keys[at + k] == key {
             w = 1;
         }
-        k += 1;
     }
     w
 }

@@ -131,8 +131,7 @@ impl Passing {
         ensures { result ≡ pass_of self part.now }
     {
         let mut passing = self;
-        let mut i: usize = 0;
-        while i < part.len() {
+        for i in 0..part.len() {
             match passing.byte(part[i]) {
                 Mark::End(counter) => {
                     return Passed::Behind {
@@ -144,7 +143,6 @@ impl Passing {
                     passing = p;
                 }
             }
-            i += 1;
         }
         Passed::On(passing)
     }

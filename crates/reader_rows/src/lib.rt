@@ -17,10 +17,8 @@ pub fn clear(rows: &mut [u64])
     requires { row_places ≤ length rows.old }
     ensures { rows.new ≡ emptied rows.old }
 {
-    let mut i: usize = 0;
-    while i < ROWS {
+    for i in 0..ROWS {
         rows[i] = 0;
-        i += 1;
     }
 }
 

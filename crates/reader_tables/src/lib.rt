@@ -1,7 +1,8 @@
 // Rows of the lent tables: stored, cleared, given their meaning.
 #![tactic(auto)]
 
-ghost use Rattle.std.specs.Prelude.{◌≡◌, ◌+◌, ◌*◌, ◌≤◌, ◌<◌, [], ◌∷◌, length};
+ghost use Rattle.std.specs.Prelude.{◌≡◌, ◌+◌, ◌*◌, ◌≤◌, ◌<◌, ◌==◌, [], ◌∷◌, length, not};
+ghost use Rattle.std.specs.List.{list_any};
 ghost use Rattle.std.proofs.lemmas.List.Edits.{sets};
 ghost use Rattle.line_atom.specs.Answer.{atom_is};
 ghost use Rattle.line_counts_bonds.specs.Answer.{bond_is};
@@ -113,10 +114,8 @@ fn clear_few(table: &mut [i32], from: usize, to: usize)
     requires { (from ≤ to) × (to ≤ length table.old) }
     ensures { table.new ≡ cleared table.old from to }
 {
-    let mut i = from;
-    while i < to {
+    for i in from..to {
         table[i] = 0;
-        i += 1;
     }
 }
 
@@ -125,10 +124,8 @@ fn clear_block(table: &mut [i32], at: usize)
     requires { at + 64 ≤ length table.old }
     ensures { table.new ≡ cleared table.old at (at + 64) }
 {
-    let mut k: usize = 0;
-    while k < 64 {
+    for k in 0..64 {
         table[at + k] = 0;
-        k += 1;
     }
 }
 
@@ -149,19 +146,19 @@ pub fn clear(table: &mut [i32], from: usize, to: usize)
     clear_few(table, mid + half, to);
 }
 
+// Whether one of these places is in use.
+fn any_used(listed: &[u32]) -> bool
+    ensures { result ≡ list_any (λ k. not (k == 0)) listed.now }
+{
+    listed.iter().any(|k| *k != 0)
+}
+
 // Whether one of the places 1 to n after place `from` is in use.
 fn any_listed(listed: &[u32; LISTED], from: usize, n: usize) -> bool
     requires { from + n < 3 * places }
     ensures { result ≡ any_after from listed.now n }
 {
-    let mut a = n;
-    while 0 < a {
-        if listed[from + a] != 0 {
-            return true;
-        }
-        a -= 1;
-    }
-    false
+    any_used(&listed[from + 1..from + 1 + n])
 }
 
 // The number that a place keeps.
@@ -284,9 +281,7 @@ pub fn mean(atoms: &mut [i32], n: u32, listed: &[u32; LISTED])
 {
     let rows = n as usize;
     let over = superseded_by(listed, rows);
-    let mut i = 0;
-    while i < rows {
+    for i in 0..rows {
         mean_row(atoms, i, listed, over);
-        i += 1;
     }
 }

@@ -54,8 +54,7 @@ fn walk_lines(
             Taken::Bond(r, b) => {
                 let key = reader_pairs::pair_key(b.first, b.second);
                 let count = notes.bonds;
-                let mut j = reader_rows::first_key(rows, keys, count, key);
-                while j < count {
+                for j in reader_rows::first_key(rows, keys, count, key)..count {
                     if keys[j] == key {
                         break 'walk Repeat {
                             earlier: j + 1,
@@ -63,7 +62,6 @@ fn walk_lines(
                             line,
                         };
                     }
-                    j += 1;
                 }
                 notes = reader_line::keep_bond(notes, b, key, bonds, keys);
                 reader_rows::mark(rows, key);

@@ -28,8 +28,7 @@ pub enum Added {
 pub fn order_of(a: &[u8], b: &[u8]) -> Order
     ensures { result ≡ order a.now b.now }
 {
-    let mut i: usize = 0;
-    while i < a.len() {
+    for i in 0..a.len() {
         if b.len() <= i {
             return Order::After;
         }
@@ -39,9 +38,8 @@ pub fn order_of(a: &[u8], b: &[u8]) -> Order
         if b[i] < a[i] {
             return Order::After;
         }
-        i += 1;
     }
-    if i < b.len() {
+    if a.len() < b.len() {
         return Order::Before;
     }
     Order::Same
@@ -52,14 +50,11 @@ pub fn find_in(names: &[u8], lengths: &[u32], used: usize, name: &[u8]) -> Slot
     requires { Looked names.now lengths.now used }
     ensures { result ≡ slot_from name.now 0 (names_from names.now lengths.now 0 used) }
 {
-    let mut i: usize = 0;
-    while i < used {
+    for i in 0..used {
         let from = SUPPLIER * i;
         let to = from + lengths[i] as usize;
         match order_of(&names[from..to], name) {
-            Order::Before => {
-                i += 1;
-            }
+            Order::Before => {}
             Order::Same => {
                 return Slot::Here(i);
             }
@@ -76,9 +71,7 @@ fn move_names(names: &mut [u8; NAMES], from: usize, k: usize)
     requires { (from + k + longest ≤ length names.old) × (length names.old ≡ 1536) }
     ensures { names.new ≡ shifted longest k from names.old }
 {
-    let mut j = k;
-    while 0 < j {
-        j -= 1;
+    for j in (0..k).rev() {
         names[from + j + SUPPLIER] = names[from + j];
     }
 }
@@ -88,9 +81,7 @@ fn move_numbers(numbers: &mut [u32; SUPPLIERS], from: usize, k: usize)
     requires { (from + k + 1 ≤ length numbers.old) × (length numbers.old ≡ most_suppliers) }
     ensures { numbers.new ≡ shifted 1 k from numbers.old }
 {
-    let mut j = k;
-    while 0 < j {
-        j -= 1;
+    for j in (0..k).rev() {
         numbers[from + j + 1] = numbers[from + j];
     }
 }
@@ -110,10 +101,8 @@ fn put_name(names: &mut [u8; NAMES], at: usize, name: &[u8])
     requires { (at + longest ≤ length names.old) × (length names.old ≡ 1536) }
     ensures { names.new ≡ put_from longest at 0 name.now names.old }
 {
-    let mut j: usize = 0;
-    while j < SUPPLIER {
+    for j in 0..SUPPLIER {
         names[at + j] = byte_or_zero(name, j);
-        j += 1;
     }
 }
 

@@ -13,12 +13,10 @@ fn short_names(lengths: &[u32], used: usize) -> bool
     requires { used ≤ length lengths.now }
     ensures { result ≡ short_from lengths.now 0 used }
 {
-    let mut i: usize = 0;
-    while i < used {
+    for i in 0..used {
         if (SUPPLIER as u32) < lengths[i] {
             return false;
         }
-        i += 1;
     }
     true
 }
@@ -40,12 +38,9 @@ fn rising_names(names: &[u8], lengths: &[u32], used: usize) -> bool
     requires { Looked names.now lengths.now used }
     ensures { result ≡ rising_names (names_from names.now lengths.now 0 used) }
 {
-    let mut i: usize = 0;
-    while i + 1 < used {
+    for i in 0..used.saturating_sub(1) {
         match order_at(names, lengths, used, i) {
-            Order::Before => {
-                i += 1;
-            }
+            Order::Before => {}
             Order::Same => {
                 return false;
             }
@@ -66,14 +61,12 @@ fn adds_up(counts: &[u32], used: usize, missing: u32, total: u32) -> bool
         return false;
     }
     let mut left = total - missing;
-    let mut i: usize = 0;
-    while i < used {
+    for i in 0..used {
         let k = counts[i];
         if left < k {
             return false;
         }
         left -= k;
-        i += 1;
     }
     left == 0
 }

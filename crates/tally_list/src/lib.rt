@@ -52,12 +52,8 @@ pub fn find(list: &[Tally], used: usize, name: &[u8]) -> usize
     requires { used ≤ length list.now }
     ensures { result ≡ place_from name.now 0 (take used list.now) }
 {
-    let mut i: usize = 0;
-    while i < used {
-        let t = list[i];
-        if before(t, name) {
-            i += 1;
-        } else {
+    for i in 0..used {
+        if !before(list[i], name) {
             return i;
         }
     }
@@ -69,12 +65,8 @@ pub fn insert_tally(list: &mut [Tally], from: usize, used: usize, t: Tally)
     requires { (from ≤ used) × (used < length list.old) }
     ensures { list.new ≡ set (shifted (used - from) from list.old) from t }
 {
-    let mut j = used;
-    while from < j {
-        let k = j - 1;
-        let x = list[k];
-        list[j] = x;
-        j = k;
+    for k in (from..used).rev() {
+        list[k + 1] = list[k];
     }
     list[from] = t;
 }
@@ -129,10 +121,8 @@ fn new_tally(name: &[u8]) -> Tally
     ensures { result ≡ fresh name.now }
 {
     let mut bytes: [u8; SUPPLIER] = [0; SUPPLIER];
-    let mut i: usize = 0;
-    while i < name.len() {
+    for i in 0..name.len() {
         bytes[i] = name[i];
-        i += 1;
     }
     Tally {
         name: bytes,

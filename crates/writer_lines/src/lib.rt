@@ -18,12 +18,10 @@ pub fn put_bytes(room: &mut [u8], at: usize, src: &[u8]) -> usize
     requires { at + length src.now ≤ length room.old }
     ensures { Field room.old room.new at (length src.now) src.now result }
 {
-    let mut i = 0;
-    while i < src.len() {
+    for i in 0..src.len() {
         room[at + i] = src[i];
-        i += 1;
     }
-    at + i
+    at + src.len()
 }
 
 // Three columns for a number without negatives.
@@ -50,12 +48,10 @@ fn put_columns(room: &mut [u8], at: usize, row: &[i32], i: usize, e: usize) -> u
     requires { (i ≤ e) × ((e ≤ length row.now) × (at + 3 * (e - i) ≤ length room.old)) }
     ensures { Field room.old room.new at (3 * (e - i)) (columns_from row.now i (e - i)) result }
 {
-    let mut k = i;
     let mut a = at;
-    while k < e {
+    for k in i..e {
         let v = row[k];
         a = put_number(room, a, size_of(v));
-        k += 1;
     }
     a
 }
@@ -170,11 +166,9 @@ fn are_zeros(row: &[i32], i: usize, e: usize) -> bool
     requires { (i ≤ e) × (e ≤ length row.now) }
     ensures { result ≡ are_zeros row.now i (e - i) }
 {
-    let mut k = i;
     let mut zeros = true;
-    while k < e {
+    for k in i..e {
         let v = row[k];
-        k += 1;
         if v != 0 {
             zeros = false;
         }
@@ -249,13 +243,11 @@ pub fn put_atoms(room: &mut [u8], at: usize, atoms: &[i32], n: usize) -> usize
     requires writable_atoms { WritableAtoms n atoms.now }
     ensures { Field room.old room.new at (70 * n) (text (map atom_line (rows_of 16 n atoms.now))) result }
 {
-    let mut i = 0;
     let mut e = at;
-    while i < n {
+    for i in 0..n {
         let a = 16 * i;
         let b = a + 16;
         e = put_atom(room, e, &atoms[a..b]);
-        i += 1;
     }
     e
 }
@@ -264,13 +256,11 @@ pub fn put_bonds(room: &mut [u8], at: usize, bonds: &[i32], m: usize) -> usize
     requires { (6 * m ≤ length bonds.now) × (at + 22 * m ≤ length room.old) }
     ensures { Field room.old room.new at (22 * m) (text (map bond_line (rows_of 6 m bonds.now))) result }
 {
-    let mut i = 0;
     let mut e = at;
-    while i < m {
+    for i in 0..m {
         let a = 6 * i;
         let b = a + 6;
         e = put_bond(room, e, &bonds[a..b]);
-        i += 1;
     }
     e
 }

@@ -42,10 +42,8 @@ fn entry_count(atoms: &[i32], n: usize, kind: usize) -> usize
     ensures { result ≡ length (entries_at kind n atoms.now 0) }
 {
     let mut k = 0;
-    let mut i = 0;
-    while i < n {
+    for i in 0..n {
         k += one_entry(atoms, i, kind);
-        i += 1;
     }
     k
 }
@@ -55,11 +53,8 @@ fn next_entry(atoms: &[i32], n: usize, kind: usize, i: usize) -> usize
     requires { (16 * n ≤ length atoms.now) × ((kind ≤ 2) × (1 ≤ length (entries_at kind n atoms.now i))) }
     ensures { Next kind n atoms.now i result }
 {
-    let mut j = i;
-    while j < n {
-        if is_zero(atoms, j, kind) {
-            j += 1;
-        } else {
+    for j in i..n {
+        if !is_zero(atoms, j, kind) {
             return j;
         }
     }
@@ -100,12 +95,10 @@ fn put_entries(
 {
     let mut j = i;
     let mut e = at;
-    let mut left = count;
-    while 0 < left {
+    for _ in 0..count {
         let a = next_entry(atoms, n, kind, j);
         e = put_entry(room, e, atoms, a, kind);
         j = a + 1;
-        left -= 1;
     }
     Entries { atom: j, at: e }
 }

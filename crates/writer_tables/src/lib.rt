@@ -32,12 +32,10 @@ fn atoms_hold(atoms: &[i32], n: u32) -> bool
     requires { (16 * limit ≤ length atoms.now) × (n ≤ limit) }
     ensures { result ≡ atoms_hold n (rows_of 16 n atoms.now) }
 {
-    let mut atom = 0;
-    while atom < n {
+    for atom in 0..n {
         if !atom_at(atoms, atom, n) {
             return false;
         }
-        atom += 1;
     }
     true
 }
@@ -56,12 +54,10 @@ fn bonds_hold(bonds: &[i32], n: u32, m: u32) -> bool
     requires { (6 * limit ≤ length bonds.now) × ((n ≤ limit) × (m ≤ limit)) }
     ensures { result ≡ bonds_hold n (rows_of 6 m bonds.now) }
 {
-    let mut bond = 0;
-    while bond < m {
+    for bond in 0..m {
         if !bond_at(bonds, bond, n) {
             return false;
         }
-        bond += 1;
     }
     true
 }
@@ -117,25 +113,19 @@ pub fn repeated_pair(bonds: &[i32], m: u32) -> Repeat
 {
     let count = m as usize;
     let mut keys = [0u32; KEYS];
-    let mut i = 0;
-    'walk: loop {
-        if count <= i {
-            break 'walk Repeat::Nothing;
-        }
+    'walk: for i in 0..count {
         let key = key_at(bonds, i);
-        let mut j = reader_pairs::near_key(&keys, i, key);
-        while j < i {
+        for j in reader_pairs::near_key(&keys, i, key)..i {
             if same_at(bonds, i, j) {
-                break 'walk Repeat::Pair {
+                return Repeat::Pair {
                     earlier: j + 1,
                     later: i + 1,
                 };
             }
-            j += 1;
         }
         keys[i] = key;
-        i += 1;
     }
+    Repeat::Nothing
 }
 
 // The number at k of atom i, counted from 0, is 0.
@@ -152,12 +142,10 @@ fn all_zero(atoms: &[i32], n: u32, k: usize) -> bool
     requires { (16 * limit ≤ length atoms.now) × ((n ≤ limit) × (k < 16)) }
     ensures { result ≡ all_zero k (rows_of 16 n atoms.now) }
 {
-    let mut i = 0;
-    while i < n {
+    for i in 0..n {
         if !zero_at(atoms, i, k) {
             return false;
         }
-        i += 1;
     }
     true
 }

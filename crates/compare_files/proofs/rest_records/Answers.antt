@@ -11,12 +11,6 @@ overflow_add-spot c = search (rules, resting_laws)
 pub put-c-requires : goal.put-c-requires
 put-c-requires c = search (rules, resting_laws)
 
-pub overflow_add-k : goal.overflow_add-k
-overflow_add-k c = search (rules, resting_laws)
-
-pub loop-k-smaller : goal.loop-k-smaller
-loop-k-smaller c = search (rules, resting_laws)
-
 pub loop-k-preserved : goal.loop-k-preserved
 loop-k-preserved c = search (rules, resting_laws)
 

@@ -23,12 +23,6 @@ bounds-b-k c = search (rules, row_laws)
 pub figures-c-requires : goal.figures-c-requires
 figures-c-requires c = search (rules, row_laws)
 
-pub overflow_add-k : goal.overflow_add-k
-overflow_add-k c = search (rules, row_laws)
-
-pub loop-k-smaller : goal.loop-k-smaller
-loop-k-smaller c = search (rules, row_laws)
-
 pub loop-k-preserved : goal.loop-k-preserved
 loop-k-preserved c = search (rules, row_laws)
 

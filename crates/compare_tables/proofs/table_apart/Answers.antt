@@ -42,12 +42,6 @@ slice_bounds-row_apart-end-in-loop-i c = let a = c.args in omega (arith, row_ins
 pub row_apart-c-requires : goal.row_apart-c-requires
 row_apart-c-requires c = search (rules, table_laws)
 
-pub overflow_add-i : goal.overflow_add-i
-overflow_add-i c = search (rules, table_laws)
-
-pub loop-i-smaller : goal.loop-i-smaller
-loop-i-smaller c = search (rules, table_laws)
-
 pub loop-i-preserved : goal.loop-i-preserved
 loop-i-preserved c = search (rules, table_laws)
 

@@ -17,12 +17,6 @@ bounds-keys-j c = search (rules, repeat_laws)
 pub returns-then-keys-j : goal.returns-then-keys-j
 returns-then-keys-j c = search (rules, repeat_laws)
 
-pub overflow_add-j : goal.overflow_add-j
-overflow_add-j c = search (rules, repeat_laws)
-
-pub loop-j-smaller : goal.loop-j-smaller
-loop-j-smaller c = search (rules, repeat_laws)
-
 pub loop-j-preserved : goal.loop-j-preserved
 loop-j-preserved c = search (rules, repeat_laws)
 

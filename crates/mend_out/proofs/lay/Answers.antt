@@ -14,12 +14,6 @@ bounds-bytes-k c = search (rules, lay_laws)
 pub store_byte-requires : goal.store_byte-requires
 store_byte-requires c = search (rules, lay_laws)
 
-pub overflow_add-k : goal.overflow_add-k
-overflow_add-k c = search (rules, lay_laws)
-
-pub loop-k-smaller : goal.loop-k-smaller
-loop-k-smaller c = search (rules, lay_laws)
-
 pub loop-k-preserved : goal.loop-k-preserved
 loop-k-preserved c = search (rules, lay_laws)
 

@@ -8,6 +8,3 @@ use Rattle.reader_pairs.proofs.key_in_wide.Given as goal
 
 abbrev pub invariant-loop-k : goal.invariant-loop-k
 invariant-loop-k l = (l.k ≤ 32) × (l.w ≡ 0 → Missed l.keys l.key l.at (l.at + l.k))
-
-abbrev pub decreases-loop-k : goal.decreases-loop-k
-decreases-loop-k l = 32 - l.k

@@ -14,12 +14,6 @@ offset_bounds-rows-i c = search (rules, clearing_laws)
 pub bounds-rows-i : goal.bounds-rows-i
 bounds-rows-i c = search (rules, clearing_laws)
 
-pub overflow_add-i : goal.overflow_add-i
-overflow_add-i c = search (rules, clearing_laws)
-
-pub loop-i-smaller : goal.loop-i-smaller
-loop-i-smaller c = search (rules, clearing_laws)
-
 pub loop-i-preserved : goal.loop-i-preserved
 loop-i-preserved c = search (rules, clearing_laws)
 

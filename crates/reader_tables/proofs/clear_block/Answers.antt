@@ -16,12 +16,6 @@ offset_bounds-table-at c = search (rules, block_laws)
 pub slice_set_of-table : goal.slice_set_of-table
 slice_set_of-table c = search (rules, block_laws)
 
-pub overflow_add-k : goal.overflow_add-k
-overflow_add-k c = search (rules, block_laws)
-
-pub loop-k-smaller : goal.loop-k-smaller
-loop-k-smaller c = search (rules, block_laws)
-
 pub loop-k-preserved : goal.loop-k-preserved
 loop-k-preserved c = search (rules, block_laws)
 

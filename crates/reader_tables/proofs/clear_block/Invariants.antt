@@ -5,6 +5,3 @@ use Rattle.reader_tables.proofs.clear_block.Given as goal
 
 abbrev pub invariant-loop-k : goal.invariant-loop-k
 invariant-loop-k l = Clearing l.initial.table l.table l.at (l.at + 64) (l.at + l.k)
-
-abbrev pub decreases-loop-k : goal.decreases-loop-k
-decreases-loop-k l = 64 - l.k

@@ -13,12 +13,6 @@ offset_bounds-table-i c = search (rules, clearing_laws)
 pub slice_set_of-table : goal.slice_set_of-table
 slice_set_of-table c = search (rules, clearing_laws)
 
-pub overflow_add-i : goal.overflow_add-i
-overflow_add-i c = search (rules, clearing_laws)
-
-pub loop-i-smaller : goal.loop-i-smaller
-loop-i-smaller c = search (rules, clearing_laws)
-
 pub loop-i-preserved : goal.loop-i-preserved
 loop-i-preserved c = search (rules, clearing_laws)
 

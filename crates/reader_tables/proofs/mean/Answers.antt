@@ -13,12 +13,6 @@ loop-i-init c = search (rules, meanings)
 pub mean_row-requires : goal.mean_row-requires
 mean_row-requires c = search (rules, meanings)
 
-pub overflow_add-i : goal.overflow_add-i
-overflow_add-i c = search (rules, meanings)
-
-pub loop-i-smaller : goal.loop-i-smaller
-loop-i-smaller c = search (rules, meanings)
-
 pub loop-i-preserved : goal.loop-i-preserved
 loop-i-preserved c = search (rules, meanings)
 

@@ -84,9 +84,6 @@ overflow_add-repeat c = search (rules, pair_laws)
 pub overflow_add-repeat-then-keys-j : goal.overflow_add-repeat-then-keys-j
 overflow_add-repeat-then-keys-j c = search (rules, pair_laws)
 
-pub overflow_add-j : goal.overflow_add-j
-overflow_add-j c = search (rules, pair_laws)
-
 pub loop-j-preserved : goal.loop-j-preserved
 loop-j-preserved c = search (rules, pair_laws)
 

@@ -10,9 +10,6 @@ use Rattle.reader_walk.proofs.walk_lines.Given as goal
 abbrev pub invariant-loop-j : goal.invariant-loop-j
 invariant-loop-j l = Pairing l.sd l.s l.r l.notes l.next l.line l.listed l.keys l.rows l.atoms l.bonds l.b l.key l.count l.j
 
-abbrev pub decreases-loop-j : goal.decreases-loop-j
-decreases-loop-j l = l.count - l.j
-
 abbrev pub invariant-walk : goal.invariant-walk
 invariant-walk l = Walking l.sd l.s l.initial.atoms l.initial.bonds l.initial.rows l.reader l.notes l.at l.line l.listed l.keys l.rows l.atoms l.bonds
 

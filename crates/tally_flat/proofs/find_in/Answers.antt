@@ -35,12 +35,6 @@ order_of-requires c = search (rules, looking_start, looking_end, looking_lengths
 pub enum_told-1 : goal.enum_told-1
 enum_told-1 c = search (rules, looking_start, looking_end, looking_lengths, looking_short, looking_bytes, looking_cast, looking_sum, looking_before, looking_here, looking_new)
 
-pub overflow_add-i : goal.overflow_add-i
-overflow_add-i c = search (rules, looking_start, looking_end, looking_lengths, looking_short, looking_bytes, looking_cast, looking_sum, looking_before, looking_here, looking_new)
-
-pub loop-i-smaller : goal.loop-i-smaller
-loop-i-smaller c = search (rules, looking_start, looking_end, looking_lengths, looking_short, looking_bytes, looking_cast, looking_sum, looking_before, looking_here, looking_new)
-
 pub loop-i-preserved : goal.loop-i-preserved
 loop-i-preserved c = search (rules, looking_start, looking_end, looking_lengths, looking_short, looking_bytes, looking_cast, looking_sum, looking_before, looking_here, looking_new)
 

@@ -5,9 +5,6 @@ use Rattle.tally_flat.proofs.move_numbers.Goals as goal
 pub loop-j-init : goal.loop-j-init
 loop-j-init c = search (rules, moving_start, moving_end, moving_next)
 
-pub overflow_sub-j : goal.overflow_sub-j
-overflow_sub-j c = search (rules, moving_start, moving_end, moving_next)
-
 pub overflow_add-numbers : goal.overflow_add-numbers
 overflow_add-numbers c = search (rules, moving_start, moving_end, moving_next)
 
@@ -28,9 +25,6 @@ offset_bounds-numbers-from-in-loop-j c = search (rules, moving_start, moving_end
 
 pub bounds-numbers-from-in-loop-j : goal.bounds-numbers-from-in-loop-j
 bounds-numbers-from-in-loop-j c = search (rules, moving_start, moving_end, moving_next)
-
-pub loop-j-smaller : goal.loop-j-smaller
-loop-j-smaller c = search (rules, moving_start, moving_end, moving_next)
 
 pub loop-j-preserved : goal.loop-j-preserved
 loop-j-preserved c = search (rules, moving_start, moving_end, moving_next)

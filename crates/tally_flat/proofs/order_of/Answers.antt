@@ -26,17 +26,11 @@ bounds-a-i-in-loop-i c = search (rules, ordering_laws)
 pub returns-then-b-i-2 : goal.returns-then-b-i-2
 returns-then-b-i-2 c = search (rules, ordering_laws)
 
-pub overflow_add-i : goal.overflow_add-i
-overflow_add-i c = search (rules, ordering_laws)
-
-pub loop-i-smaller : goal.loop-i-smaller
-loop-i-smaller c = search (rules, ordering_laws)
-
 pub loop-i-preserved : goal.loop-i-preserved
 loop-i-preserved c = search (rules, ordering_laws)
 
-pub returns-then-i-b : goal.returns-then-i-b
-returns-then-i-b c = search (rules, ordering_laws)
+pub returns-then-a-b : goal.returns-then-a-b
+returns-then-a-b c = search (rules, ordering_laws)
 
 pub returns : goal.returns
 returns c = search (rules, ordering_laws)

@@ -14,12 +14,6 @@ overflow_add-names c = search (rules, putting_start, putting_end, putting_next)
 pub bounds-names-at : goal.bounds-names-at
 bounds-names-at c = search (rules, putting_start, putting_end, putting_next)
 
-pub overflow_add-j : goal.overflow_add-j
-overflow_add-j c = search (rules, putting_start, putting_end, putting_next)
-
-pub loop-j-smaller : goal.loop-j-smaller
-loop-j-smaller c = search (rules, putting_start, putting_end, putting_next)
-
 pub loop-j-preserved : goal.loop-j-preserved
 loop-j-preserved c = search (rules, putting_start, putting_end, putting_next)
 

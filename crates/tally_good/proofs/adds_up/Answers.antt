@@ -17,12 +17,6 @@ bounds-counts-i c = search (rules, adding_laws)
 pub returns-then-left-k : goal.returns-then-left-k
 returns-then-left-k c = search (rules, adding_laws)
 
-pub overflow_add-i : goal.overflow_add-i
-overflow_add-i c = search (rules, adding_laws)
-
-pub loop-i-smaller : goal.loop-i-smaller
-loop-i-smaller c = search (rules, adding_laws)
-
 pub loop-i-preserved : goal.loop-i-preserved
 loop-i-preserved c = search (rules, adding_laws)
 

@@ -5,20 +5,11 @@ use Rattle.tally_good.proofs.rising_names.Goals as goal
 pub loop-i-init : goal.loop-i-init
 loop-i-init c = search (rules, rising_laws)
 
-pub overflow_add-i : goal.overflow_add-i
-overflow_add-i c = search (rules, rising_laws)
-
 pub order_at-requires : goal.order_at-requires
 order_at-requires c = search (rules, rising_laws)
 
 pub enum_told-1 : goal.enum_told-1
 enum_told-1 c = search (rules, rising_laws)
-
-pub overflow_add-i-in-Before : goal.overflow_add-i-in-Before
-overflow_add-i-in-Before c = search (rules, rising_laws)
-
-pub loop-i-smaller : goal.loop-i-smaller
-loop-i-smaller c = search (rules, rising_laws)
 
 pub loop-i-preserved : goal.loop-i-preserved
 loop-i-preserved c = search (rules, rising_laws)

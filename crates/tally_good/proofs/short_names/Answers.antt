@@ -17,12 +17,6 @@ bounds-lengths-i c = search (rules, short_laws)
 pub returns-then-lengths-i : goal.returns-then-lengths-i
 returns-then-lengths-i c = search (rules, short_laws)
 
-pub overflow_add-i : goal.overflow_add-i
-overflow_add-i c = search (rules, short_laws)
-
-pub loop-i-smaller : goal.loop-i-smaller
-loop-i-smaller c = search (rules, short_laws)
-
 pub loop-i-preserved : goal.loop-i-preserved
 loop-i-preserved c = search (rules, short_laws)
 

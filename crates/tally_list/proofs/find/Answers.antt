@@ -37,11 +37,12 @@ module _ (ns : List ℕ) (ys : List Tally) (used : ℕ) (few : used ≤ length y
 pub loop-i-preserved : goal.loop-i-preserved
 loop-i-preserved c = record {
   within = omega arith;
-  same = c.loop-i.invariant.same ∙ from_more c.args.name.now c.args.list.now c.args.used c.requires c.loop-i.i _ c.loop-i-test.true c.if-before.ensures;
+  same = c.loop-i.invariant.same ∙ from_more c.args.name.now c.args.list.now c.args.used c.requires c.loop-i.i _ c.loop-i-test.true (sym c.if-not-before.false ∙ c.before-in-loop-i.ensures);
 }
 
-pub returns-else-before : goal.returns-else-before
-returns-else-before c = sym (c.loop-i.invariant.same ∙ from_here c.args.name.now c.args.list.now c.args.used c.requires c.loop-i.i _ c.loop-i-test.true c.if-before.ensures)
+pub returns-then-not-before : goal.returns-then-not-before
+returns-then-not-before c =
+    sym (c.loop-i.invariant.same ∙ from_here c.args.name.now c.args.list.now c.args.used c.requires c.loop-i.i _ c.loop-i-test.true (sym c.if-not-before.true ∙ c.before-in-loop-i.ensures))
 
 pub returns : goal.returns
 returns c =

@@ -8,6 +8,3 @@ invariant-loop-i l = record {
   within : l.i ≤ l.used;
   same : place_from l.name 0 (take l.used l.list) ≡ place_from l.name l.i (drop l.i (take l.used l.list));
 }
-
-abbrev pub decreases-loop-i : goal.decreases-loop-i
-decreases-loop-i l = l.used - l.i

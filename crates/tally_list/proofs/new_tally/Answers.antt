@@ -11,12 +11,6 @@ bounds-name-i c = search (rules, filling_start, filling_next, filling_end)
 pub bounds-bytes-i : goal.bounds-bytes-i
 bounds-bytes-i c = search (rules, filling_start, filling_next, filling_end)
 
-pub overflow_add-i : goal.overflow_add-i
-overflow_add-i c = search (rules, filling_start, filling_next, filling_end)
-
-pub loop-i-smaller : goal.loop-i-smaller
-loop-i-smaller c = search (rules, filling_start, filling_next, filling_end)
-
 pub loop-i-preserved : goal.loop-i-preserved
 loop-i-preserved c = search (rules, filling_start, filling_next, filling_end)
 

@@ -13,18 +13,6 @@ offset_bounds-row-k c = search (rules, zeros_laws)
 pub bounds-row-k : goal.bounds-row-k
 bounds-row-k c = search (rules, zeros_laws)
 
-pub overflow_add-k : goal.overflow_add-k
-overflow_add-k c = search (rules, zeros_laws)
-
-pub loop-k-smaller-then-v-ne0 : goal.loop-k-smaller-then-v-ne0
-loop-k-smaller-then-v-ne0 c = search (rules, zeros_laws)
-
-pub loop-k-preserved-then-v-ne0 : goal.loop-k-preserved-then-v-ne0
-loop-k-preserved-then-v-ne0 c = search (rules, zeros_laws)
-
-pub loop-k-smaller : goal.loop-k-smaller
-loop-k-smaller c = search (rules, zeros_laws)
-
 pub loop-k-preserved : goal.loop-k-preserved
 loop-k-preserved c = search (rules, zeros_laws)
 

@@ -29,12 +29,6 @@ slice_bounds-put_atom-end c = search (rules, laying_laws)
 pub put_atom-e-requires : goal.put_atom-e-requires
 put_atom-e-requires c = search (rules, laying_laws)
 
-pub overflow_add-i : goal.overflow_add-i
-overflow_add-i c = search (rules, laying_laws)
-
-pub loop-i-smaller : goal.loop-i-smaller
-loop-i-smaller c = search (rules, laying_laws)
-
 pub loop-i-preserved : goal.loop-i-preserved
 loop-i-preserved c = search (rules, laying_laws)
 

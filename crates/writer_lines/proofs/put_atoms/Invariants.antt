@@ -6,6 +6,3 @@ use Rattle.writer_lines.proofs.put_atoms.Given as goal
 
 abbrev pub invariant-loop-i : goal.invariant-loop-i
 invariant-loop-i l = Laying atom_line 16 70 l.atoms l.n l.initial.room l.room l.at l.i l.e
-
-abbrev pub decreases-loop-i : goal.decreases-loop-i
-decreases-loop-i l = l.n - l.i

@@ -17,12 +17,6 @@ overflow_add-room c = search (rules, copying_laws)
 pub bounds-room-at : goal.bounds-room-at
 bounds-room-at c = search (rules, copying_laws)
 
-pub overflow_add-i : goal.overflow_add-i
-overflow_add-i c = search (rules, copying_laws)
-
-pub loop-i-smaller : goal.loop-i-smaller
-loop-i-smaller c = search (rules, copying_laws)
-
 pub loop-i-preserved : goal.loop-i-preserved
 loop-i-preserved c = search (rules, copying_laws)
 

@@ -19,12 +19,6 @@ size_of-requires c = search (rules, columns_laws)
 pub put_number-a-requires : goal.put_number-a-requires
 put_number-a-requires c = search (rules, columns_laws)
 
-pub overflow_add-k : goal.overflow_add-k
-overflow_add-k c = search (rules, columns_laws)
-
-pub loop-k-smaller : goal.loop-k-smaller
-loop-k-smaller c = search (rules, columns_laws)
-
 pub loop-k-preserved : goal.loop-k-preserved
 loop-k-preserved c = search (rules, columns_laws)
 

@@ -13,12 +13,6 @@ one_entry-k-requires c = search (rules, counting_laws)
 pub overflow_add-k : goal.overflow_add-k
 overflow_add-k c = search (rules, counting_laws)
 
-pub overflow_add-i : goal.overflow_add-i
-overflow_add-i c = search (rules, counting_laws)
-
-pub loop-i-smaller : goal.loop-i-smaller
-loop-i-smaller c = search (rules, counting_laws)
-
 pub loop-i-preserved : goal.loop-i-preserved
 loop-i-preserved c = search (rules, counting_laws)
 

@@ -17,12 +17,6 @@ zero_at-requires c = search (rules, walking)
 pub returns-then-not-zero_at : goal.returns-then-not-zero_at
 returns-then-not-zero_at c = search (rules, walking)
 
-pub overflow_add-i : goal.overflow_add-i
-overflow_add-i c = search (rules, walking)
-
-pub loop-i-smaller : goal.loop-i-smaller
-loop-i-smaller c = search (rules, walking)
-
 pub loop-i-preserved : goal.loop-i-preserved
 loop-i-preserved c = search (rules, walking)
 

@@ -9,6 +9,3 @@ use Rattle.writer_tables.proofs.all_zero.Given as goal
 
 abbrev pub invariant-loop-i : goal.invariant-loop-i
 invariant-loop-i l = Walking (λ (t : List ℤ). is_zero (get_or t l.k (pos 0))) 16 l.atoms l.n l.i
-
-abbrev pub decreases-loop-i : goal.decreases-loop-i
-decreases-loop-i l = l.n - l.i

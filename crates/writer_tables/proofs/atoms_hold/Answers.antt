@@ -17,12 +17,6 @@ atom_at-requires c = search (rules, walking)
 pub returns-then-not-atom_at : goal.returns-then-not-atom_at
 returns-then-not-atom_at c = search (rules, walking)
 
-pub overflow_add-atom : goal.overflow_add-atom
-overflow_add-atom c = search (rules, walking)
-
-pub loop-atom-smaller : goal.loop-atom-smaller
-loop-atom-smaller c = search (rules, walking)
-
 pub loop-atom-preserved : goal.loop-atom-preserved
 loop-atom-preserved c = search (rules, walking)
 

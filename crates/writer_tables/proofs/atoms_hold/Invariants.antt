@@ -9,6 +9,3 @@ use Rattle.writer_tables.proofs.atoms_hold.Given as goal
 
 abbrev pub invariant-loop-atom : goal.invariant-loop-atom
 invariant-loop-atom l = Walking (λ (t : List ℤ). atom_holds l.n (atom_row t)) 16 l.atoms l.n l.atom
-
-abbrev pub decreases-loop-atom : goal.decreases-loop-atom
-decreases-loop-atom l = l.n - l.atom

@@ -17,12 +17,6 @@ bond_at-requires c = search (rules, walking)
 pub returns-then-not-bond_at : goal.returns-then-not-bond_at
 returns-then-not-bond_at c = search (rules, walking)
 
-pub overflow_add-bond : goal.overflow_add-bond
-overflow_add-bond c = search (rules, walking)
-
-pub loop-bond-smaller : goal.loop-bond-smaller
-loop-bond-smaller c = search (rules, walking)
-
 pub loop-bond-preserved : goal.loop-bond-preserved
 loop-bond-preserved c = search (rules, walking)
 

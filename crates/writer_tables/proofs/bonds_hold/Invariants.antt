@@ -9,6 +9,3 @@ use Rattle.writer_tables.proofs.bonds_hold.Given as goal
 
 abbrev pub invariant-loop-bond : goal.invariant-loop-bond
 invariant-loop-bond l = Walking (λ (t : List ℤ). bond_holds l.n (bond_row t)) 6 l.bonds l.m l.bond
-
-abbrev pub decreases-loop-bond : goal.decreases-loop-bond
-decreases-loop-bond l = l.m - l.bond

@@ -25,12 +25,6 @@ overflow_add-result c = search (rules, walking)
 pub overflow_add-result-then-same_at : goal.overflow_add-result-then-same_at
 overflow_add-result-then-same_at c = search (rules, walking)
 
-pub overflow_add-j : goal.overflow_add-j
-overflow_add-j c = search (rules, walking)
-
-pub loop-j-smaller : goal.loop-j-smaller
-loop-j-smaller c = search (rules, walking)
-
 pub loop-j-preserved : goal.loop-j-preserved
 loop-j-preserved c = search (rules, walking)
 
@@ -40,17 +34,11 @@ offset_bounds-keys-i c = search (rules, walking)
 pub bounds-keys-i : goal.bounds-keys-i
 bounds-keys-i c = search (rules, walking)
 
-pub overflow_add-i : goal.overflow_add-i
-overflow_add-i c = search (rules, walking)
-
-pub walk-smaller : goal.walk-smaller
-walk-smaller c = search (rules, walking)
-
 pub walk-preserved : goal.walk-preserved
 walk-preserved c = search (rules, walking)
 
-pub returns-then-count-i : goal.returns-then-count-i
-returns-then-count-i c = search (rules, walking)
+pub returns : goal.returns
+returns c = search (rules, walking)
 
 pub returns-then-same_at : goal.returns-then-same_at
 returns-then-same_at c = search (rules, walking)

@@ -6,11 +6,5 @@ use Rattle.writer_tables.proofs.repeated_pair.Given as goal
 abbrev pub invariant-loop-j : goal.invariant-loop-j
 invariant-loop-j l = Search l.bonds l.m l.keys l.key l.i l.j
 
-abbrev pub decreases-loop-j : goal.decreases-loop-j
-decreases-loop-j l = l.i - l.j
-
 abbrev pub invariant-walk : goal.invariant-walk
 invariant-walk l = Walk l.bonds l.m l.keys l.i
-
-abbrev pub decreases-walk : goal.decreases-walk
-decreases-walk l = l.m - l.i

@@ -25,12 +25,6 @@ returns-in-End c = search (rules, reach_laws)
 pub enum_known-p : goal.enum_known-p
 enum_known-p c = search (rules, reach_laws)
 
-pub overflow_add-i : goal.overflow_add-i
-overflow_add-i c = search (rules, reach_laws)
-
-pub loop-i-smaller : goal.loop-i-smaller
-loop-i-smaller c = search (rules, reach_laws)
-
 pub loop-i-preserved : goal.loop-i-preserved
 loop-i-preserved c = search (rules, reach_laws)
 

@@ -6,6 +6,3 @@ use Rattle.reader_resume.proofs.Passing.pass.Given as goal
 
 abbrev pub invariant-loop-i : goal.invariant-loop-i
 invariant-loop-i l = Reaches l.initial.passing l.passing l.part l.i
-
-abbrev pub decreases-loop-i : goal.decreases-loop-i
-decreases-loop-i l = length l.part - l.i
