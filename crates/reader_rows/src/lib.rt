@@ -17,9 +17,7 @@ pub fn clear(rows: &mut [u64])
     requires { row_places ≤ length rows.old }
     ensures { rows.new ≡ emptied rows.old }
 {
-    for i in 0..ROWS {
-        rows[i] = 0;
-    }
+    rows[..ROWS].fill(0);
 }
 
 // Whether there are rows that don't say the pair.

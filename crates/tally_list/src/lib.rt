@@ -121,9 +121,7 @@ fn new_tally(name: &[u8]) -> Tally
     ensures { result ≡ fresh name.now }
 {
     let mut bytes: [u8; SUPPLIER] = [0; SUPPLIER];
-    for i in 0..name.len() {
-        bytes[i] = name[i];
-    }
+    bytes[..name.len()].copy_from_slice(name);
     Tally {
         name: bytes,
         length: name.len() as u32,

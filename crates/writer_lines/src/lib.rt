@@ -18,10 +18,9 @@ pub fn put_bytes(room: &mut [u8], at: usize, src: &[u8]) -> usize
     requires { at + length src.now ≤ length room.old }
     ensures { Field room.old room.new at (length src.now) src.now result }
 {
-    for i in 0..src.len() {
-        room[at + i] = src[i];
-    }
-    at + src.len()
+    let end = at + src.len();
+    room[at..end].copy_from_slice(src);
+    end
 }
 
 // Three columns for a number without negatives.
