@@ -152,7 +152,7 @@ pub record Halves (t₀ t : List ℤ) (from to half i : ℕ) : Type 0 where
   pub between : (k : ℕ) → from + i ≤ k → k < from + half → get_or t k (pos 0) ≡ get_or t₀ k (pos 0)
   pub after : (k : ℕ) → from + half + i ≤ k → get_or t k (pos 0) ≡ get_or t₀ k (pos 0)
 
-pub halves_start : (t : List ℤ) (from to : ℕ) → from ≤ to → to ≤ length t → Halves t t from to ((to - from) / 128 * 64) 0
+pub halves_start : (t : List ℤ) (from to : ℕ) → from ≤ to → to ≤ length t → Halves t t from to (64 * ((to - from) / 128)) (64 * 0)
 halves_start t from to h k =
     let q = (to - from) / 128 in
     let d : q * 128 ≤ to - from = omega arith in

@@ -118,6 +118,7 @@ fn clear_few(table: &mut [i32], from: usize, to: usize)
 }
 
 // Sixty-four zeros from place `at` on, which compile to sixteen wide stores.
+#[tactic(auto, using(crate::proofs::Clearing::block_laws))]
 fn clear_block(table: &mut [i32], at: usize)
     requires { at + 64 ≤ length table.old }
     ensures { table.new ≡ cleared table.old at (at + 64) }
@@ -129,17 +130,18 @@ fn clear_block(table: &mut [i32], at: usize)
 
 // Zeros from place `from` to before place `to`: both halves side by side, block by block, and then the few that are left. One run of zeros would compile
 // to a call that takes a third more.
+#[tactic(auto, using(crate::proofs::Clearing::halves_laws))]
 pub fn clear(table: &mut [i32], from: usize, to: usize)
     requires { (from ≤ to) × (to ≤ length table.old) }
     ensures { table.new ≡ cleared table.old from to }
 {
-    let half = (to - from) / 128 * 64;
+    let blocks = (to - from) / 128;
+    let half = 64 * blocks;
     let mid = from + half;
-    let mut i: usize = 0;
-    while i < half {
+    for block in 0..blocks {
+        let i = 64 * block;
         clear_block(table, from + i);
         clear_block(table, mid + i);
-        i += 64;
     }
     clear_few(table, mid + half, to);
 }
@@ -273,6 +275,7 @@ fn superseded_by(listed: &[u32; LISTED], n: usize) -> Superseded
 }
 
 // The first n rows get their meaning.
+#[tactic(auto, using(crate::proofs::Rows::meanings))]
 pub fn mean(atoms: &mut [i32], n: u32, listed: &[u32; LISTED])
     requires { (n ≤ limit) × (16 * n ≤ length atoms.old) × Kept n listed.now }
     ensures { atoms.new ≡ meant n atoms.old listed.now }

@@ -25,6 +25,7 @@ pub enum Added {
 }
 
 // How two names stand in byte order.
+#[tactic(auto, using(crate::specs::Steps::ordering_laws))]
 pub fn order_of(a: &[u8], b: &[u8]) -> Order
     ensures { result ≡ order a.now b.now }
 {

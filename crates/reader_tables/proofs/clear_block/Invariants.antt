@@ -1,6 +1,5 @@
-use borrow.Author.Rules.{rules}
-use Prim.Native.Nat.{◌+◌, ◌-◌}
-use Rattle.reader_tables.proofs.Clearing.{Clearing, block_laws}
+use Rattle.std.proofs.Common.{◌+◌}
+use Rattle.reader_tables.proofs.Clearing.{Clearing}
 use Rattle.reader_tables.proofs.clear_block.Given as goal
 
 abbrev pub invariant-loop-k : goal.invariant-loop-k

@@ -1,6 +1,4 @@
-use borrow.Author.Rules.{rules}
-use Prim.Native.Nat.{◌-◌}
-use Rattle.reader_tables.proofs.Rows.{Meaning, meanings}
+use Rattle.reader_tables.proofs.Rows.{Meaning}
 use Rattle.reader_tables.proofs.mean.Given as goal
 
 abbrev pub invariant-loop-i : goal.invariant-loop-i
