@@ -248,6 +248,7 @@ fn files_apart(
     let mut a = Cursor::new();
     let mut b = Cursor::new();
     let mut c = Count { skip: 0, seen: 0 };
+    // Two cursors jump by records of any length and count them: a `for` would count them a second time.
     while a.records < both {
         let i = a.at;
         let j = b.at;

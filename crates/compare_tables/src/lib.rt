@@ -81,6 +81,7 @@ pub fn figures(list: &mut [i64], count: Count, p: Place, x: i32, y: i32) -> Coun
 }
 
 // Two rows of as many numbers, field by field. The field of p is of no account.
+#[tactic(auto, using(crate::specs::SideBySide::row_laws))]
 fn row_apart(list: &mut [i64], count: Count, p: Place, a: &[i32], b: &[i32]) -> Count
     requires { Small p × (length a.now ≡ length b.now) }
     ensures { log list.new result ≡ noted (log list.old count) (along (row_of p) 1 a.now b.now) }
@@ -109,6 +110,7 @@ pub fn smaller(n: usize, m: usize) -> usize
 }
 
 // The first n rows of two tables, so many numbers each. The place and field of p are of no account.
+#[tactic(auto, using(crate::specs::SideBySide::table_laws))]
 pub fn table_apart(
     list: &mut [i64],
     count: Count,

@@ -40,6 +40,7 @@ fn walk_lines(
     let mut notes = Notes::new();
     let mut at: usize = 0;
     let mut line: usize = 1;
+    // The place jumps by lines of any length: a `for` would need an iterator over them, with a proof of its own.
     let repeat = 'walk: loop {
         let LineAt::Line { end, next } = text::line_at(s, at) else {
             return reader_end::ended(s.len() - at, reader, notes, at, line);

@@ -140,6 +140,7 @@ fn count_records(
 {
     let mut sums = totals;
     let mut cursor = Cursor::new();
+    // The cursor jumps by records of any length: a `for` would need an iterator over them, with a proof of its own.
     while cursor.at < s.len() {
         let at = cursor.at;
         match count_record(&s[at..], names, lengths, counts, sums) {

@@ -5,6 +5,7 @@ ghost use Rattle.std.specs.Prelude.{◌≡◌, ◌+◌, ◌*◌, ◌-◌, ◌≤
 ghost use Rattle.tally_rules.specs.Tally.{order, longest, most_suppliers, most_records};
 ghost use Rattle.tally_flat.specs.Flat.{memory, Looked, names_from, slot_from, shifted, put_from, inserted, Near, Placed, new_of, after_new, AddReady, added_of, AddedTo};
 
+use std::cmp::Ordering;
 use tally_rules::{Order, SUPPLIER, SUPPLIERS};
 
 // The bytes of the names.
@@ -25,25 +26,14 @@ pub enum Added {
 }
 
 // How two names stand in byte order.
-#[tactic(auto, using(crate::specs::Steps::ordering_laws))]
 pub fn order_of(a: &[u8], b: &[u8]) -> Order
     ensures { result ≡ order a.now b.now }
 {
-    for i in 0..a.len() {
-        if b.len() <= i {
-            return Order::After;
-        }
-        if a[i] < b[i] {
-            return Order::Before;
-        }
-        if b[i] < a[i] {
-            return Order::After;
-        }
+    match a.cmp(&b) {
+        Ordering::Less => Order::Before,
+        Ordering::Equal => Order::Same,
+        Ordering::Greater => Order::After,
     }
-    if a.len() < b.len() {
-        return Order::Before;
-    }
-    Order::Same
 }
 
 // The first of the tallies in use whose name does not come before this one: it has the name, or the name belongs there.

@@ -9,6 +9,7 @@ ghost use Rattle.tally_good.specs.Judge.{book_of, short_from, rising_names, sum_
 use tally_rules::{Order, RECORDS, SUPPLIER, SUPPLIERS, Totals};
 
 // Each of the lengths in use is that of a name that fits its place.
+#[tactic(auto, using(crate::specs::Steps::short_laws))]
 fn short_names(lengths: &[u32], used: usize) -> bool
     requires { used ≤ length lengths.now }
     ensures { result ≡ short_from lengths.now 0 used }
@@ -34,6 +35,7 @@ fn order_at(names: &[u8], lengths: &[u32], used: usize, i: usize) -> Order
 }
 
 // Each name comes before the next.
+#[tactic(auto, using(crate::specs::Steps::rising_laws))]
 fn rising_names(names: &[u8], lengths: &[u32], used: usize) -> bool
     requires { Looked names.now lengths.now used }
     ensures { result ≡ rising_names (names_from names.now lengths.now 0 used) }
@@ -53,6 +55,7 @@ fn rising_names(names: &[u8], lengths: &[u32], used: usize) -> bool
 }
 
 // The counts in use and the missing records make the total.
+#[tactic(auto, using(crate::specs::Steps::adding_laws))]
 fn adds_up(counts: &[u32], used: usize, missing: u32, total: u32) -> bool
     requires { used ≤ length counts.now }
     ensures { result ≡ eqb (sum_from counts.now 0 used + missing) total }

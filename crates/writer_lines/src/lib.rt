@@ -14,6 +14,7 @@ ghost use Rattle.writer_lines.specs.Laid.{Field};
 ghost use Rattle.writer_lines.specs.Lines.{atom_line, bond_line, WritableAtoms, columns_from, code_text, position_text, are_zeros, is_plain, values_text, stereo_text};
 
 // These bytes, one by one: copy_from_slice costs up to 0.2 instructions a byte of what `records canon` reads.
+#[tactic(auto, using(crate::specs::LineParts::copying_laws))]
 pub fn put_bytes(room: &mut [u8], at: usize, src: &[u8]) -> usize
     requires { at + length src.now ≤ length room.old }
     ensures { Field room.old room.new at (length src.now) src.now result }
@@ -44,6 +45,7 @@ fn size_of(v: i32) -> u32
 }
 
 // Three columns for each of numbers i to e - 1 of a row.
+#[tactic(auto, using(crate::specs::LineParts::columns_laws))]
 fn put_columns(room: &mut [u8], at: usize, row: &[i32], i: usize, e: usize) -> usize
     requires { (i ≤ e) × ((e ≤ length row.now) × (at + 3 * (e - i) ≤ length room.old)) }
     ensures { Field room.old room.new at (3 * (e - i)) (columns_from row.now i (e - i)) result }
@@ -162,6 +164,7 @@ fn put_position(room: &mut [u8], at: usize, row: &[i32]) -> usize
 }
 
 // Whether numbers i to e - 1 of a row are zeros: all are looked at, for eight at once are cheaper than one after the other.
+#[tactic(auto, using(crate::specs::Zeros::zeros_laws))]
 fn are_zeros(row: &[i32], i: usize, e: usize) -> bool
     requires { (i ≤ e) × (e ≤ length row.now) }
     ensures { result ≡ are_zeros row.now i (e - i) }
@@ -238,6 +241,7 @@ fn put_bond(room: &mut [u8], at: usize, row: &[i32]) -> usize
     put_stereo(room, a, row)
 }
 
+#[tactic(auto, using(crate::specs::Walks::laying_laws))]
 pub fn put_atoms(room: &mut [u8], at: usize, atoms: &[i32], n: usize) -> usize
     requires n_in_bounds { (16 * n ≤ length atoms.now) × (at + 70 * n ≤ length room.old) }
     requires writable_atoms { WritableAtoms n atoms.now }
@@ -252,6 +256,7 @@ pub fn put_atoms(room: &mut [u8], at: usize, atoms: &[i32], n: usize) -> usize
     e
 }
 
+#[tactic(auto, using(crate::specs::Walks::laying_laws))]
 pub fn put_bonds(room: &mut [u8], at: usize, bonds: &[i32], m: usize) -> usize
     requires { (6 * m ≤ length bonds.now) × (at + 22 * m ≤ length room.old) }
     ensures { Field room.old room.new at (22 * m) (text (map bond_line (rows_of 6 m bonds.now))) result }

@@ -37,6 +37,7 @@ fn one_entry(atoms: &[i32], i: usize, kind: usize) -> usize
 }
 
 // How many atoms have an entry.
+#[tactic(auto, using(crate::specs::Listing::counting_laws))]
 fn entry_count(atoms: &[i32], n: usize, kind: usize) -> usize
     requires { (16 * n ≤ length atoms.now) × (kind ≤ 2) }
     ensures { result ≡ length (entries_at kind n atoms.now 0) }
@@ -49,6 +50,7 @@ fn entry_count(atoms: &[i32], n: usize, kind: usize) -> usize
 }
 
 // The first atom from i on that has an entry.
+#[tactic(auto, using(crate::specs::Listing::seeking_laws))]
 fn next_entry(atoms: &[i32], n: usize, kind: usize, i: usize) -> usize
     requires { (16 * n ≤ length atoms.now) × ((kind ≤ 2) × (1 ≤ length (entries_at kind n atoms.now i))) }
     ensures { Next kind n atoms.now i result }
@@ -80,6 +82,7 @@ struct Entries {
 }
 
 // The next entries from atom i on, so many.
+#[tactic(auto, using(crate::specs::Listing::entering_laws))]
 fn put_entries(
     room: &mut [u8],
     at: usize,

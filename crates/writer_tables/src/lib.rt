@@ -28,6 +28,7 @@ fn atom_at(atoms: &[i32], i: u32, n: u32) -> bool
     writer_row::atom_holds(&atoms[at..end], n)
 }
 
+#[tactic(auto, using(crate::proofs::Loops::walking))]
 fn atoms_hold(atoms: &[i32], n: u32) -> bool
     requires { (16 * limit ≤ length atoms.now) × (n ≤ limit) }
     ensures { result ≡ atoms_hold n (rows_of 16 n atoms.now) }
@@ -50,6 +51,7 @@ fn bond_at(bonds: &[i32], i: u32, n: u32) -> bool
     writer_row::bond_holds(&bonds[at..end], n)
 }
 
+#[tactic(auto, using(crate::proofs::Loops::walking))]
 fn bonds_hold(bonds: &[i32], n: u32, m: u32) -> bool
     requires { (6 * limit ≤ length bonds.now) × ((n ≤ limit) × (m ≤ limit)) }
     ensures { result ≡ bonds_hold n (rows_of 6 m bonds.now) }
@@ -107,6 +109,7 @@ fn key_at(bonds: &[i32], i: usize) -> u32
 }
 
 // The first bond that joins the pair of an earlier one, with the first such. Earlier bonds are passed in blocks by their keys.
+#[tactic(auto, using(crate::proofs::Pairs::walking))]
 pub fn repeated_pair(bonds: &[i32], m: u32) -> Repeat
     requires { (6 * limit ≤ length bonds.now) × (m ≤ limit) }
     ensures { result ≡ first_repeat bonds.now m }
@@ -138,6 +141,7 @@ fn zero_at(atoms: &[i32], i: u32, k: usize) -> bool
 }
 
 // The number at k is 0 in every atom.
+#[tactic(auto, using(crate::proofs::Loops::walking))]
 fn all_zero(atoms: &[i32], n: u32, k: usize) -> bool
     requires { (16 * limit ≤ length atoms.now) × ((n ≤ limit) × (k < 16)) }
     ensures { result ≡ all_zero k (rows_of 16 n atoms.now) }
