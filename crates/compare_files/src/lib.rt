@@ -211,6 +211,7 @@ fn pair_apart(
 }
 
 // Records after `from` up to `to`, which one file has alone.
+#[tactic(auto, using(crate::specs::Walking::resting_laws))]
 fn rest_records(list: &mut [i64], count: Count, from: usize, to: usize, side: u8) -> Count
     requires { (from ≤ to) × (to < 2 ^ 63) }
     ensures { log list.new result ≡ noted (log list.old count) (alone_records side from (to - from)) }

@@ -71,6 +71,7 @@ impl Judge {
 }
 
 // Whether one of the first `count` keys is this one.
+#[tactic(auto, using(crate::specs::Bonds::repeat_laws))]
 fn repeats(keys: &[u32; KEYS], count: usize, key: u32) -> bool
     requires count_le_limit { count ≤ limit }
     requires keys_len { length keys.now ≡ limit }

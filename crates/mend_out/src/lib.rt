@@ -104,8 +104,8 @@ fn lay(room: &mut [u8], at: usize, bytes: &[u8])
     requires { at + length bytes.now < 2 ^ 64 }
     ensures { room.new ≡ sets room.old at bytes.now }
 {
-    for k in 0..bytes.len() {
-        store_byte(room, at + k, bytes[k]);
+    for (k, b) in bytes.iter().enumerate() {
+        store_byte(room, at + k, *b);
     }
 }
 

@@ -131,8 +131,8 @@ impl Passing {
         ensures { result ≡ pass_of self part.now }
     {
         let mut passing = self;
-        for i in 0..part.len() {
-            match passing.byte(part[i]) {
+        for (i, b) in part.iter().enumerate() {
+            match passing.byte(*b) {
                 Mark::End(counter) => {
                     return Passed::Behind {
                         counter,

@@ -1,5 +1,5 @@
 -- One number of a row, as the code finds it.
-use Prim.Native.Nat.{ℕ, zero, suc, ◌+◌, ◌*◌, ◌-◌, ◌≤◌, ◌<◌}
+use Prim.Native.Nat.{ℕ, zero, suc, ◌+◌, ◌-◌, ◌≤◌, ◌<◌}
 use native.Mathlib.Omega.{arith}
 use mathlib.Core.Path.{◌≡◌, refl, sym, ap, ◌∙◌}
 use mathlib.Core.List.{List}
@@ -14,10 +14,9 @@ use lib.IntN.{ℤ, pos, negsuc}
 use mir.Val.{SFits, to_z, of_z}
 use mir.Syntax.{w32}
 use mir.Facts.{to_z_pos}
-use borrow.Author.Tests.{eq-eqb, ne_eqb, le-leb, lt-leb}
+use borrow.Author.Tests.{ne_eqb, le-leb, lt-leb}
 use Rattle.field_numbers.specs.Read.{signed}
 use Rattle.rules.specs.Meaning.{charge_of_code, radical_of_code}
-use Rattle.line_property.specs.Listed.{places}
 use Rattle.line_fields.specs.Steps.{hop}
 use Rattle.reader_tables.specs.Mean.{any_after, number_kept, charge_by, radical_by, mass_by, code_in}
 use Rattle.reader_tables.specs.declared.Superseded.{Superseded}

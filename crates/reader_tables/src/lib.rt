@@ -109,7 +109,7 @@ pub fn put_bond(bonds: &mut [i32], i: usize, b: Bond)
     bonds[at + 5] = centre;
 }
 
-// Zeros from place `from` to before place `to`, one by one.
+// Zeros from place `from` to before place `to`.
 fn clear_few(table: &mut [i32], from: usize, to: usize)
     requires { (from ≤ to) × (to ≤ length table.old) }
     ensures { table.new ≡ cleared table.old from to }
@@ -118,14 +118,11 @@ fn clear_few(table: &mut [i32], from: usize, to: usize)
 }
 
 // Sixty-four zeros from place `at` on, which compile to sixteen wide stores.
-#[tactic(auto, using(crate::proofs::Clearing::block_laws))]
 fn clear_block(table: &mut [i32], at: usize)
     requires { at + 64 ≤ length table.old }
     ensures { table.new ≡ cleared table.old at (at + 64) }
 {
-    for k in 0..64 {
-        table[at + k] = 0;
-    }
+    table[at..at + 64].fill(0);
 }
 
 // Zeros from place `from` to before place `to`: both halves side by side, block by block, and then the few that are left. One run of zeros would compile

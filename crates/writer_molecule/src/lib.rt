@@ -167,6 +167,7 @@ fn put_properties(room: &mut [u8], at: usize, atoms: &[i32], n: usize, kind: usi
     let mut left = entry_count(atoms, n, kind);
     let mut i = 0;
     let mut e = at;
+    // A line takes up to eight: a `for` over lines would have to make out again what is left and where to go on.
     while 0 < left {
         let k = at_most_eight(left);
         let p = put_property(room, e, atoms, n, kind, i, k);

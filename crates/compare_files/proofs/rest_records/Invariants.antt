@@ -1,4 +1,3 @@
-use Prim.Native.Nat.{◌-◌}
 use Rattle.compare_rules.specs.Log.{log}
 use Rattle.compare_files.specs.Walking.{Resting}
 use Rattle.compare_files.proofs.rest_records.Given as goal

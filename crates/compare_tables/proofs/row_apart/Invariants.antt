@@ -1,5 +1,3 @@
-use Prim.Native.Nat.{◌-◌}
-use lib.ListN.{length}
 use Rattle.compare_tables.specs.SideBySide.{Rowing}
 use Rattle.compare_tables.proofs.row_apart.Given as goal
 

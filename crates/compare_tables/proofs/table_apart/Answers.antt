@@ -1,6 +1,5 @@
 use borrow.Author.Rules.{rules}
-use native.Mathlib.Omega.{arith}
-use Rattle.compare_tables.specs.SideBySide.{table_laws, row_inside}
+use Rattle.compare_tables.specs.SideBySide.{table_laws}
 use Rattle.compare_tables.proofs.table_apart.Goals as goal
 
 pub loop-i-init : goal.loop-i-init

@@ -1,4 +1,3 @@
-use Prim.Native.Nat.{◌-◌}
 use Rattle.compare_tables.specs.SideBySide.{Tabling}
 use Rattle.compare_tables.proofs.table_apart.Given as goal
 

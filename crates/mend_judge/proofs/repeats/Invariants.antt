@@ -1,4 +1,3 @@
-use Prim.Native.Nat.{◌-◌}
 use Rattle.reader_pairs.specs.Keys.{Searching}
 use Rattle.mend_judge.proofs.repeats.Given as goal
 

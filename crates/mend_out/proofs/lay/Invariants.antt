@@ -1,5 +1,3 @@
-use Prim.Native.Nat.{◌-◌}
-use lib.ListN.{length}
 use Rattle.mend_out.specs.Out.{Laying}
 use Rattle.mend_out.proofs.lay.Given as goal
 

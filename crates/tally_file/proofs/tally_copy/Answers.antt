@@ -2,7 +2,6 @@ use Rattle.tally_flat.specs.Flat.{memory}
 use native.Mathlib.Omega.{arith}
 use mathlib.Core.Path.{sym, ◌∙◌}
 use Rattle.tally_file.specs.Once.{copied_front, copy_done, copy_not}
-use borrow.Author.Rules.{rules}
 use Rattle.tally_file.proofs.tally_copy.Goals as goal
 
 pub copy_first-requires-then-is_done-3 : goal.copy_first-requires-then-is_done-3

@@ -1,5 +1,4 @@
 use Rattle.tally_flat.specs.Steps.{Looking}
-use Prim.Native.Nat.{◌-◌}
 use Rattle.tally_flat.proofs.find_in.Given as goal
 
 abbrev pub invariant-loop-i : goal.invariant-loop-i

@@ -1,6 +1,4 @@
 use Rattle.tally_flat.specs.Steps.{Putting}
-use Prim.Native.Nat.{◌-◌}
-use Rattle.tally_rules.specs.Tally.{longest}
 use Rattle.tally_flat.proofs.put_name.Given as goal
 
 abbrev pub invariant-loop-j : goal.invariant-loop-j

@@ -1,5 +1,4 @@
 use Rattle.tally_good.specs.Steps.{Adding}
-use Prim.Native.Nat.{◌-◌}
 use Rattle.tally_good.proofs.adds_up.Given as goal
 
 abbrev pub invariant-loop-i : goal.invariant-loop-i

@@ -1,5 +1,4 @@
 use Rattle.tally_good.specs.Steps.{Risen}
-use Prim.Native.Nat.{◌-◌}
 use Rattle.tally_good.proofs.rising_names.Given as goal
 
 abbrev pub invariant-loop-i : goal.invariant-loop-i

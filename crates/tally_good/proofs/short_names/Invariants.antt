@@ -1,5 +1,4 @@
 use Rattle.tally_good.specs.Steps.{Shorts}
-use Prim.Native.Nat.{◌-◌}
 use Rattle.tally_good.proofs.short_names.Given as goal
 
 abbrev pub invariant-loop-i : goal.invariant-loop-i

@@ -1,5 +1,5 @@
 -- The place of the name is still to come, from tally i on.
-use Rattle.std.proofs.Common.{◌-◌, ◌≡◌, ◌≤◌, take, drop}
+use Rattle.std.proofs.Common.{◌≡◌, ◌≤◌, take, drop}
 use Rattle.tally_list.specs.Tallies.{place_from}
 use Rattle.tally_list.proofs.find.Given as goal
 

@@ -2,7 +2,7 @@
 use borrow.Author.Rules.{rules}
 use mathlib.Core.Path.{refl}
 use Rattle.tally_flat.specs.Flat.{memory}
-use Rattle.tally_report.specs.Steps.{putting_start, putting_end, putting_size, putting_lengths, putting_counts, putting_cast, putting_sum, putting_bytes, putting_room, putting_next}
+use Rattle.tally_report.specs.Steps.{putting_start, putting_end, putting_room, putting_next}
 use Rattle.tally_report.proofs.put_suppliers.Goals as goal
 
 pub loop-i-init : goal.loop-i-init

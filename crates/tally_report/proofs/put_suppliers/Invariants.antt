@@ -1,4 +1,3 @@
-use Prim.Native.Nat.{◌-◌}
 use Rattle.tally_flat.specs.Flat.{memory}
 use Rattle.tally_report.specs.Steps.{Putting}
 use Rattle.tally_report.proofs.put_suppliers.Given as goal

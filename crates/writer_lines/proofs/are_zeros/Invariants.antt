@@ -1,6 +1,4 @@
-use borrow.Author.Rules.{rules}
-use Prim.Native.Nat.{◌-◌}
-use Rattle.writer_lines.specs.Zeros.{Looking, zeros_laws}
+use Rattle.writer_lines.specs.Zeros.{Looking}
 use Rattle.writer_lines.proofs.are_zeros.Given as goal
 
 abbrev pub invariant-loop-k : goal.invariant-loop-k

@@ -1,8 +1,6 @@
 -- `writer_lines::put_atoms` meets its contract.
 use borrow.Author.Rules.{rules}
-use Prim.Native.Nat.{◌-◌}
-use Rattle.writer_lines.specs.Lines.{atom_line}
-use Rattle.writer_lines.specs.Walks.{Laying, laying_laws}
+use Rattle.writer_lines.specs.Walks.{laying_laws}
 use Rattle.writer_lines.proofs.put_atoms.Goals as goal
 
 pub loop-i-init : goal.loop-i-init

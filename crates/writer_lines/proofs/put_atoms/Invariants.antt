@@ -1,7 +1,5 @@
-use borrow.Author.Rules.{rules}
-use Prim.Native.Nat.{◌-◌}
 use Rattle.writer_lines.specs.Lines.{atom_line}
-use Rattle.writer_lines.specs.Walks.{Laying, laying_laws}
+use Rattle.writer_lines.specs.Walks.{Laying}
 use Rattle.writer_lines.proofs.put_atoms.Given as goal
 
 abbrev pub invariant-loop-i : goal.invariant-loop-i

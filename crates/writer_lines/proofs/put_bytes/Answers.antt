@@ -1,8 +1,6 @@
 -- `writer_lines::put_bytes` meets its contract.
 use borrow.Author.Rules.{rules}
-use Prim.Native.Nat.{◌-◌}
-use lib.ListN.{length}
-use Rattle.writer_lines.specs.LineParts.{Copying, copying_laws}
+use Rattle.writer_lines.specs.LineParts.{copying_laws}
 use Rattle.writer_lines.proofs.put_bytes.Goals as goal
 
 pub loop-i-preserved : goal.loop-i-preserved

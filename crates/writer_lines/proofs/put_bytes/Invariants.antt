@@ -1,7 +1,4 @@
-use borrow.Author.Rules.{rules}
-use Prim.Native.Nat.{◌-◌}
-use lib.ListN.{length}
-use Rattle.writer_lines.specs.LineParts.{Copying, copying_laws}
+use Rattle.writer_lines.specs.LineParts.{Copying}
 use Rattle.writer_lines.proofs.put_bytes.Given as goal
 
 abbrev pub invariant-loop-i : goal.invariant-loop-i

@@ -1,7 +1,6 @@
 -- `writer_lines::put_columns` meets its contract.
 use borrow.Author.Rules.{rules}
-use Prim.Native.Nat.{◌-◌}
-use Rattle.writer_lines.specs.LineParts.{Columns, columns_laws}
+use Rattle.writer_lines.specs.LineParts.{columns_laws}
 use Rattle.writer_lines.proofs.put_columns.Goals as goal
 
 pub loop-k-init : goal.loop-k-init

@@ -1,6 +1,4 @@
-use borrow.Author.Rules.{rules}
-use Prim.Native.Nat.{◌-◌}
-use Rattle.writer_lines.specs.LineParts.{Columns, columns_laws}
+use Rattle.writer_lines.specs.LineParts.{Columns}
 use Rattle.writer_lines.proofs.put_columns.Given as goal
 
 abbrev pub invariant-loop-k : goal.invariant-loop-k

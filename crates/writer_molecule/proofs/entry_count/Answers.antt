@@ -1,7 +1,6 @@
 -- `writer_molecule::entry_count` meets its contract.
 use borrow.Author.Rules.{rules}
-use Prim.Native.Nat.{◌-◌}
-use Rattle.writer_molecule.specs.Listing.{Counting, counting_laws}
+use Rattle.writer_molecule.specs.Listing.{counting_laws}
 use Rattle.writer_molecule.proofs.entry_count.Goals as goal
 
 pub loop-i-preserved : goal.loop-i-preserved

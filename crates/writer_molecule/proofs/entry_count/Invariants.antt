@@ -1,6 +1,4 @@
-use borrow.Author.Rules.{rules}
-use Prim.Native.Nat.{◌-◌}
-use Rattle.writer_molecule.specs.Listing.{Counting, counting_laws}
+use Rattle.writer_molecule.specs.Listing.{Counting}
 use Rattle.writer_molecule.proofs.entry_count.Given as goal
 
 abbrev pub invariant-loop-i : goal.invariant-loop-i

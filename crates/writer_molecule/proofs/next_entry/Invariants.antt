@@ -1,6 +1,4 @@
-use borrow.Author.Rules.{rules}
-use Prim.Native.Nat.{◌-◌}
-use Rattle.writer_molecule.specs.Listing.{Seeking, seeking_laws}
+use Rattle.writer_molecule.specs.Listing.{Seeking}
 use Rattle.writer_molecule.proofs.next_entry.Given as goal
 
 abbrev pub invariant-loop-j : goal.invariant-loop-j

@@ -1,10 +1,8 @@
-use borrow.Author.Rules.{rules}
-use Prim.Native.Nat.{◌-◌}
 use mathlib.Core.List.{List}
 use lib.IntN.{ℤ, pos}
 use lib.ListN.{get_or}
 use Rattle.rules.specs.Canon.{is_zero}
-use Rattle.writer_tables.proofs.Loops.{Walking, walking}
+use Rattle.writer_tables.proofs.Loops.{Walking}
 use Rattle.writer_tables.proofs.all_zero.Given as goal
 
 abbrev pub invariant-loop-i : goal.invariant-loop-i

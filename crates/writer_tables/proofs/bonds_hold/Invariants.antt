@@ -1,10 +1,8 @@
-use borrow.Author.Rules.{rules}
-use Prim.Native.Nat.{◌-◌}
 use mathlib.Core.List.{List}
 use lib.IntN.{ℤ}
 use Rattle.rules.specs.Canon.{bond_row}
 use Rattle.writer_row.specs.Row.{bond_holds}
-use Rattle.writer_tables.proofs.Loops.{Walking, walking}
+use Rattle.writer_tables.proofs.Loops.{Walking}
 use Rattle.writer_tables.proofs.bonds_hold.Given as goal
 
 abbrev pub invariant-loop-bond : goal.invariant-loop-bond

@@ -1,6 +1,5 @@
 -- `writer_tables::repeated_pair` meets its contract.
-use Prim.Native.Nat.{◌-◌}
-use Rattle.writer_tables.proofs.Pairs.{Walk, Search, walking}
+use Rattle.writer_tables.proofs.Pairs.{walking}
 use borrow.Author.Rules.{rules}
 use Rattle.writer_tables.proofs.repeated_pair.Goals as goal
 

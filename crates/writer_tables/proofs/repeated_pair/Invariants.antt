@@ -1,6 +1,4 @@
-use Prim.Native.Nat.{◌-◌}
-use Rattle.writer_tables.proofs.Pairs.{Walk, Search, walking}
-use borrow.Author.Rules.{rules}
+use Rattle.writer_tables.proofs.Pairs.{Walk, Search}
 use Rattle.writer_tables.proofs.repeated_pair.Given as goal
 
 abbrev pub invariant-loop-j : goal.invariant-loop-j
