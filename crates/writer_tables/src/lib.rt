@@ -116,7 +116,7 @@ pub fn repeated_pair(bonds: &[i32], m: u32) -> Repeat
 {
     let count = m as usize;
     let mut keys = [0u32; KEYS];
-    'walk: for i in 0..count {
+    for i in 0..count {
         let key = key_at(bonds, i);
         for j in reader_pairs::near_key(&keys, i, key)..i {
             if same_at(bonds, i, j) {
