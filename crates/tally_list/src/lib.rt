@@ -1,7 +1,7 @@
 // A lent list of tally records: a name found, a tally inserted, a record added. Each says of the list what the flat layer says of its arrays.
 #![tactic(auto)]
 
-ghost use Rattle.std.specs.Prelude.{◌≡◌, ◌-◌, ◌<◌, ◌≤◌, length, set, take};
+ghost use Rattle.std.specs.Prelude.{◌≡◌, ◌-◌, ◌<◌, ◌≤◌, length, set, take, not, position};
 ghost use Rattle.tally_rules.specs.Tally.{order, fresh, one_more, added, longest, most_records};
 ghost use Rattle.tally_flat.specs.Flat.{now_of, laid_by};
 ghost use Rattle.tally_good.specs.Judge.{is_before as comesBefore};
@@ -47,17 +47,19 @@ pub fn before(t: Tally, name: &[u8]) -> bool
     is_before(order_front(&bytes, t.length as usize, name))
 }
 
+// The first of these tallies whose name does not come before this one.
+fn first_not_before(list: &[Tally], name: &[u8]) -> Option<usize>
+    ensures { result ≡ position (λ t. not (is_before t name.now)) list.now }
+{
+    list.iter().position(|t| !before(*t, name))
+}
+
 // The first of the first `used` tallies whose name does not come before this one; `used` if all do.
 pub fn find(list: &[Tally], used: usize, name: &[u8]) -> usize
     requires { used ≤ length list.now }
     ensures { result ≡ place_from name.now 0 (take used list.now) }
 {
-    for i in 0..used {
-        if !before(list[i], name) {
-            return i;
-        }
-    }
-    used
+    first_not_before(&list[..used], name).unwrap_or(used)
 }
 
 // A new tally at its place: those from there on move one place up first.
