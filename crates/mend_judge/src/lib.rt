@@ -71,18 +71,13 @@ impl Judge {
 }
 
 // Whether one of the first `count` keys is this one.
-#[tactic(auto, using(crate::specs::Bonds::repeat_laws))]
 fn repeats(keys: &[u32; KEYS], count: usize, key: u32) -> bool
     requires count_le_limit { count ≤ limit }
     requires keys_len { length keys.now ≡ limit }
     ensures { result ≡ elem key (take count keys.now) }
 {
-    for j in reader_pairs::near_key(keys, count, key)..count {
-        if keys[j] == key {
-            return true;
-        }
-    }
-    false
+    let near = reader_pairs::near_key(keys, count, key);
+    keys[near..count].contains(&key)
 }
 
 // A bond line that is good but for its pair.
