@@ -211,13 +211,13 @@ fn pair_apart(
 }
 
 // Records after `from` up to `to`, which one file has alone.
+#[tactic(auto, using(crate::specs::Walking::resting_laws))]
 fn rest_records(list: &mut [i64], count: Count, from: usize, to: usize, side: u8) -> Count
     requires { (from ≤ to) × (to < 2 ^ 63) }
     ensures { log list.new result ≡ noted (log list.old count) (alone_records side from (to - from)) }
 {
     let mut c = count;
-    let mut k = from;
-    while k < to {
+    for k in from..to {
         let spot = Place {
             position: k + 1,
             part: 10,
@@ -225,7 +225,6 @@ fn rest_records(list: &mut [i64], count: Count, from: usize, to: usize, side: u8
             field: 0,
         };
         c = compare_tables::put(list, c, spot, side, 0, 0);
-        k += 1;
     }
     c
 }
@@ -250,6 +249,7 @@ fn files_apart(
     let mut a = Cursor::new();
     let mut b = Cursor::new();
     let mut c = Count { skip: 0, seen: 0 };
+    // Two cursors jump by records of any length and count them: a `for` would count them a second time.
     while a.records < both {
         let i = a.at;
         let j = b.at;

@@ -85,6 +85,7 @@ fn both_values(
     let mut y = j;
     let mut k: usize = 1;
     let mut c = count;
+    // Two places jump by lines of any length, and k is an answer too: a `for` would need an iterator over both.
     loop {
         let Value::Line { end: e, next: n } = value_at(a, x) else {
             return Both {
@@ -130,6 +131,7 @@ fn rest_values(list: &mut [i64], count: Count, p: Place, side: u8, s: &[u8], at:
     let mut x = at;
     let mut k = p.field;
     let mut c = count;
+    // The place jumps by lines of any length: a `for` would need an iterator over them, with a proof of its own.
     loop {
         match value_at(s, x) {
             Value::Line { end: _, next } => {
@@ -156,6 +158,7 @@ fn past_item(s: &[u8], at: usize) -> usize
     ensures { Passed s.now at result }
 {
     let mut x = at;
+    // The place jumps by lines of any length: a `for` would need an iterator over them, with a proof of its own.
     loop {
         match value_at(s, x) {
             Value::Line { end: _, next } => {
@@ -241,6 +244,7 @@ fn rest_items(list: &mut [i64], count: Count, p: Place, side: u8, s: &[u8], at: 
     let mut x = at;
     let mut k = p.index;
     let mut c = count;
+    // The place jumps by items of any length: a `for` would need an iterator over them, with a proof of its own.
     loop {
         let LineAt::Line { end: _, next } = text::line_at(s, x) else {
             return c;
@@ -266,6 +270,7 @@ pub fn items_apart(list: &mut [i64], count: Count, position: usize, a: &[u8], b:
     let mut y: usize = 0;
     let mut k: usize = 1;
     let mut c = count;
+    // Two places jump by items of any length: a `for` would need an iterator over both, with a proof of its own.
     loop {
         let LineAt::Line { end: e, next: n } = text::line_at(a, x) else {
             let rest = Place {

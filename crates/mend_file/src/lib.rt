@@ -73,6 +73,7 @@ fn walk_lines(
     let mut judge = Judge::new(false);
     let mut m = Mender::new();
     let mut tail = false;
+    // A line may be dropped, put before or looked at twice: no `for` over lines says where the next turn starts.
     while m.at < s.len() {
         let at = m.at;
         let p = mend_lines::piece_at(s, at);

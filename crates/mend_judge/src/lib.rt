@@ -64,14 +64,8 @@ fn repeats(keys: &[u32; KEYS], count: usize, key: u32) -> bool
     requires keys_len { length keys.now ≡ limit }
     ensures { result ≡ elem key (take count keys.now) }
 {
-    let mut j = reader_pairs::near_key(keys, count, key);
-    while j < count {
-        if keys[j] == key {
-            return true;
-        }
-        j += 1;
-    }
-    false
+    let near = reader_pairs::near_key(keys, count, key);
+    keys[near..count].contains(&key)
 }
 
 // A bond line that is good but for its pair.

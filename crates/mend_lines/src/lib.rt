@@ -74,6 +74,7 @@ fn blank_from(s: &[u8], at: usize) -> bool
     ensures { result ≡ blank_from s.now at }
 {
     let mut i = at;
+    // The place jumps by lines of any length: a `for` would need an iterator over them, with a proof of its own.
     while i < s.len() {
         let p = piece_at(s, i);
         let end = p.end;

@@ -106,6 +106,7 @@ fn values_at(s: &[u8], at: usize) -> ValuesAt
     let mut to: usize = 0;
     let mut i = at;
     let mut line: usize = 2;
+    // The place jumps by lines of any length: a `for` would need an iterator over them, with a proof of its own.
     loop {
         let LineAt::Line { end, next } = text::line_at(s, i) else {
             return ValuesAt::Refused {

@@ -41,6 +41,7 @@ fn walk_lines(
     let mut notes = Notes::new();
     let mut at: usize = 0;
     let mut line: usize = 1;
+    // The place jumps by lines of any length: a `for` would need an iterator over them, with a proof of its own.
     let repeat = 'walk: loop {
         let LineAt::Line { end, next } = text::line_at(s, at) else {
             return reader_end::ended(s.len() - at, reader, notes, at, line);
@@ -55,8 +56,7 @@ fn walk_lines(
             Ok(Taken::Bond(r, b)) => {
                 let key = reader_pairs::pair_key(b.first, b.second);
                 let count = notes.bonds;
-                let mut j = reader_rows::first_key(rows, keys, count, key);
-                while j < count {
+                for j in reader_rows::first_key(rows, keys, count, key)..count {
                     if keys[j] == key {
                         break 'walk Repeat {
                             earlier: j + 1,
@@ -64,7 +64,6 @@ fn walk_lines(
                             line,
                         };
                     }
-                    j += 1;
                 }
                 notes = reader_line::keep_bond(notes, b, key, bonds, keys);
                 reader_rows::mark(rows, key);

@@ -176,6 +176,7 @@ fn judge_part(s: &[u8], start: Place) -> PartJudged
     let mut at: usize = 0;
     let mut line: usize = 1;
     let mut size: usize = 0;
+    // The place jumps by lines of any length: a `for` would need an iterator over them, with a proof of its own.
     while at < s.len() {
         let LineAt::Line { end, next } = text::line_at(s, at) else {
             return cut_short(line);
@@ -263,6 +264,7 @@ pub fn size_headers(s: &[u8]) -> usize
 {
     let mut at: usize = 0;
     let mut size: usize = 0;
+    // The place jumps by lines of any length: a `for` would need an iterator over them, with a proof of its own.
     while at < s.len() {
         let line = line_judged::whole_line(s, at);
         size += line.end - at + 1;
@@ -279,6 +281,7 @@ pub fn size_items(s: &[u8]) -> usize
     let mut inside = false;
     let mut at: usize = 0;
     let mut size: usize = 0;
+    // The place jumps by lines of any length: a `for` would need an iterator over them, with a proof of its own.
     while at < s.len() {
         let line = line_judged::whole_line(s, at);
         let end = line.end;

@@ -1,11 +1,9 @@
 -- `reader_walk::walk_lines` meets its contract.
 use borrow.Author.Rules.{rules}
-use Rattle.std.proofs.Common.{ap, ◌∙◌, Ok}
-use Prim.Native.Nat.{◌-◌}
-use lib.ListN.{length}
-use mathlib.Core.Path.{refl, sym, ◌∙◌}
-use Rattle.reader_walk.specs.Walking.{Walking, line_laws, bonds_room, bonds_size, rows_size, fits_next, walking_less, bond_beside, took_size}
-use Rattle.reader_walk.specs.Pairing.{Pairing, pair_laws, first_small, second_small, pair_asks, pairing_start, pairing_keeps, pairing_fits, pairing_end, pairing_found, repeat_fits, found_asked, found_left, found_rows}
+use Rattle.std.proofs.Common.{ap, Ok}
+use mathlib.Core.Path.{sym, ◌∙◌}
+use Rattle.reader_walk.specs.Walking.{line_laws, bonds_room, bonds_size, rows_size, fits_next, walking_less, bond_beside, took_size}
+use Rattle.reader_walk.specs.Pairing.{pair_laws, first_small, second_small, pair_asks, pairing_start, pairing_keeps, pairing_fits, pairing_end, pairing_found, repeat_fits, found_asked, found_left, found_rows}
 use Rattle.reader_walk.specs.AtEnd.{end_asked, at_end_laws}
 use Rattle.reader_walk.proofs.walk_lines.Goals as goal
 
@@ -84,9 +82,6 @@ overflow_add-repeat c = search (rules, pair_laws)
 
 pub overflow_add-repeat-then-keys-j : goal.overflow_add-repeat-then-keys-j
 overflow_add-repeat-then-keys-j c = search (rules, pair_laws)
-
-pub overflow_add-j : goal.overflow_add-j
-overflow_add-j c = search (rules, pair_laws)
 
 pub loop-j-preserved : goal.loop-j-preserved
 loop-j-preserved c = search (rules, pair_laws)
