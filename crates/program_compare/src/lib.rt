@@ -35,10 +35,10 @@ impl Sum {
     fn with(self, out: Out, differences: u64) -> Sum {
         let mut sum = self;
         sum.out = out;
-        sum.differences = program_verdict::plus(self.differences, differences);
-        sum.records = program_verdict::plus(self.records, 1);
+        sum.differences = self.differences.saturating_add(differences);
+        sum.records = self.records.saturating_add(1);
         if 0 < differences {
-            sum.places = program_verdict::plus(self.places, 1);
+            sum.places = self.places.saturating_add(1);
         }
         sum
     }
@@ -130,7 +130,7 @@ fn put_alone(
     headers: &[u8],
 ) -> Sum {
     let row = Row {
-        record: program_verdict::plus(sum.records, 1),
+        record: sum.records.saturating_add(1),
         part: 10,
         place: 0,
         field: 0,
@@ -160,7 +160,7 @@ fn put_place(
     ua: &[i32; ATOMS],
     ub: &[i32; BONDS],
 ) -> Sum {
-    let number = program_verdict::plus(sum.records, 1);
+    let number = sum.records.saturating_add(1);
     let headers = program_io::front(s, x.header_end);
     let new_headers = program_io::front(u, y.header_end);
     if x.length == 0 {
@@ -210,9 +210,9 @@ fn put_place(
             new_items,
         );
         if rows <= WINDOW {
-            return sum.with(told.out, program_io::plus(skip, rows) as u64);
+            return sum.with(told.out, skip.saturating_add(rows) as u64);
         }
-        skip = program_io::plus(skip, WINDOW);
+        skip = skip.saturating_add(WINDOW);
         if turns < 1 {
             return sum.with(told.out, skip as u64);
         }

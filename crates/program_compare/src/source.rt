@@ -81,7 +81,7 @@ impl Source {
                 items_end,
             } => {
                 let mut source = self;
-                source.at = program_io::plus(self.at, length);
+                source.at = self.at.saturating_add(length);
                 Next {
                     met: Met::Record,
                     shape: Shape {

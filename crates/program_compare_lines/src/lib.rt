@@ -229,12 +229,12 @@ fn name_of(b: u8, row: Row) -> usize {
         if row.part == 5 {
             return row.field as usize;
         }
-        return program_io::plus(row.field as usize, 16);
+        return (row.field as usize).saturating_add(16);
     }
     if b == b'S' {
-        return program_io::plus(row.side as usize, 22);
+        return (row.side as usize).saturating_add(22);
     }
-    program_io::plus(row.side as usize, 24)
+    (row.side as usize).saturating_add(24)
 }
 
 fn plural(n: u64) -> Text {
@@ -393,7 +393,7 @@ pub fn put_rows<'a, 'b>(
             new_headers,
             new_items,
         );
-        at = program_io::plus(at, 7);
+        at = at.saturating_add(7);
         left -= 1;
     }
     next

@@ -77,16 +77,16 @@ impl Spot {
             if text::is_blank(line) {
                 spot.inside = false;
             } else {
-                spot.line = program_io::plus(self.line, 1);
+                spot.line = self.line.saturating_add(1);
             }
             return spot;
         }
         let name = span_of(line);
-        spot.item = program_io::plus(self.item, 1);
+        spot.item = self.item.saturating_add(1);
         spot.line = 0;
         spot.inside = true;
-        spot.name_from = program_io::plus(self.next, name.from);
-        spot.name_to = program_io::plus(self.next, name.to);
+        spot.name_from = self.next.saturating_add(name.from);
+        spot.name_to = self.next.saturating_add(name.to);
         spot
     }
 

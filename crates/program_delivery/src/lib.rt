@@ -255,11 +255,11 @@ fn look(
 // The rest moved to the front, and more read behind it.
 fn refill(system: &System, place: Place, input: Input<'_>, buf: &mut [u8]) -> Did {
     let kept = program_io::keep(buf, place.at, place.filled);
-    let done = program_verdict::plus(place.done, least(place.at, place.filled) as u64);
+    let done = place.done.saturating_add(least(place.at, place.filled) as u64);
     match program_io::fill(input, buf, kept) {
         Filled::Bytes(n) => {
-            let before = program_verdict::plus(done, kept as u64);
-            let after = program_verdict::plus(done, n as u64);
+            let before = done.saturating_add(kept as u64);
+            let after = done.saturating_add(n as u64);
             program_verdict::note_passed(system, place.progress, before, after);
             Did::Next(place.refilled(done, n))
         }

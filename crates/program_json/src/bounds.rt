@@ -33,7 +33,7 @@ pub fn first_end(s: &[u8]) -> Ends {
         let LineAt::Line { end, next } = text::line_at(s, at) else {
             return Ends::Beyond;
         };
-        lines = program_io::plus(lines, 1);
+        lines = lines.saturating_add(1);
         if is_last(crate::part(s, at, end), lines) {
             return Ends::At {
                 length: next,

@@ -264,7 +264,7 @@ pub fn run(system: &System, task: Task, sd: bool, item: &[u8], from: usize) {
     let progress = program_io::is_argument(system, from, b"--progress");
     let way = Way { task, sd, progress };
     if progress {
-        write_arguments(system, way, item, program_io::plus(from, 1));
+        write_arguments(system, way, item, from.saturating_add(1));
     } else {
         write_arguments(system, way, item, from);
     }

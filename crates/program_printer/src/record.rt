@@ -16,9 +16,9 @@ use writer_copy::Copied;
 fn behind(pass: Pass, length: usize, lines: usize, out: Out) -> Stepped {
     if out.good {
         let mut next = pass;
-        next.at = program_io::plus(pass.at, length);
-        next.records = program_io::plus(pass.records, 1);
-        next.lines = program_io::plus(pass.lines, lines);
+        next.at = pass.at.saturating_add(length);
+        next.records = pass.records.saturating_add(1);
+        next.lines = pass.lines.saturating_add(lines);
         next.out = out;
         return Stepped::Next(next);
     }
@@ -35,8 +35,8 @@ fn refused(no: u8) -> Stepped {
 
 fn place_of(pass: Pass) -> Place {
     Place {
-        record: program_io::plus(pass.records, 1),
-        line: program_io::plus(pass.lines, 1),
+        record: pass.records.saturating_add(1),
+        line: pass.lines.saturating_add(1),
     }
 }
 
@@ -159,7 +159,7 @@ fn put_split(
         &mut sizes,
     ) {
         RecordSplit::Pieces { atoms: n, count } => {
-            let number = program_io::plus(pass.records, 1);
+            let number = pass.records.saturating_add(1);
             let begun = program_pieces::put_pieces(pass.out, room, number, &heads, &sizes, count);
             let out = program_pieces::put_labels(begun, room, &labels, n);
             behind(pass, length, lines, out)
@@ -229,7 +229,7 @@ fn told_apart(pass: Pass, agrees: bool) -> Pass {
         return pass;
     }
     let mut next = pass;
-    next.apart = program_io::plus(pass.apart, 1);
+    next.apart = pass.apart.saturating_add(1);
     next
 }
 
@@ -246,7 +246,7 @@ fn put_formula(
     };
     let record = program_io::front(s, length);
     let mut found = [0u32; FOUND];
-    let number = program_io::plus(pass.records, 1);
+    let number = pass.records.saturating_add(1);
     match formula_record::compare_formula(record, atoms, bonds, &mut found) {
         Compared::Differ { count } => {
             let out = program_formula::put_differences(pass.out, room, number, count, &found);

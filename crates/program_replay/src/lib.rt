@@ -26,8 +26,8 @@ impl Pass {
         let reading = self.reading;
         let mut pass = self;
         pass.reading = reading.past(next);
-        pass.received = program_verdict::plus(self.received, received as u64);
-        pass.issued = program_verdict::plus(self.issued, issued as u64);
+        pass.received = self.received.saturating_add(received as u64);
+        pass.issued = self.issued.saturating_add(issued as u64);
         pass
     }
 

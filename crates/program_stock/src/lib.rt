@@ -178,7 +178,7 @@ fn put_lots(
         if row.line > 0 {
             apart = true;
         }
-        paper = program_verdict::plus(paper, row.paper());
+        paper = paper.saturating_add(row.paper());
         i += 1;
     }
     Written { out, paper, apart }
@@ -206,11 +206,11 @@ fn list(
 
 // Lots and their paper, records, those received, never received and without a key.
 fn totals_of(lots: usize, paper: u64, join: Join) -> [u64; 6] {
-    let listed = program_verdict::plus(join.never, join.keyless);
+    let listed = join.never.saturating_add(join.keyless);
     [
         lots as u64,
         paper,
-        program_verdict::plus(join.received, listed),
+        join.received.saturating_add(listed),
         join.received,
         join.never,
         join.keyless,

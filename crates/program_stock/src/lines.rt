@@ -268,7 +268,7 @@ fn cell(minus: bool, n: u64, width: usize) -> Text {
     let mut digits = [0u8; 20];
     let k = io::decimal(n, &mut digits);
     if minus {
-        let before = spaces(program_io::plus(k, 1), width);
+        let before = spaces(k.saturating_add(1), width);
         return before.byte(b'-').word(&digits[..k]);
     }
     spaces(k, width).word(&digits[..k])
@@ -378,7 +378,7 @@ fn put_file(system: &System, out: Out, room: &mut [u8; ROOM], json: bool, file: 
         return out.bytes(room, b"null");
     }
     let mut name = io::buffer();
-    let place = program_io::plus(crate::path_argument(file), 1);
+    let place = crate::path_argument(file).saturating_add(1);
     match system.argument(place, &mut name) {
         Ok(n) => put_name(out, room, json, program_io::front(&name, n)),
         Err(_) => out,

@@ -144,7 +144,7 @@ fn take_front(
     }
     if out.good {
         let mut next = pass;
-        next.at = program_io::plus(pass.at, length);
+        next.at = pass.at.saturating_add(length);
         next.join = join;
         next.out = out;
         return next;

@@ -103,7 +103,7 @@ fn count_part(s: &[u8], before: usize, place: Place) -> Place {
             counter,
             kept: place.kept,
             no,
-            record: program_io::plus(before, record),
+            record: before.saturating_add(record),
             book,
         },
     }
@@ -139,7 +139,7 @@ fn next(place: Place) -> Turn {
 
 // The buffer holds n bytes: its whole records are judged and counted.
 fn take_part(buf: &mut [u8], n: usize, place: Place) -> Turn {
-    let part = program_io::front(buf, program_io::least(n, ROOM));
+    let part = program_io::front(buf, n.min(ROOM));
     let before = place.counter;
     match before.take(part, n <= ROOM, ROOM) {
         Fed::More { counter, used } => {
@@ -225,7 +225,7 @@ fn count_open(file: &File, was: Book) -> Settled {
 
 // The month with a file of this verdict.
 fn with_file(month: Month, settled: Settled) -> Month {
-    let files = program_io::plus(month.files, 1);
+    let files = month.files.saturating_add(1);
     let verdict = settled.verdict;
     let book = settled.book;
     match verdict {
@@ -236,7 +236,7 @@ fn with_file(month: Month, settled: Settled) -> Month {
         },
         _ => Month {
             files,
-            refused: program_io::plus(month.refused, 1),
+            refused: month.refused.saturating_add(1),
             book,
         },
     }
@@ -245,8 +245,8 @@ fn with_file(month: Month, settled: Settled) -> Month {
 fn unread(month: Month) -> Month {
     let book = month.book;
     Month {
-        files: program_io::plus(month.files, 1),
-        refused: program_io::plus(month.refused, 1),
+        files: month.files.saturating_add(1),
+        refused: month.refused.saturating_add(1),
         book,
     }
 }
@@ -297,7 +297,7 @@ fn count_arguments(system: &System, from: usize) -> Month {
 // The files that the arguments from `from` on name, perhaps after `--json`; then the report.
 pub fn run(system: &System, from: usize) {
     if program_io::is_argument(system, from, b"--json") {
-        let month = count_arguments(system, program_io::plus(from, 1));
+        let month = count_arguments(system, from.saturating_add(1));
         lines::write_json(system, month);
     } else {
         let month = count_arguments(system, from);

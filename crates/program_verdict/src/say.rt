@@ -94,16 +94,10 @@ fn complain(system: &System, name: &[u8], v: Verdict) {
 
 // Whether a file was read to a verdict on its bytes.
 pub fn is_judged(v: Verdict) -> bool {
-    match v {
-        Verdict::Accepted { records: _ } => true,
-        Verdict::Refused {
-            no: _,
-            line: _,
-            column: _,
-        } => true,
-        Verdict::TooLong { record: _ } => true,
-        _ => false,
-    }
+    matches!(
+        v,
+        Verdict::Accepted { .. } | Verdict::Refused { .. } | Verdict::TooLong { .. }
+    )
 }
 
 // The line on standard output, behind the file's name where it is to stand there.
