@@ -16,10 +16,7 @@ fn of_record(record: usize, word: &[u8]) -> Text {
 // The symbol of this number behind a text; nothing where no symbol has it.
 pub fn symbol(text: Text, k: u64) -> Text {
     let mut letters = [b' '; 3];
-    if k == 0 {
-        return text;
-    }
-    if k > SYMBOLS as u64 {
+    if k == 0 || k > SYMBOLS as u64 {
         return text;
     }
     field_symbols_put::put_symbol(&mut letters, 0, k as u32);
@@ -56,18 +53,9 @@ pub fn put_differences(
     found: &[u32; FOUND],
 ) -> Out {
     let mut o = out.text(room, of_record(record, b",\"differs\":["));
-    let mut i: usize = 0;
-    let mut k: usize = 0;
-    while i + 3 <= FOUND {
-        if k >= count {
-            return o.text(room, Text::new().word(b"]}\n"));
-        }
-        o = o.text(
-            room,
-            difference(k == 0, found[i], found[i + 1], found[i + 2]),
-        );
-        i += 3;
-        k += 1;
+    let (differences, _) = found.as_chunks::<3>();
+    for (k, [element, written, drawn]) in differences.iter().take(count).enumerate() {
+        o = o.text(room, difference(k == 0, *element, *written, *drawn));
     }
     o.text(room, Text::new().word(b"]}\n"))
 }

@@ -1,21 +1,8 @@
 // The pieces of a record as a line of JSON: the pieces first, then each atom's lowest.
 #![tactic(auto)]
 
-ghost use Rattle.std.specs.Prelude.{◌≤◌};
-ghost use Rattle.rules.specs.Record.{limit};
-
 use program_io::{Out, Text};
 use rules::LIMIT;
-
-// So many numbers of a list, or all that it has.
-fn at_most(n: usize) -> usize
-    ensures { result ≤ limit }
-{
-    if n < LIMIT {
-        return n;
-    }
-    LIMIT
-}
 
 // What stands before all but the first of a list.
 fn comma(i: usize) -> Text {
@@ -50,11 +37,8 @@ pub fn put_pieces(
     count: usize,
 ) -> Out {
     let mut next = out.text(room, opening(record));
-    let last = at_most(count);
-    let mut i: usize = 0;
-    while i < last {
-        next = next.text(room, piece(i, heads[i], sizes[i]));
-        i += 1;
+    for (i, (head, size)) in heads.iter().zip(sizes).take(count).enumerate() {
+        next = next.text(room, piece(i, *head, *size));
     }
     next
 }
@@ -62,11 +46,8 @@ pub fn put_pieces(
 // The rest of it: the labels of n atoms.
 pub fn put_labels(out: Out, room: &mut [u8], labels: &[u32; LIMIT], n: u32) -> Out {
     let mut next = out.bytes(room, b"],\"atoms\":[");
-    let last = at_most(n as usize);
-    let mut i: usize = 0;
-    while i < last {
-        next = next.text(room, label(i, labels[i]));
-        i += 1;
+    for (i, lowest) in labels.iter().take(n as usize).enumerate() {
+        next = next.text(room, label(i, *lowest));
     }
     next.bytes(room, b"]}\n")
 }
