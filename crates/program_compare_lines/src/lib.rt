@@ -31,10 +31,7 @@ pub struct Way {
 
 // On to the line of a difference, where the items have one.
 fn sought(spot: Spot, row: Row, other: u64, items: &[u8]) -> Spot {
-    if row.part < 7 {
-        return spot;
-    }
-    if row.side == other {
+    if row.part < 7 || row.side == other {
         return spot;
     }
     spot.seek(items, row.place as usize, row.field as usize)
@@ -141,24 +138,17 @@ pub fn patterns_of(table: &[u8], way: Way) -> &[u8] {
 
 // The place of a difference's pattern.
 fn place_of(row: Row) -> usize {
-    if row.part == 8 {
-        if row.side > 0 {
-            return 10 * ROW;
-        }
+    match row.part {
+        8 if row.side > 0 => 10 * ROW,
+        part @ 1..=13 => ROW * (part - 1) as usize,
+        _ => 0,
     }
-    if row.part == 0 {
-        return 0;
-    }
-    if row.part > 13 {
-        return 0;
-    }
-    ROW * (row.part - 1) as usize
 }
 
 // The title of a record, which is its first header line, behind its number.
 fn put_title(out: Out, room: &mut [u8], headers: &[u8]) -> Out {
     let title = lines::line_of(headers, 1);
-    if title.len() == 0 {
+    if title.is_empty() {
         return out;
     }
     out.byte(room, b' ').bytes(room, title)
@@ -174,15 +164,7 @@ fn put_side(out: Out, room: &mut [u8], side: u64, old: &[u8], new: &[u8]) -> Out
 
 // Whether no text stands at the place of a difference: figures differ, or for programs the text stands on the other side only.
 fn is_short(json: bool, row: Row, other: u64) -> bool {
-    if row.part > 1 {
-        if row.part < 7 {
-            return true;
-        }
-    }
-    if json {
-        return row.side == other;
-    }
-    false
+    matches!(row.part, 2..=6) || json && row.side == other
 }
 
 // A figure, or a text.
@@ -204,19 +186,9 @@ fn put_value(
     out.bytes(room, line)
 }
 
-fn is_mark(b: u8) -> bool {
-    if b < b'A' {
-        return false;
-    }
-    b <= b'Z'
-}
-
 // Name k, from 1 on.
 fn word(k: usize) -> Text {
-    if k == 0 {
-        return Text::new();
-    }
-    if k > 26 {
+    if k == 0 || k > 26 {
         return Text::new();
     }
     let names = program_io::tail(&NAMES, NAME * (k - 1));
@@ -294,10 +266,8 @@ fn put_line(
 ) -> Out {
     let pattern = program_io::tail(patterns, place_of(row));
     let mut next = out;
-    let mut i: usize = 0;
-    while i < pattern.len() {
-        let b = pattern[i];
-        if is_mark(b) {
+    for &b in pattern {
+        if b.is_ascii_uppercase() {
             next = put_piece(next, room, b, json, row, headers, name, new_name, old, new);
         } else {
             next = next.byte(room, b);
@@ -305,7 +275,6 @@ fn put_line(
         if b == b'\n' {
             return next;
         }
-        i += 1;
     }
     next
 }
@@ -376,25 +345,19 @@ pub fn put_rows<'a, 'b>(
     new_items: &'b [u8],
 ) -> Told {
     let mut next = told;
-    let mut left = count;
-    let mut at: usize = 0;
-    while left > 0 {
-        if list.len() <= at {
-            return next;
-        }
+    let (rows, _) = list.as_chunks::<7>();
+    for numbers in rows.iter().take(count) {
         next = put_row(
             next,
             room,
             patterns,
             json,
-            say::row_at(list, at),
+            say::row_of(numbers),
             headers,
             items,
             new_headers,
             new_items,
         );
-        at = at.saturating_add(7);
-        left -= 1;
     }
     next
 }

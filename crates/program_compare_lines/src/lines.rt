@@ -5,16 +5,14 @@ use text::LineAt;
 // Line k of a text; an empty one where there is none.
 pub fn line_of(s: &[u8], k: u64) -> &[u8] {
     let mut at: usize = 0;
-    let mut left = k;
-    while left > 0 {
+    for before in 0..k {
         let LineAt::Line { end, next } = text::line_at(s, at) else {
             return program_io::front(s, 0);
         };
-        if left == 1 {
+        if before + 1 == k {
             return program_json::part(s, at, end);
         }
         at = next;
-        left -= 1;
     }
     program_io::front(s, 0)
 }
@@ -101,13 +99,11 @@ impl Spot {
     // On to a line of an item. A line has at least one byte, so the bytes are more turns than are needed.
     pub fn seek(self, s: &[u8], item: usize, line: usize) -> Spot {
         let mut spot = self;
-        let mut turns = s.len();
-        while turns > 0 {
+        for _ in 0..s.len() {
             if spot.is_at(item, line) {
                 return spot;
             }
             spot = spot.step(s);
-            turns -= 1;
         }
         spot
     }

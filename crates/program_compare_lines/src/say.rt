@@ -13,58 +13,31 @@ pub struct Row {
     pub right: i64,
 }
 
-// A number of the list; 0 where it has none there.
-fn number_at(list: &[i64], at: usize, k: usize) -> i64 {
-    if at < list.len() {
-        if k < list.len() - at {
-            return list[at + k];
-        }
-    }
-    0
-}
-
-// The row at a place of the list.
-pub fn row_at(list: &[i64], at: usize) -> Row {
+// A difference from its seven numbers.
+pub fn row_of(numbers: &[i64; 7]) -> Row {
+    let [record, part, place, field, side, left, right] = *numbers;
     Row {
-        record: size_of(number_at(list, at, 0)),
-        part: size_of(number_at(list, at, 1)),
-        place: size_of(number_at(list, at, 2)),
-        field: size_of(number_at(list, at, 3)),
-        side: size_of(number_at(list, at, 4)),
-        left: number_at(list, at, 5),
-        right: number_at(list, at, 6),
+        record: record.unsigned_abs(),
+        part: part.unsigned_abs(),
+        place: place.unsigned_abs(),
+        field: field.unsigned_abs(),
+        side: side.unsigned_abs(),
+        left,
+        right,
     }
-}
-
-// A number without its sign.
-fn size_of(v: i64) -> u64 {
-    if v < 0 {
-        return (-1 - v) as u64 + 1;
-    }
-    v as u64
-}
-
-fn sign(v: i64) -> Text {
-    if v < 0 {
-        return Text::new().byte(b'-');
-    }
-    Text::new()
-}
-
-fn digit(n: u64) -> u8 {
-    48 + (n % 10) as u8
 }
 
 // Ten-thousandths as a decimal number with four decimals.
 fn decimal(v: i64) -> Text {
-    let size = size_of(v);
-    let whole = sign(v).number(size / 10000).byte(b'.');
-    let two = whole.byte(digit(size / 1000)).byte(digit(size / 100));
-    two.byte(digit(size / 10)).byte(digit(size))
+    let sign = if v < 0 { "-" } else { "" };
+    let size = v.unsigned_abs();
+    let whole = size / 10000;
+    let rest = size % 10000;
+    Text::new().print(format_args!("{sign}{whole}.{rest:04}"))
 }
 
 fn integer(v: i64) -> Text {
-    sign(v).number(size_of(v))
+    Text::new().print(v)
 }
 
 // A figure as people read it, or as JSON, where coordinates are whole numbers of ten-thousandths, and null stands for a text that is not there.
@@ -77,10 +50,10 @@ pub fn figure(row: Row, json: bool, v: i64) -> Text {
     }
     if row.field == 4 {
         if json {
-            let quoted = program_formula::symbol(Text::new().byte(b'"'), size_of(v));
+            let quoted = program_formula::symbol(Text::new().byte(b'"'), v.unsigned_abs());
             return quoted.byte(b'"');
         }
-        return program_formula::symbol(Text::new(), size_of(v));
+        return program_formula::symbol(Text::new(), v.unsigned_abs());
     }
     if row.field < 4 {
         if json {

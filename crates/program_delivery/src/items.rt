@@ -113,14 +113,7 @@ impl Looked {
     }
 
     // The name in the data header at byte k.
-    fn note(
-        self,
-        s: &[u8],
-        k: usize,
-        name: &[u8],
-        names: &mut Names,
-        room: &mut [u8],
-    ) -> Looked {
+    fn note(self, s: &[u8], k: usize, name: &[u8], names: &mut Names, room: &mut [u8]) -> Looked {
         if names.note(&padded(name), self.record as u64) {
             return self.warn(b"twice ", s, k, name, room);
         }
@@ -202,7 +195,11 @@ pub fn look_over(
 fn put_name(out: Out, room: &mut [u8], name: &Name) -> Out {
     let text = Text::new().word(b"item ").number(name.records).byte(b' ');
     let length = name.bytes.iter().position(|b| *b == 0).unwrap_or(WIDTH);
-    facts::put_quoted(out.text(room, text), room, program_io::front(&name.bytes, length))
+    facts::put_quoted(
+        out.text(room, text),
+        room,
+        program_io::front(&name.bytes, length),
+    )
 }
 
 // Every name with how many records have it; and whether there are more names than are kept.

@@ -7,6 +7,8 @@ mod system;
 ghost use Rattle.std.specs.Prelude.{◌≡◌, true, ◌+◌, ◌-◌, ◌<◌, ◌≤◌, length};
 ghost use Rattle.program_io.specs.Moved.{moved};
 
+use std::fmt;
+use std::fmt::Write;
 use std::io::Stdout;
 pub use system::{Input, Reason, System, Target, go_back, has_place};
 
@@ -101,6 +103,12 @@ impl Text {
         self
     }
 
+    // What a value shows, or several in a format.
+    pub fn print(mut self, what: impl fmt::Display + Drop) -> Text {
+        let _ = write!(self, "{what}");
+        self
+    }
+
     // A number in decimal digits.
     pub fn number(self, n: u64) -> Text {
         let mut digits = [0u8; 20];
@@ -118,6 +126,13 @@ impl Text {
     // All of it is written, or the reason is told why not.
     pub fn write(self, system: &System, to: Target) -> Result<(), Reason> {
         system.write(to, front(&self.bytes, self.used))
+    }
+}
+
+impl fmt::Write for Text {
+    fn write_str(&mut self, s: &str) -> fmt::Result {
+        *self = self.word(s.as_bytes());
+        Ok(())
     }
 }
 

@@ -3,15 +3,16 @@
 
 mod lines;
 
-use program_io::{Filled, Input, System};
+use program_io::{Input, System};
 use program_verdict::Verdict;
 use reader_feed::{Counter, Fed};
 use std::fs::File;
+use std::ops::ControlFlow;
 use tally_file::Tallied;
 use tally_flat::NAMES;
 use tally_rules::{SUPPLIERS, Totals};
 
-// The list, passed on by value.
+// The list, passed on by value. Its arrays are those that C lends, too (`tally_file::tally_flat`).
 #[derive(Clone, Copy)]
 pub struct Book {
     pub names: [u8; NAMES],
@@ -20,22 +21,14 @@ pub struct Book {
     pub totals: Totals,
 }
 
-// The place in a file: records and lines so far, bytes kept at the front of the buffer; the first refusal that a record met, 0 where none did, and which record it was.
+// The place in a file: records and lines so far, bytes kept at the front of the buffer; the first refusal that a record met, with the record in the place of the
+// line.
 #[derive(Drop)]
 struct Place {
     counter: Counter,
     kept: usize,
-    no: u8,
-    record: usize,
+    wrong: Option<Verdict>,
     book: Book,
-}
-
-// A turn: whether the file is at its end, and what is said of it then.
-#[derive(Drop)]
-struct Turn {
-    ended: bool,
-    verdict: Verdict,
-    place: Place,
 }
 
 // A file that is done with.
@@ -73,10 +66,11 @@ fn empty() -> Book {
 
 // Whole records, which stand after so many of the file: counted, unless one before was refused.
 fn count_part(s: &[u8], before: usize, place: Place) -> Place {
-    if place.no != 0 {
+    if place.wrong.is_some() {
         return place;
     }
     let counter = place.counter;
+    let kept = place.kept;
     let book = place.book;
     let mut names = book.names;
     let mut lengths = book.lengths;
@@ -84,9 +78,8 @@ fn count_part(s: &[u8], before: usize, place: Place) -> Place {
     match tally_file::tally_flat(s, &mut names, &mut lengths, &mut counts, book.totals) {
         Tallied::Done { records: _, totals } => Place {
             counter,
-            kept: place.kept,
-            no: 0,
-            record: 0,
+            kept,
+            wrong: None,
             book: Book {
                 names,
                 lengths,
@@ -101,9 +94,12 @@ fn count_part(s: &[u8], before: usize, place: Place) -> Place {
             record,
         } => Place {
             counter,
-            kept: place.kept,
-            no,
-            record: before.saturating_add(record),
+            kept,
+            wrong: Some(Verdict::Refused {
+                no,
+                line: before.saturating_add(record),
+                column: 0,
+            }),
             book,
         },
     }
@@ -111,79 +107,51 @@ fn count_part(s: &[u8], before: usize, place: Place) -> Place {
 
 // The place behind the records that were taken of a buffer with n bytes.
 fn behind(buf: &mut [u8], n: usize, place: Place, counter: Counter, used: usize) -> Place {
-    let book = place.book;
     Place {
         counter,
         kept: program_io::keep(buf, used, n),
-        no: place.no,
-        record: place.record,
-        book,
-    }
-}
-
-fn end(verdict: Verdict, place: Place) -> Turn {
-    Turn {
-        ended: true,
-        verdict,
-        place,
-    }
-}
-
-fn next(place: Place) -> Turn {
-    Turn {
-        ended: false,
-        verdict: Verdict::Endless,
-        place,
+        ..place
     }
 }
 
 // The buffer holds n bytes: its whole records are judged and counted.
-fn take_part(buf: &mut [u8], n: usize, place: Place) -> Turn {
+fn take_part(buf: &mut [u8], n: usize, place: Place) -> ControlFlow<(Verdict, Place), Place> {
     let part = program_io::front(buf, n.min(ROOM));
     let before = place.counter;
     match before.take(part, n <= ROOM, ROOM) {
         Fed::More { counter, used } => {
             let counted = count_part(program_io::front(part, used), before.records, place);
-            next(behind(buf, n, counted, counter, used))
+            ControlFlow::Continue(behind(buf, n, counted, counter, used))
         }
-        Fed::Accepted { records } => end(
-            Verdict::Accepted { records },
-            count_part(part, before.records, place),
-        ),
-        Fed::Refused { no, line, column } => end(Verdict::Refused { no, line, column }, place),
-        Fed::TooLong { record } => end(Verdict::TooLong { record }, place),
+        Fed::Accepted { records } => {
+            let counted = count_part(part, before.records, place);
+            ControlFlow::Break((Verdict::Accepted { records }, counted))
+        }
+        Fed::Refused { no, line, column } => {
+            ControlFlow::Break((Verdict::Refused { no, line, column }, place))
+        }
+        Fed::TooLong { record } => ControlFlow::Break((Verdict::TooLong { record }, place)),
     }
 }
 
-fn take_turn(file: &File, buf: &mut [u8], place: Place) -> Turn {
+fn take_turn(file: &File, buf: &mut [u8], place: Place) -> ControlFlow<(Verdict, Place), Place> {
     match program_io::fill(Input::Opened(file), buf, place.kept) {
-        Filled::Bytes(n) => take_part(buf, n, place),
-        Filled::Failed(why) => end(Verdict::Unreadable(why), place),
+        Ok(n) => take_part(buf, n, place),
+        Err(why) => ControlFlow::Break((Verdict::Unreadable(why), place)),
     }
 }
 
-// Of an accepted file the copy is kept, unless a record of it was refused: that verdict has the record in the place of the line.
-fn accepted(records: usize, place: Place, was: Book) -> Settled {
-    if place.no == 0 {
-        let book = place.book;
-        return Settled {
-            verdict: Verdict::Accepted { records },
-            book,
-        };
-    }
-    Settled {
-        verdict: Verdict::Refused {
-            no: place.no,
-            line: place.record,
-            column: 0,
-        },
-        book: was,
-    }
-}
-
+// Of an accepted file the copy is kept, unless a record of it was refused.
 fn settle(verdict: Verdict, place: Place, was: Book) -> Settled {
-    match verdict {
-        Verdict::Accepted { records } => accepted(records, place, was),
+    match (verdict, place.wrong) {
+        (Verdict::Accepted { .. }, None) => Settled {
+            verdict,
+            book: place.book,
+        },
+        (Verdict::Accepted { .. }, Some(wrong)) => Settled {
+            verdict: wrong,
+            book: was,
+        },
         _ => Settled { verdict, book: was },
     }
 }
@@ -193,20 +161,14 @@ fn count_within(file: &File, buf: &mut [u8], was: Book) -> Settled {
     let mut place = Place {
         counter: Counter::new(),
         kept: 0,
-        no: 0,
-        record: 0,
+        wrong: None,
         book: was,
     };
-    let mut turns = u64::MAX;
-    while turns > 0 {
-        let turn = take_turn(file, buf, place);
-        let after = turn.place;
-        place = after;
-        if turn.ended {
-            let verdict = turn.verdict;
-            return settle(verdict, place, was);
+    for _ in 0..u64::MAX {
+        match take_turn(file, buf, place) {
+            ControlFlow::Continue(next) => place = next,
+            ControlFlow::Break((verdict, last)) => return settle(verdict, last, was),
         }
-        turns -= 1;
     }
     Settled {
         verdict: Verdict::Endless,
@@ -225,29 +187,19 @@ fn count_open(file: &File, was: Book) -> Settled {
 
 // The month with a file of this verdict.
 fn with_file(month: Month, settled: Settled) -> Month {
-    let files = month.files.saturating_add(1);
-    let verdict = settled.verdict;
-    let book = settled.book;
-    match verdict {
-        Verdict::Accepted { records: _ } => Month {
-            files,
-            refused: month.refused,
-            book,
-        },
-        _ => Month {
-            files,
-            refused: month.refused.saturating_add(1),
-            book,
-        },
+    let is_refused = !matches!(settled.verdict, Verdict::Accepted { .. });
+    Month {
+        files: month.files.saturating_add(1),
+        refused: month.refused.saturating_add(usize::from(is_refused)),
+        book: settled.book,
     }
 }
 
 fn unread(month: Month) -> Month {
-    let book = month.book;
     Month {
         files: month.files.saturating_add(1),
         refused: month.refused.saturating_add(1),
-        book,
+        ..month
     }
 }
 
@@ -255,10 +207,8 @@ fn unread(month: Month) -> Month {
 fn count_file(system: &System, month: Month, name: &[u8]) -> Month {
     match system.open_read(name) {
         Ok(file) => {
-            let book = month.book;
-            let settled = count_open(&file, book);
-            let verdict = settled.verdict;
-            program_verdict::tell(system, name, verdict);
+            let settled = count_open(&file, month.book);
+            program_verdict::tell(system, name, settled.verdict);
             with_file(month, settled)
         }
         Err(why) => {
@@ -286,10 +236,8 @@ fn count_arguments(system: &System, from: usize) -> Month {
         refused: 0,
         book: empty(),
     };
-    let mut i = from;
-    while i < count {
+    for i in from..count {
         month = count_argument(system, month, i);
-        i += 1;
     }
     month
 }

@@ -2,7 +2,7 @@
 use crate::{Book, Month};
 use program_io::{System, Target, Text};
 use tally_report::REPORT;
-use tally_rules::{SUPPLIER, SUPPLIERS};
+use tally_rules::SUPPLIER;
 
 pub fn write_report(system: &System, month: Month) {
     let book = month.book;
@@ -16,30 +16,22 @@ pub fn write_report(system: &System, month: Month) {
 
 // A byte of a string: quote and backslash have a backslash before them, and no supplier has other bytes than 32 to 126.
 fn escaped(text: Text, b: u8) -> Text {
-    if b == b'"' {
-        return text.byte(b'\\').byte(b);
+    match b {
+        b'"' | b'\\' => text.byte(b'\\').byte(b),
+        _ => text.byte(b),
     }
-    if b == b'\\' {
-        return text.byte(b'\\').byte(b);
-    }
-    text.byte(b)
 }
 
 fn quoted(text: Text, name: &[u8]) -> Text {
     let mut t = text.byte(b'"');
-    let mut i: usize = 0;
-    while i < name.len() {
-        t = escaped(t, name[i]);
-        i += 1;
+    for b in name {
+        t = escaped(t, *b);
     }
     t.byte(b'"')
 }
 
 fn supplier(name: &[u8], count: u32) -> Text {
-    quoted(Text::new().word(b"{\"supplier\":"), name)
-        .word(b",\"count\":")
-        .number(count as u64)
-        .word(b"}\n")
+    quoted(Text::new().word(b"{\"supplier\":"), name).print(format_args!(",\"count\":{count}}}\n"))
 }
 
 // The room of a name, of which so many bytes are its own.
@@ -53,29 +45,22 @@ fn write_suppliers(system: &System, book: Book) {
     let lengths = book.lengths;
     let counts = book.counts;
     let entries = book.totals.entries as usize;
-    let mut i: usize = 0;
-    while i < SUPPLIERS {
-        if entries <= i {
-            return;
-        }
-        write_supplier(system, &names, SUPPLIER * i, lengths[i], counts[i]);
-        i += 1;
+    for (i, (length, count)) in lengths.iter().zip(&counts).take(entries).enumerate() {
+        write_supplier(system, &names, SUPPLIER * i, *length, *count);
     }
 }
 
 pub fn write_json(system: &System, month: Month) {
-    let book = month.book;
-    let totals = book.totals;
+    let Month {
+        files,
+        refused,
+        book,
+    } = month;
     write_suppliers(system, book);
-    let text = Text::new()
-        .word(b"{\"missing\":")
-        .number(totals.missing as u64)
-        .word(b",\"total\":")
-        .number(totals.total as u64)
-        .word(b",\"files\":")
-        .number(month.files as u64)
-        .word(b",\"refused\":")
-        .number(month.refused as u64)
-        .word(b"}\n");
+    let missing = book.totals.missing;
+    let total = book.totals.total;
+    let text = Text::new().print(format_args!(
+        "{{\"missing\":{missing},\"total\":{total},\"files\":{files},\"refused\":{refused}}}\n"
+    ));
     let _ = text.write(system, Target::Output);
 }

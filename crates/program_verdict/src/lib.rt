@@ -44,7 +44,7 @@ const STRIDE: u64 = 16777216;
 
 // So many mebibytes are read.
 fn write_progress(system: &System, mebibytes: u64) {
-    let text = Text::new().number(mebibytes).word(b" MiB read\n");
+    let text = Text::new().print(format_args!("{mebibytes} MiB read\n"));
     let _ = text.write(system, Target::Errors);
 }
 
@@ -65,7 +65,11 @@ fn tell_part(
     match counter.take(part, ended, room) {
         Fed::More { counter, used } => ControlFlow::Continue((counter, used)),
         Fed::Accepted { records } => ControlFlow::Break(Verdict::Accepted { records }),
-        Fed::Refused { no, line, column } => ControlFlow::Break(Verdict::Refused { no, line, column }),
+        Fed::Refused { no, line, column } => ControlFlow::Break(Verdict::Refused {
+            no,
+            line,
+            column,
+        }),
         Fed::TooLong { record } => ControlFlow::Break(Verdict::TooLong { record }),
     }
 }
