@@ -9,7 +9,7 @@ ghost use Rattle.program_compare.specs.Fitting.{Fitting};
 
 use compare_record::Numbers;
 use compare_rules::Count;
-use program_compare_lines::{PATTERNS, ROOM, Row, Spot, Told, Way};
+use program_compare_lines::{Part, ROOM, Row, Side, Spot, Told, Way};
 use program_io::{Out, System, Target, Text};
 use program_json_rows::{ATOMS, BONDS};
 use program_verdict::Verdict;
@@ -45,6 +45,7 @@ impl Sum {
 // ---- A pair of records
 
 // Whether a record's numbers are those of a reading, and its rows stand in tables of these lengths.
+#[tactic(auto, using(crate::specs::Fitting::not_fitting, crate::specs::Fitting::fitting))]
 fn is_fitting(x: Numbers, ta: usize, tb: usize) -> bool
     ensures { result ≡ true → Fitting x ta tb }
 {
@@ -67,6 +68,7 @@ fn is_fitting(x: Numbers, ta: usize, tb: usize) -> bool
 }
 
 // What differs between two records, so many passed over.
+#[tactic(auto, using(crate::specs::Fitting::fit_laws))]
 fn list_apart(
     list: &mut [i64],
     skip: usize,
@@ -115,25 +117,18 @@ fn rows_of(way: Way, seen: usize) -> usize {
 }
 
 // A record that one file alone has: the first, side 1, or the second, side 2.
-fn put_alone(
-    sum: Sum,
-    room: &mut [u8; ROOM],
-    patterns: &[u8],
-    json: bool,
-    side: u64,
-    headers: &[u8],
-) -> Sum {
+fn put_alone(sum: Sum, room: &mut [u8; ROOM], way: Way, side: Side, headers: &[u8]) -> Sum {
     let row = Row {
         record: sum.records.saturating_add(1),
-        part: 10,
+        part: Part::Record,
         place: 0,
         field: 0,
-        side,
+        side: Some(side),
         left: 0,
         right: 0,
     };
     let begun = sum.out;
-    let out = program_compare_lines::put_plain(begun, room, patterns, json, row, headers);
+    let out = program_compare_lines::put_plain(begun, room, way, row, headers);
     sum.with(out, 1)
 }
 
@@ -143,7 +138,6 @@ fn put_pair(
     room: &mut [u8; ROOM],
     list: &mut [i64; LIST],
     way: Way,
-    patterns: &[u8],
     s: &[u8],
     x: Shape,
     ta: &[i32; ATOMS],
@@ -186,8 +180,7 @@ fn put_pair(
         told = program_compare_lines::put_rows(
             told,
             room,
-            patterns,
-            way.json,
+            way,
             list,
             rows,
             headers,
@@ -223,7 +216,6 @@ fn hold(
     first: &File,
     second: &File,
     way: Way,
-    patterns: &[u8],
     left: &mut [u8; BUFFER],
     right: &mut [u8; BUFFER],
     room: &mut [u8; ROOM],
@@ -252,18 +244,16 @@ fn hold(
             (None, None) => return Ok(sum),
             (Some(x), None) => {
                 let s = source::bytes_of(left, x);
-                put_alone(sum, room, patterns, way.json, 1, source::headers_of(s, x))
+                put_alone(sum, room, way, Side::Old, source::headers_of(s, x))
             }
             (None, Some(y)) => {
                 let u = source::bytes_of(right, y);
-                put_alone(sum, room, patterns, way.json, 2, source::headers_of(u, y))
+                put_alone(sum, room, way, Side::New, source::headers_of(u, y))
             }
             (Some(x), Some(y)) => {
                 let s = source::bytes_of(left, x);
                 let u = source::bytes_of(right, y);
-                put_pair(
-                    sum, room, &mut list, way, patterns, s, x, &ta, &tb, u, y, &ua, &ub,
-                )
+                put_pair(sum, room, &mut list, way, s, x, &ta, &tb, u, y, &ua, &ub)
             }
         };
         if sum.out.is_cut() || is_enough(way, sum.places) {
@@ -279,21 +269,17 @@ fn hold(
 fn summary(sum: Sum) -> Row {
     Row {
         record: sum.records,
-        part: by_count(sum.differences),
+        part: if sum.differences == 0 {
+            Part::Same
+        } else {
+            Part::Sums
+        },
         place: sum.places,
         field: sum.differences,
-        side: 0,
+        side: None,
         left: 0,
         right: 0,
     }
-}
-
-// The pattern that sums up.
-fn by_count(differences: u64) -> u64 {
-    if differences == 0 {
-        return 12;
-    }
-    13
 }
 
 // What programs read of it: the number of differences, or of the first record that differs.
@@ -309,17 +295,16 @@ fn announced(sum: Sum, way: Way) -> Text {
     Text::new().print(format_args!("differ {number}\n"))
 }
 
-fn put_summary(sum: Sum, room: &mut [u8; ROOM], patterns: &[u8], way: Way) -> Out {
+fn put_summary(sum: Sum, room: &mut [u8; ROOM], way: Way) -> Out {
     let out = sum.out;
     if way.json || way.first {
         return out;
     }
-    let none = program_io::front(patterns, 0);
-    program_compare_lines::put_plain(out, room, patterns, false, summary(sum), none)
+    program_compare_lines::put_plain(out, room, way, summary(sum), b"")
 }
 
-fn conclude(system: &System, sum: Sum, room: &mut [u8; ROOM], patterns: &[u8], way: Way) {
-    let told = put_summary(sum, room, patterns, way);
+fn conclude(system: &System, sum: Sum, room: &mut [u8; ROOM], way: Way) {
+    let told = put_summary(sum, room, way);
     match told.flush(room).done {
         Ok(()) => {
             let _ = announced(sum, way).write(system, Target::Channel);
@@ -347,9 +332,8 @@ fn hold_accepted(
     right: &mut [u8; BUFFER],
 ) {
     let mut room = [0u8; ROOM];
-    let patterns = program_compare_lines::patterns_of(&PATTERNS, way);
-    match hold(system, old, new, way, patterns, left, right, &mut room) {
-        Ok(sum) => conclude(system, sum, &mut room, patterns, way),
+    match hold(system, old, new, way, left, right, &mut room) {
+        Ok(sum) => conclude(system, sum, &mut room, way),
         Err(Failed::First(v)) => program_verdict::tell(system, first, v),
         Err(Failed::Second(v)) => program_verdict::tell(system, second, v),
     }

@@ -2,15 +2,18 @@
 use crate::{Book, Month};
 use program_io::{System, Target, Text};
 use tally_report::REPORT;
-use tally_rules::SUPPLIER;
+use tally_rules::{SUPPLIER, Totals};
 
-pub fn write_report(system: &System, month: Month) {
-    let book = month.book;
-    let names = book.names;
-    let lengths = book.lengths;
-    let counts = book.counts;
+pub fn write_report(system: &System, month: &Month) {
+    let book = &month.book;
     let mut room = [0u8; REPORT];
-    let n = tally_report::put_report(&mut room, &names, &lengths, &counts, book.totals);
+    let n = tally_report::put_report(
+        &mut room,
+        &book.names,
+        &book.lengths,
+        &book.counts,
+        book.totals,
+    );
     let _ = system.write(Target::Output, program_io::front(&room, n));
 }
 
@@ -40,25 +43,23 @@ fn write_supplier(system: &System, names: &[u8], place: usize, length: u32, coun
     let _ = supplier(name, count).write(system, Target::Output);
 }
 
-fn write_suppliers(system: &System, book: Book) {
-    let names = book.names;
-    let lengths = book.lengths;
-    let counts = book.counts;
+fn write_suppliers(system: &System, book: &Book) {
     let entries = book.totals.entries as usize;
-    for (i, (length, count)) in lengths.iter().zip(&counts).take(entries).enumerate() {
-        write_supplier(system, &names, SUPPLIER * i, *length, *count);
+    let figures = book.lengths.iter().zip(&book.counts);
+    for (i, (length, count)) in figures.take(entries).enumerate() {
+        write_supplier(system, &book.names, SUPPLIER * i, *length, *count);
     }
 }
 
-pub fn write_json(system: &System, month: Month) {
-    let Month {
-        files,
-        refused,
-        book,
-    } = month;
-    write_suppliers(system, book);
-    let missing = book.totals.missing;
-    let total = book.totals.total;
+pub fn write_json(system: &System, month: &Month) {
+    write_suppliers(system, &month.book);
+    let Totals {
+        entries: _,
+        missing,
+        total,
+    } = month.book.totals;
+    let files = month.files;
+    let refused = month.refused;
     let text = Text::new().print(format_args!(
         "{{\"missing\":{missing},\"total\":{total},\"files\":{files},\"refused\":{refused}}}\n"
     ));
