@@ -26,8 +26,9 @@ pub fn put_quoted(out: Out, room: &mut [u8], s: &[u8]) -> Out {
 }
 
 // A line behind its length, cut where it is long.
-fn put_line(out: Out, room: &mut [u8], word: &[u8], line: &[u8]) -> Out {
-    let text = Text::new().word(word).number(line.len() as u64).byte(b' ');
+fn put_line(out: Out, room: &mut [u8], word: &str, line: &[u8]) -> Out {
+    let length = line.len();
+    let text = Text::new().print(format_args!("{word}{length} "));
     put_quoted(out.text(room, text), room, program_io::front(line, QUOTED))
 }
 
@@ -39,11 +40,11 @@ pub fn put_lines(out: Out, room: &mut [u8], s: &[u8], count: usize) -> Out {
         match text::line_at(s, at) {
             LineAt::Line { end, next } => {
                 let line = program_io::tail(program_io::front(s, end), at);
-                o = put_line(o, room, b"line ", line);
+                o = put_line(o, room, "line ", line);
                 at = next;
             }
             LineAt::Unfinished => {
-                return put_line(o, room, b"rest ", program_io::tail(s, at));
+                return put_line(o, room, "rest ", program_io::tail(s, at));
             }
         }
     }
@@ -51,7 +52,6 @@ pub fn put_lines(out: Out, room: &mut [u8], s: &[u8], count: usize) -> Out {
 }
 
 // A fact of two numbers, before its text.
-pub fn begin(word: &[u8], a: usize, b: usize) -> Text {
-    let first = Text::new().word(word).number(a as u64);
-    first.byte(b' ').number(b as u64).byte(b' ')
+pub fn begin(word: &str, a: usize, b: usize) -> Text {
+    Text::new().print(format_args!("{word}{a} {b} "))
 }

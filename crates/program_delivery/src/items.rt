@@ -102,7 +102,7 @@ fn lines_of(s: &[u8]) -> usize {
 
 impl Looked {
     // A warning of the line at byte k of the record.
-    fn warn(self, word: &[u8], s: &[u8], k: usize, what: &[u8], room: &mut [u8]) -> Looked {
+    fn warn(self, word: &str, s: &[u8], k: usize, what: &[u8], room: &mut [u8]) -> Looked {
         let before = lines_of(program_io::front(s, k));
         let line = self.lines.saturating_add(before).saturating_add(1);
         let text = facts::begin(word, self.record, line);
@@ -115,7 +115,7 @@ impl Looked {
     // The name in the data header at byte k.
     fn note(self, s: &[u8], k: usize, name: &[u8], names: &mut Names, room: &mut [u8]) -> Looked {
         if names.note(&padded(name), self.record as u64) {
-            return self.warn(b"twice ", s, k, name, room);
+            return self.warn("twice ", s, k, name, room);
         }
         self
     }
@@ -162,7 +162,7 @@ fn look_line(
         }
         _ => {
             if has_brackets(line) {
-                looked.warn(b"swallowed ", s, k, line, room)
+                looked.warn("swallowed ", s, k, line, room)
             } else {
                 looked
             }
@@ -193,7 +193,8 @@ pub fn look_over(
 
 // A name with how many records have it.
 fn put_name(out: Out, room: &mut [u8], name: &Name) -> Out {
-    let text = Text::new().word(b"item ").number(name.records).byte(b' ');
+    let records = name.records;
+    let text = Text::new().print(format_args!("item {records} "));
     let length = name.bytes.iter().position(|b| *b == 0).unwrap_or(WIDTH);
     facts::put_quoted(
         out.text(room, text),

@@ -257,7 +257,7 @@ fn accept(
 // A refused record: its numbers, and its lines up to the refused one.
 fn refuse(place: Place, s: &[u8], passing: Passing, numbers: Text, room: &mut [u8]) -> Place {
     let counter = passing.counter;
-    let text = facts::begin(b"record ", counter.records, counter.lines.saturating_add(1));
+    let text = facts::begin("record ", counter.records, counter.lines.saturating_add(1));
     let first = place.out.text(room, text).text(room, numbers.byte(b'\n'));
     let out = facts::put_lines(first, room, s, passing.left);
     Place {
@@ -267,9 +267,7 @@ fn refuse(place: Place, s: &[u8], passing: Passing, numbers: Text, room: &mut [u
 }
 
 fn numbers(no: u8, line: usize, column: usize) -> Text {
-    let first = Text::new().word(b"refused ").number(no as u64);
-    let second = first.byte(b' ').number(line as u64);
-    second.byte(b' ').number(column as u64)
+    Text::new().print(format_args!("refused {no} {line} {column}"))
 }
 
 fn after_record(
@@ -383,7 +381,7 @@ fn ending(place: Place) -> Text {
         return Text::new().word(b"unread");
     }
     let accepted = place.counter.records.saturating_sub(place.refused);
-    facts::begin(b"end ", accepted, place.refused)
+    facts::begin("end ", accepted, place.refused)
 }
 
 // The names of the items, and the end. What cannot be written is the verdict then.

@@ -14,17 +14,15 @@ fn comma(i: usize) -> Text {
 
 // A piece: its lowest atom and its size.
 fn piece(i: usize, head: u32, size: u32) -> Text {
-    let headed = comma(i).byte(b'[').number(head as u64);
-    headed.byte(b',').number(size as u64).byte(b']')
+    comma(i).print(format_args!("[{head},{size}]"))
 }
 
 fn label(i: usize, lowest: u32) -> Text {
-    comma(i).number(lowest as u64)
+    comma(i).print(lowest)
 }
 
 fn opening(record: usize) -> Text {
-    let numbered = Text::new().word(b"{\"record\":").number(record as u64);
-    numbered.word(b",\"pieces\":[")
+    Text::new().print(format_args!("{{\"record\":{record},\"pieces\":["))
 }
 
 // The line up to its pieces.
