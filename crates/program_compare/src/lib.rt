@@ -132,7 +132,8 @@ fn put_alone(sum: Sum, room: &mut [u8; ROOM], way: Way, side: Side, headers: &[u
     sum.with(out, 1)
 }
 
-// The differences of a pair of records, window after window. Turns are counted so that the loop ends, and no run uses them up.
+// The differences of a pair of records, window after window. Turns are counted so that the loop ends, and no run uses
+// them up.
 fn put_pair(
     sum: Sum,
     room: &mut [u8; ROOM],

@@ -38,8 +38,8 @@ enum Met {
 }
 
 impl Source {
-    // The record at the front of s, which is what stands in the buffer. Once the file has ended and every byte of it is used up, there is none. What was
-    // accepted at the first reading is only cut short by the buffer.
+    // The record at the front of s, which is what stands in the buffer. Once the file has ended and every byte of it is
+    // used up, there is none. What was accepted at the first reading is only cut short by the buffer.
     fn read(
         &mut self,
         s: &[u8],
@@ -84,8 +84,8 @@ impl Source {
         }
     }
 
-    // The next record of the file, if there is one more. Where it is short the rest is moved to the front and more read behind it; what is short in a buffer
-    // that was just filled has changed.
+    // The next record of the file, if there is one more. Where it is short the rest is moved to the front and more read
+    // behind it; what is short in a buffer that was just filled has changed.
     pub fn next(
         &mut self,
         file: &File,

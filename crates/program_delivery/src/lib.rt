@@ -32,7 +32,8 @@ struct Rest {
     seen: usize,
 }
 
-// The bytes from `at` to before `filled` stand in the buffer, after `done` bytes and what is counted; so many records were refused, and what was wrong first.
+// The bytes from `at` to before `filled` stand in the buffer, after `done` bytes and what is counted; so many records
+// were refused, and what was wrong first.
 #[derive(Clone, Copy)]
 struct Place {
     way: Way,

@@ -22,8 +22,8 @@ pub fn tail(buf: &[u8], from: usize) -> &[u8] {
     &buf[from.min(buf.len())..]
 }
 
-// Reads until the buffer is full, the input ends or a read fails; the first `from` bytes stand there already. Answers how many stand there then: fewer than
-// the buffer holds once the input has ended.
+// Reads until the buffer is full, the input ends or a read fails; the first `from` bytes stand there already. Answers
+// how many stand there then: fewer than the buffer holds once the input has ended.
 // A read that a signal interrupts is made again; turns are counted so that the loop ends, and no run uses them up.
 pub fn fill(input: Input<'_>, buf: &mut [u8], from: usize) -> Result<usize, Reason> {
     let mut at = from;

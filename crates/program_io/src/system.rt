@@ -228,7 +228,8 @@ impl System {
     }
 }
 
-// Bytes of a line that says what failed: the longest name of a file, and the reason. What does not fit is left out, and no name is so long.
+// Bytes of a line that says what failed: the longest name of a file, and the reason. What does not fit is left out, and
+// no name is so long.
 const LINE: usize = 4608;
 
 // What stands before the last bracket and the space before it.

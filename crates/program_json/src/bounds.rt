@@ -24,8 +24,8 @@ fn is_last(line: &[u8], lines: usize) -> bool {
     }
 }
 
-// The end of the first record of the bytes, which was accepted; none where they end before it. A line has at least one byte, so the bytes are more turns than
-// are needed.
+// The end of the first record of the bytes, which was accepted; none where they end before it. A line has at least one
+// byte, so the bytes are more turns than are needed.
 pub fn first_end(s: &[u8]) -> Option<End> {
     let mut at: usize = 0;
     for before in 0..s.len() {

@@ -97,7 +97,8 @@ pub struct Reading {
     pub items_end: usize,
 }
 
-// What every object begins with. By words and numbers: with formats `records fetch` takes 15.2 instructions a byte in place of 14.9, and `read` 34.6 in place of 34.1.
+// What every object begins with. By words and numbers: with formats `records fetch` takes 15.2 instructions a byte in
+// place of 14.9, and `read` 34.6 in place of 34.1.
 fn opening(place: Place) -> Text {
     let numbered = Text::new()
         .word(b"{\"record\":")

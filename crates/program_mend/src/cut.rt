@@ -17,7 +17,8 @@ fn is_close(line: &[u8]) -> bool {
     }
 }
 
-// Where the next `$$$$` line from a line's start on ends. A line has at least one byte, so the bytes are more turns than are needed.
+// Where the next `$$$$` line from a line's start on ends. A line has at least one byte, so the bytes are more turns
+// than are needed.
 fn next_end(s: &[u8], from: usize) -> Option<usize> {
     let mut at = from;
     for _ in 0..s.len() {
@@ -32,8 +33,8 @@ fn next_end(s: &[u8], from: usize) -> Option<usize> {
     None
 }
 
-// The record at the front of s: where it ends, and how it is mended or what is wrong with it; none where the bytes end within it. Cut short is no refusal here,
-// as the next `$$$$` line may be the record's last.
+// The record at the front of s: where it ends, and how it is mended or what is wrong with it; none where the bytes end
+// within it. Cut short is no refusal here, as the next `$$$$` line may be the record's last.
 pub fn try_record(
     s: &[u8],
     room: &mut [u8; ROOM],

@@ -55,6 +55,11 @@ pub fn say(system: &System, name: &[u8], line: u64, what: Repair) {
 pub fn say_all(system: &System, name: &[u8], before: u64, list: &[u64; LIST], repairs: usize) {
     let (pairs, _) = list.as_chunks::<2>();
     for [line, what] in pairs.iter().take(repairs) {
-        say(system, name, before.saturating_add(*line), Repair::from(*what));
+        say(
+            system,
+            name,
+            before.saturating_add(*line),
+            Repair::from(*what),
+        );
     }
 }

@@ -66,8 +66,7 @@ fn read_on(file: &File, buf: &mut [u8], pass: Pass) -> Result<Pass, Verdict> {
         return Err(Verdict::Changed);
     }
     let kept = program_io::keep(buf, pass.at, pass.filled);
-    let filled =
-        program_io::fill(Input::Opened(file), buf, kept).map_err(Verdict::Unreadable)?;
+    let filled = program_io::fill(Input::Opened(file), buf, kept).map_err(Verdict::Unreadable)?;
     Ok(Pass {
         at: 0,
         filled,

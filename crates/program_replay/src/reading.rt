@@ -9,7 +9,8 @@ pub const SIZE: usize = 65536;
 // No event has more bytes.
 const LONGEST: usize = 15;
 
-// The replay stands at a place of the buffer, of which so many bytes are filled; whether nothing follows them; and the verdict, where the replay goes on no more.
+// The replay stands at a place of the buffer, of which so many bytes are filled; whether nothing follows them; and the
+// verdict, where the replay goes on no more.
 #[derive(Clone, Copy)]
 pub struct Reading {
     pub state: Replay,

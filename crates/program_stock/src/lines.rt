@@ -19,8 +19,8 @@ pub struct Way {
     pub pad: u8,
 }
 
-// What a line says. A lot: all is as it should be, it has no record, its last count differs from paper, or both. A record: its lot was never received, or what
-// is wrong with the text that makes its key. The totals.
+// What a line says. A lot: all is as it should be, it has no record, its last count differs from paper, or both. A
+// record: its lot was never received, or what is wrong with the text that makes its key. The totals.
 #[derive(Clone, Copy)]
 pub enum Line {
     Settled,
@@ -47,8 +47,8 @@ struct Spot {
     number: u64,
 }
 
-// What a line is made of. A lot: its key, its last count if it has one, its first record if it has one, and as numbers its paper and its records. A record: its
-// place, and its key. The totals: six numbers.
+// What a line is made of. A lot: its key, its last count if it has one, its first record if it has one, and as numbers
+// its paper and its records. A record: its place, and its key. The totals: six numbers.
 #[derive(Clone, Copy)]
 pub struct Row {
     pub line: Line,

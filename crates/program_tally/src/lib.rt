@@ -21,8 +21,8 @@ pub struct Book {
     pub totals: Totals,
 }
 
-// The place in a file: records and lines so far, bytes kept at the front of the buffer; the first refusal that a record met, with the record in the place of the
-// line.
+// The place in a file: records and lines so far, bytes kept at the front of the buffer; the first refusal that a record
+// met, with the record in the place of the line.
 #[derive(Clone, Copy)]
 struct Place {
     counter: Counter,
@@ -145,7 +145,8 @@ fn is_accepted(verdict: Verdict) -> bool {
     matches!(verdict, Verdict::Accepted { .. })
 }
 
-// An open file, counted into a copy of the list that is kept if nothing is refused. Turns are counted so that the loop ends, and no run uses them up.
+// An open file, counted into a copy of the list that is kept if nothing is refused. Turns are counted so that the loop
+// ends, and no run uses them up.
 fn count_within(file: &File, buf: &mut [u8], book: &mut Book) -> Verdict {
     let mut copy = *book;
     let mut place = Place {
