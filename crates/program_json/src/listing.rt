@@ -87,14 +87,12 @@ fn put_line(list: Listed, room: &mut [u8], line: &[u8]) -> Listed {
 fn list_items(list: Listed, room: &mut [u8], s: &[u8]) -> Listed {
     let mut listed = list;
     let mut at: usize = 0;
-    let mut turns = s.len();
-    while turns > 0 {
+    for _ in 0..s.len() {
         let LineAt::Line { end, next } = text::line_at(s, at) else {
             return listed;
         };
         listed = put_line(listed, room, part(s, at, end));
         at = next;
-        turns -= 1;
     }
     listed
 }
@@ -105,6 +103,5 @@ pub fn put_items(out: Out, room: &mut [u8], s: &[u8]) -> Out {
         inside: false,
         first: true,
     };
-    let done = list_items(list, room, s);
-    done.out
+    list_items(list, room, s).out
 }
