@@ -12,7 +12,6 @@ ghost use Rattle.compare_items.specs.Resting.{Rested, Passed, Valued};
 ghost use Rattle.compare_items.specs.Part.{name_on, items_at};
 ghost use Rattle.compare_items.specs.Items.{NameIn, alone_items};
 
-use judge_line::Refusal;
 use compare_rules::{Count, Place};
 use line_text::ItemLine;
 use text::LineAt;
@@ -218,7 +217,7 @@ fn name_in(line: &[u8]) -> Span
     match line_text::item_line(line) {
         Ok(ItemLine::Title { from, to }) => Span { from, to },
         Ok(ItemLine::Close) => Span { from: 0, to: 0 },
-        Err(Refusal { no: _, column: _ }) => Span { from: 0, to: 0 },
+        Err(_) => Span { from: 0, to: 0 },
     }
 }
 

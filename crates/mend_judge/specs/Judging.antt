@@ -1,5 +1,5 @@
 -- Laws on judging a line: what the reader's step answered decides what is told.
-use Rattle.std.specs.Prelude.{Result, Ok, Err, ℕ, ◌*◌, ◌≡◌, List, [], ◌∷◌, ◌++◌, Bool, true, length, take}
+use Rattle.std.specs.Prelude.{IsErrAnd, Result, Ok, Err, ℕ, ◌*◌, ◌≡◌, List, [], ◌∷◌, ◌++◌, Bool, true, length, take}
 use Rattle.std.proofs.Common.{arith, ◌∙◌}
 use Rattle.std.proofs.Math.Path.{refl, sym, ap, subst}
 use Rattle.std.proofs.Math.ListN.{length-set}
@@ -133,6 +133,10 @@ module _ (j : Judge) (t keys : List ℕ) (l : Line) (x : Result Step Refusal) (t
         key_room = g.standing.key_room;
       }
 
+  pub judges_back : (r : Refusal) → x ≡ Err r → (y : Result Judge Refusal) → IsErrAnd y (λ f. f ≡ r) → Judges j t keys l y t' keys
+  judges_back r q (Ok u) is = absurd is
+  judges_back r q (Err f) is = rw is (judges_refused r q)
+
   -- ---- A bond line
 
   pends : (r : Reader) (b : Bond) → x ≡ Ok (Step.Bond r b) → (p : J.Place) (xs : List Raw) → Standing j t keys p xs → Pending r j.bonds t' keys (bond_is b) (turn_of sdfile limit p l)
@@ -185,7 +189,7 @@ pub ruleset judging_laws = (
   judges_value,
   judges_blank,
   judges_done,
-  judges_refused,
+  judges_refused, judges_back,
   bonding,
   judges_bond,
 )

@@ -1,5 +1,5 @@
 -- What the code finds at a position, what it does there, and that this is the action of the definition.
-use Rattle.std.specs.Prelude.{Result, Ok, Err, Option, Some, None, ℕ, suc, ◌-◌, ◌≤◌, ◌<◌, ◌≡◌, List, ◌∷◌, map, Bool, cond, ◌&&◌, eqb, leb, length, get_or, take, drop}
+use Rattle.std.specs.Prelude.{is_ok, Result, Ok, Err, Option, Some, None, ℕ, suc, ◌-◌, ◌≤◌, ◌<◌, ◌≡◌, List, ◌∷◌, map, Bool, cond, ◌&&◌, eqb, leb, length, get_or, take, drop}
 use Rattle.std.proofs.Common.{arith, ap₂, ◌∙◌, eq-eqb, ne_eqb}
 use Rattle.std.proofs.Math.Path.{refl, sym, ap, subst}
 use Rattle.std.proofs.Math.Bool.{true, false}
@@ -131,7 +131,13 @@ module _ (l : Line) (x : Result ItemLine Refusal) (e : item_got l x ≡ item_of 
   pub item_bad : (r : Refusal) → x ≡ Err r → false ≡ found (item_of l)
   item_bad r h = ap found (ap (item_got l) (sym h) ∙ e)
 
-pub ruleset item_laws = (item_title, item_close, item_bad)
+  pub item_ok : is_ok x ≡ found (item_of l)
+  item_ok = go x refl
+    where
+      go : (y : Result ItemLine Refusal) → x ≡ y → is_ok y ≡ found (item_of l)
+      go (Ok (ItemLine.Title from to)) h = item_title from to h
+      go (Ok ItemLine.Close) h = item_close h
+      go (Err r) h = item_bad r h
 
 -- what is refused by its length or bytes is so whatever it would stand for
 within_bad : {A B : Type 0} (longest : ℕ) (l : Line) (a : A) (y : Got B) (n c : ℕ) → within longest l (got a) ≡ bad n c → within longest l y ≡ bad n c

@@ -8,8 +8,6 @@ ghost use Rattle.judge_line.specs.Judge.{item_of};
 ghost use Rattle.mend_rules.specs.Mend.{found, item_line};
 ghost use Rattle.mend_lines.specs.Deeds.{PieceAt, blank_from, deed_at, deed_in, at_header, at_items, at_values};
 
-use judge_line::Refusal;
-use line_text::ItemLine;
 use mend_judge::Judge;
 use reader_places::Place;
 use text::LineAt;
@@ -91,11 +89,7 @@ fn blank_from(s: &[u8], at: usize) -> bool
 fn is_good_item(line: &[u8]) -> bool
     ensures { result ≡ found (item_of line.now) }
 {
-    match line_text::item_line(line) {
-        Ok(ItemLine::Title { from: _, to: _ }) => true,
-        Ok(ItemLine::Close) => true,
-        Err(Refusal { no: _, column: _ }) => false,
-    }
+    line_text::item_line(line).is_ok()
 }
 
 // A data header or a `$$$$` line.
@@ -104,7 +98,7 @@ fn is_item(line: &[u8]) -> bool
 {
     match reader_places::line_judged(line, 80) {
         Ok(()) => is_good_item(line),
-        Err(Refusal { no: _, column: _ }) => false,
+        Err(_) => false,
     }
 }
 

@@ -6,34 +6,34 @@ pub step-requires : goal.step-requires
 step-requires c = search (rules, judging_laws)
 
 pub judge_bond-requires : goal.judge_bond-requires
-judge_bond-requires c = search (rules, judging_laws)
+judge_bond-requires c = search (rules, judging_laws, c.in_ok-r.was)
 
 pub returns-in-Next : goal.returns-in-Next
-returns-in-Next c = search (rules, judging_laws)
+returns-in-Next c = search (rules, judging_laws, c.in_ok-r.was)
 
 pub returns-in-Headed : goal.returns-in-Headed
-returns-in-Headed c = search (rules, judging_laws)
+returns-in-Headed c = search (rules, judging_laws, c.in_ok-r.was)
 
 pub returns-in-Atom : goal.returns-in-Atom
-returns-in-Atom c = search (rules, judging_laws)
+returns-in-Atom c = search (rules, judging_laws, c.in_ok-r.was)
 
 pub returns-in-Bond : goal.returns-in-Bond
-returns-in-Bond c = search (rules, judging_laws)
+returns-in-Bond c = search (rules, judging_laws, c.in_ok-r.was)
 
 pub returns-in-Ended : goal.returns-in-Ended
-returns-in-Ended c = search (rules, judging_laws)
+returns-in-Ended c = search (rules, judging_laws, c.in_ok-r.was)
 
 pub returns-in-Title : goal.returns-in-Title
-returns-in-Title c = search (rules, judging_laws)
+returns-in-Title c = search (rules, judging_laws, c.in_ok-r.was)
 
 pub returns-in-Value : goal.returns-in-Value
-returns-in-Value c = search (rules, judging_laws)
+returns-in-Value c = search (rules, judging_laws, c.in_ok-r.was)
 
 pub returns-in-Blank : goal.returns-in-Blank
-returns-in-Blank c = search (rules, judging_laws)
+returns-in-Blank c = search (rules, judging_laws, c.in_ok-r.was)
 
 pub returns-in-Done : goal.returns-in-Done
-returns-in-Done c = search (rules, judging_laws)
+returns-in-Done c = search (rules, judging_laws, c.in_ok-r.was)
 
-pub returns-in-Refused : goal.returns-in-Refused
-returns-in-Refused c = search (rules, judging_laws)
+pub returns-in_err-r : goal.returns-in_err-r
+returns-in_err-r c = search (rules, judging_laws, c.in_err-r.was)
