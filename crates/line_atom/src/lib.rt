@@ -130,13 +130,7 @@ fn atom_rest(line: &[u8], n: u32, place: AtomPlace, codes: AtomCodes) -> Result<
 fn atom_zeros(line: &[u8]) -> bool
     ensures { result ≡ true → AtomZeros line.now }
 {
-    if line.len() < 69 {
-        return false;
-    }
-    if 69 < line.len() {
-        return false;
-    }
-    text::text_differs(line, 35, b" 0  0  0  0  0  0  0  0  0  0  0  0") == 0
+    line.len() == 69 && !text::text_differs(line, 35, b" 0  0  0  0  0  0  0  0  0  0  0  0")
 }
 
 fn plain_atom(place: AtomPlace) -> Atom

@@ -196,13 +196,7 @@ fn bond_rest(line: &[u8], first: u32, second: u32, order: u32, stereo: u32) -> R
 fn bond_zeros(line: &[u8]) -> bool
     ensures { result ≡ true → BondZeros line.now }
 {
-    if line.len() < 21 {
-        return false;
-    }
-    if 21 < line.len() {
-        return false;
-    }
-    text::text_differs(line, 10, b"  0  0  0  0") == 0
+    line.len() == 21 && !text::text_differs(line, 10, b"  0  0  0  0")
 }
 
 fn plain_bond(first: u32, second: u32, order: u32) -> Result<Bond, Refusal>

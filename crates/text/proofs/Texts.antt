@@ -60,9 +60,6 @@ text_all l i (t ∷ text) f =
     let others : (k : ℕ) → k < length text → column l (suc i + k) ≡ get_or text k 0 = λ k h. ap (column l) (suc-add i k ∙ sym (add-suc i k)) ∙ f (suc k) (omega arith) in
     rw (eq-eqb _ _ e, text_all l (suc i) text others)
 
-pub no_bit : (b : Bool) → bool_byte b ≡ 0 → b ≡ false
-no_bit true e = absurd (omega (arith, e))
-no_bit false e = refl
 
 pub ruleset column_laws = (column_within, column_over)
 

@@ -219,10 +219,11 @@ pub fn has_text(line: &[u8], i: usize, text: &[u8]) -> bool
     true
 }
 
-// 0 only where the columns from column i on, which the line has, are this text. They are all compared, which compiles to a few vector tests.
-pub fn text_differs(line: &[u8], i: usize, text: &[u8]) -> usize
+// Whether the columns from column i on, which the line has, differ from this text. All are compared, which compiles to a
+// few vector tests.
+pub fn text_differs(line: &[u8], i: usize, text: &[u8]) -> bool
     requires { (1 ≤ i) × (i + length text.now ≤ length line.now + 1) }
-    ensures { result ≡ 0 → has_text line.now i text.now ≡ true }
+    ensures { result ≡ false → has_text line.now i text.now ≡ true }
 {
-    any_below(text.len(), |k| inner_column(line, i + k) != text[k]) as usize
+    any_below(text.len(), |k| inner_column(line, i + k) != text[k])
 }
