@@ -12,9 +12,9 @@ ghost use Rattle.compare_files.specs.Pair.{shape_of, Read, Ready, Paired, Kept};
 ghost use Rattle.compare_files.specs.Walking.{GoodFiles, alone_records, Apart};
 ghost use Rattle.compare_files.specs.Promise.{Rooms, Promise};
 
+use judge_file::TextRefusal;
 use compare_record::Numbers;
 use compare_rules::{Count, Place};
-use reader_check::Answer;
 use reader_cursor::Cursor;
 use reader_record::RecordRead;
 use rules::{ATOMS, BONDS};
@@ -38,15 +38,15 @@ fn judge_second(records: usize, new: &[u8]) -> Judged
     ensures { result ≡ second_by records (verdict sdfile limit new.now) }
 {
     match reader_check::check(1, new) {
-        Answer::Accepted { records: more } => Judged::Good {
+        Ok(more) => Judged::Good {
             old: records,
             new: more,
         },
-        Answer::Refused {
+        Err(TextRefusal {
             no: _,
             line,
             column,
-        } => Judged::Bad {
+        }) => Judged::Bad {
             no: 37,
             line,
             column,
@@ -58,12 +58,12 @@ fn judge(old: &[u8], new: &[u8]) -> Judged
     ensures { result ≡ judged_by (verdict sdfile limit old.now) (verdict sdfile limit new.now) }
 {
     match reader_check::check(1, old) {
-        Answer::Accepted { records } => judge_second(records, new),
-        Answer::Refused {
+        Ok(records) => judge_second(records, new),
+        Err(TextRefusal {
             no: _,
             line,
             column,
-        } => Judged::Bad {
+        }) => Judged::Bad {
             no: 36,
             line,
             column,

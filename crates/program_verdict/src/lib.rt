@@ -5,8 +5,8 @@ mod say;
 
 ghost use Rattle.std.specs.Prelude.{◌<◌, length};
 
+use judge_file::TextRefusal;
 use program_io::{Input, Reason, System, Target, Text};
-use reader_check::Answer;
 use reader_feed::{Counter, Fed};
 pub use say::{is_judged, report, tell};
 use std::fs::File;
@@ -135,8 +135,8 @@ fn judge_records(system: &System, input: Input<'_>, buf: &mut [u8], progress: bo
 // A molfile that is wholly there.
 fn molfile_whole(s: &[u8]) -> Verdict {
     match reader_check::check(0, s) {
-        Answer::Accepted { records } => Verdict::Accepted { records },
-        Answer::Refused { no, line, column } => Verdict::Refused { no, line, column },
+        Ok(records) => Verdict::Accepted { records },
+        Err(TextRefusal { no, line, column }) => Verdict::Refused { no, line, column },
     }
 }
 

@@ -8,7 +8,7 @@ ghost use Rattle.tally_good.specs.Judge.{book_of};
 ghost use Rattle.tally_file.specs.Count.{CountReady, ListReady, FileReady, PastReady, supplier_at, step_of, Stepped, past_record, told_of, said_of, answer_of, Left, LeftList, is_done};
 ghost use Rattle.tally_file.specs.Promise.{Roomy, TallyPromise};
 
-use reader_check::Answer;
+use judge_file::TextRefusal;
 use reader_cursor::Cursor;
 use reader_first_line::FirstLine;
 use reader_walk::Walked;
@@ -177,8 +177,8 @@ fn tally_listed(
     ensures left { Left (said_of s.now (book_of (memory names.old lengths.old counts.old) totals)) (memory names.old lengths.old counts.old) (memory names.new lengths.new counts.new) }
 {
     match reader_check::check(1, s) {
-        Answer::Accepted { records: _ } => count_records(s, names, lengths, counts, totals),
-        Answer::Refused { no, line, column } => Tallied::Refused {
+        Ok(_) => count_records(s, names, lengths, counts, totals),
+        Err(TextRefusal { no, line, column }) => Tallied::Refused {
             no,
             line,
             column,
