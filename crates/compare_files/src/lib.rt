@@ -12,9 +12,9 @@ ghost use Rattle.compare_files.specs.Pair.{shape_of, Read, Ready, Paired, Kept};
 ghost use Rattle.compare_files.specs.Walking.{GoodFiles, alone_records, Apart};
 ghost use Rattle.compare_files.specs.Promise.{Rooms, Promise};
 
-use judge_file::TextRefusal;
 use compare_record::Numbers;
 use compare_rules::{Count, Place};
+use judge_file::TextRefusal;
 use reader_cursor::Cursor;
 use reader_record::RecordRead;
 use rules::{ATOMS, BONDS};
@@ -42,11 +42,13 @@ fn judge_second(records: usize, new: &[u8]) -> Judged
             old: records,
             new: more,
         },
-        Err(TextRefusal {
-            no: _,
-            line,
-            column,
-        }) => Judged::Bad {
+        Err(
+            TextRefusal {
+                no: _,
+                line,
+                column,
+            },
+        ) => Judged::Bad {
             no: 37,
             line,
             column,
@@ -59,11 +61,13 @@ fn judge(old: &[u8], new: &[u8]) -> Judged
 {
     match reader_check::check(1, old) {
         Ok(records) => judge_second(records, new),
-        Err(TextRefusal {
-            no: _,
-            line,
-            column,
-        }) => Judged::Bad {
+        Err(
+            TextRefusal {
+                no: _,
+                line,
+                column,
+            },
+        ) => Judged::Bad {
             no: 36,
             line,
             column,

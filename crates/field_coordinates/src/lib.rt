@@ -5,7 +5,6 @@ ghost use Rattle.std.specs.Prelude.{◌≡◌, ◌+◌, ◌-◌, ◌≤◌, leng
 ghost use Rattle.text.specs.Columns.{columns, columns_for};
 ghost use Rattle.field_coordinates.specs.Read.{point_read, inked, coordinate_in};
 
-
 // The digits from column a up to the point in column p, the four after it, and the sign read before them: columns that the line has.
 fn digits_at(line: &[u8], a: usize, p: usize, minus: bool) -> Option<i32>
     requires { (1 ≤ a) × (a ≤ p) × (p ≤ a + 5) × (p ≤ 2000) × (p + 4 ≤ length line.now) }

@@ -166,7 +166,13 @@ fn between(minus: bool, k: u32, below: u32, above: u32) -> Result<i32, NumberFau
 }
 
 // The number in columns i to j, of a range with negatives.
-pub fn signed_number(line: &[u8], i: usize, j: usize, below: u32, above: u32) -> Result<i32, NumberFault>
+pub fn signed_number(
+    line: &[u8],
+    i: usize,
+    j: usize,
+    below: u32,
+    above: u32,
+) -> Result<i32, NumberFault>
     requires { (1 ≤ i) × (i ≤ j + 1) × (j ≤ 1000) × (j + 1 ≤ i + 9) }
     ensures { result ≡ signed_in below above (columns line.now i j) }
 {

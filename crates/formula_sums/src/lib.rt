@@ -7,7 +7,6 @@ ghost use Rattle.formula_rules.specs.Sums.{sat, Below, read_units, read_unit, ad
 ghost use Rattle.formula_rules.specs.Judged.{empty, crowded, verdict_of, shallow_of, counts_of, number_of};
 ghost use Rattle.formula_sums.specs.Values.{count_value, symbol_count};
 
-
 // Places for elements 1 to 118, and place 0.
 pub const PLACES: usize = 119;
 

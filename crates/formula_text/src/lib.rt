@@ -7,7 +7,6 @@ ghost use Rattle.formula_rules.specs.Element.{element_of};
 ghost use Rattle.formula_rules.specs.Parse.{count_at, symbol_end, element_at, symbol_at, group_of, units_of, formula_of};
 ghost use Rattle.formula_text.specs.Told.{told_count, told_unit, told_units};
 
-
 // The symbols that are elements are the first of all symbols.
 pub const ELEMENTS: u32 = 118;
 

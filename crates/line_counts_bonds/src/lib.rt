@@ -12,7 +12,6 @@ ghost use Rattle.line_counts_bonds.specs.Usual.{BondZeros, plain_bond};
 
 use judge_line::Refusal;
 
-
 // The most atoms, and the most bonds, of a record.
 pub const LIMIT: u32 = rules::LIMIT as u32;
 

@@ -5,8 +5,8 @@ ghost use Rattle.std.specs.Prelude.{◌≡◌, ◌+◌, ◌≤◌};
 ghost use Rattle.judge_line.specs.Field.{number_at, signed_at, coordinate_at, symbol_at};
 ghost use Rattle.line_fields.specs.Answer.{field_got, signed_field_got};
 
-use judge_line::Refusal;
 use field_numbers::NumberFault;
+use judge_line::Refusal;
 
 // Columns i to j as a number from `least` to `most`.
 #[tactic(auto, using(crate::specs::Steps::one_field))]

@@ -69,7 +69,13 @@ fn entry_number(line: &[u8], i: usize, j: usize, kind: Kind) -> Result<u32, Refu
 }
 
 // The place of an entry in the table: its atom is not listed there.
-fn entry_place(line: &[u8], n: u32, i: usize, kind: Kind, listed: &[u32; LISTED]) -> Result<u32, Refusal>
+fn entry_place(
+    line: &[u8],
+    n: u32,
+    i: usize,
+    kind: Kind,
+    listed: &[u32; LISTED],
+) -> Result<u32, Refusal>
     requires { (n ≤ limit) × ((1 ≤ i) × (i ≤ 900)) }
     ensures { field_got result ≡ place_at n (kind_is kind) line.now i listed.now }
 {
@@ -88,7 +94,13 @@ fn entry_place(line: &[u8], n: u32, i: usize, kind: Kind, listed: &[u32; LISTED]
 }
 
 // One entry from column i on, entered if it is good.
-fn entry(line: &[u8], n: u32, i: usize, kind: Kind, listed: &mut [u32; LISTED]) -> Result<(), Refusal>
+fn entry(
+    line: &[u8],
+    n: u32,
+    i: usize,
+    kind: Kind,
+    listed: &mut [u32; LISTED],
+) -> Result<(), Refusal>
     requires { (n ≤ limit) × ((1 ≤ i) × (i ≤ 900)) }
     ensures listed_after { entered_got result listed.new ≡ entered_at n (kind_is kind) line.now i listed.old }
     ensures listed_len_unchanged { length listed.new ≡ length listed.old }
@@ -107,7 +119,13 @@ fn entry(line: &[u8], n: u32, i: usize, kind: Kind, listed: &mut [u32; LISTED]) 
 
 // So many entries from column 10 on.
 #[tactic(auto, using(crate::specs::Entering::entering))]
-fn entries(line: &[u8], n: u32, kind: Kind, count: u32, listed: &mut [u32; LISTED]) -> Result<(), Refusal>
+fn entries(
+    line: &[u8],
+    n: u32,
+    kind: Kind,
+    count: u32,
+    listed: &mut [u32; LISTED],
+) -> Result<(), Refusal>
     requires { (n ≤ limit) × ((count ≤ 8) × (length listed.old ≡ 3 * places)) }
     ensures listed_after { entered_got result listed.new ≡ entered_from n (kind_is kind) line.now 10 count listed.old }
     ensures listed_len_unchanged { length listed.new ≡ length listed.old }
@@ -130,7 +148,12 @@ fn rest(line: &[u8], i: usize, read: PropertyLine) -> Result<PropertyLine, Refus
 }
 
 // M  CHGnn8 aaa vvv ...
-fn list_line(line: &[u8], n: u32, kind: Kind, listed: &mut [u32; LISTED]) -> Result<PropertyLine, Refusal>
+fn list_line(
+    line: &[u8],
+    n: u32,
+    kind: Kind,
+    listed: &mut [u32; LISTED],
+) -> Result<PropertyLine, Refusal>
     requires { (n ≤ limit) × (length listed.old ≡ 3 * places) }
     ensures { KeptBy (list_of n (kind_is kind) (seen_of n listed.old (kind_is kind)) line.now) listed.old result listed.new }
 {
@@ -140,7 +163,11 @@ fn list_line(line: &[u8], n: u32, kind: Kind, listed: &mut [u32; LISTED]) -> Res
 }
 
 // A property line or `M  END`; the entries of a good list are in the table then.
-pub fn property_line(line: &[u8], n: u32, listed: &mut [u32; LISTED]) -> Result<PropertyLine, Refusal>
+pub fn property_line(
+    line: &[u8],
+    n: u32,
+    listed: &mut [u32; LISTED],
+) -> Result<PropertyLine, Refusal>
     requires { (n ≤ limit) × (length listed.old ≡ 3 * places) }
     ensures value { result ≡ property_read (property_of n (seen_of n listed.old) line.now) }
     ensures kept { Kept n listed.old line.now listed.new }

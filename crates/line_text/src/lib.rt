@@ -11,7 +11,6 @@ ghost use Rattle.line_text.specs.HeaderParts.{spaceless, tagged, name_ends};
 
 use judge_line::Refusal;
 
-
 // What a line is found to be where a data header or `$$$$` must stand. A title's name has the positions from `from` up to but not with `to`.
 #[derive(Drop)]
 pub enum ItemLine {

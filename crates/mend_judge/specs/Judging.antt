@@ -189,7 +189,8 @@ pub ruleset judging_laws = (
   judges_value,
   judges_blank,
   judges_done,
-  judges_refused, judges_back,
+  judges_refused,
+  judges_back,
   bonding,
   judges_bond,
 )

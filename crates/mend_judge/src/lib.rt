@@ -69,7 +69,12 @@ fn repeats(keys: &[u32; KEYS], count: usize, key: u32) -> bool
 }
 
 // A bond line that is good but for its pair.
-fn judge_bond(judge: Judge, reader: Reader, b: Bond, keys: &mut [u32; KEYS]) -> Result<Judge, Refusal>
+fn judge_bond(
+    judge: Judge,
+    reader: Reader,
+    b: Bond,
+    keys: &mut [u32; KEYS],
+) -> Result<Judge, Refusal>
     requires { Bonding judge reader b keys.old }
     ensures { BondJudged judge reader b keys.old result keys.new }
 {

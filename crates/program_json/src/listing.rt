@@ -1,7 +1,7 @@
 // Items as JSON: name and value lines of each.
-use judge_line::Refusal;
 use crate::strings::put_string;
 use crate::{part, put_comma};
+use judge_line::Refusal;
 use line_text::{ItemLine, ValueKind};
 use program_io::Out;
 use text::LineAt;

@@ -8,7 +8,6 @@ ghost use Rattle.reader_places.specs.Places.{longest_in, line_got, finished_at, 
 
 use judge_line::Refusal;
 
-
 // `owed` counts the lines that still belong to the place, the next one among them.
 #[derive(Clone, Copy)]
 pub enum Place {

@@ -60,7 +60,6 @@ text_all l i (t ∷ text) f =
     let others : (k : ℕ) → k < length text → column l (suc i + k) ≡ get_or text k 0 = λ k h. ap (column l) (suc-add i k ∙ sym (add-suc i k)) ∙ f (suc k) (omega arith) in
     rw (eq-eqb _ _ e, text_all l (suc i) text others)
 
-
 pub ruleset column_laws = (column_within, column_over)
 
 pub ruleset text_laws = (text_start, text_next, text_other, text_over)

@@ -18,7 +18,7 @@ returns-in_err-whole c = rw c.from_residual.ensures (no_whole _ _ _ _ _ c.inner_
 pub returns-in_err-part : goal.returns-in_err-part
 returns-in_err-part c =
     rw c.from_residual-in_err-part.ensures
-      (no_part _ _ _ _ _ c.inner_digits.ensures _ c.in_ok-whole.was _ c.inner_digits-2.ensures c.in_err-part.was)
+    (no_part _ _ _ _ _ c.inner_digits.ensures _ c.in_ok-whole.was _ c.inner_digits-2.ensures c.in_err-part.was)
 
 pub overflow_mul-whole : goal.overflow_mul-whole
 overflow_mul-whole c = omega (arith, small c)
