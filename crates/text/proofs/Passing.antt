@@ -5,9 +5,7 @@ use native.Mathlib.Nat.{add-zero}
 use native.Mathlib.Omega.{arith}
 use mathlib.Core.Path.{◌≡◌, refl, sym, ap, ◌∙◌}
 use mathlib.Core.Bool.{Bool, true, false}
-use mathlib.Core.List.{◌++◌}
-use lib.ListN.{length, get_or, drop, length-drop, length-append, get_or-append}
-use lib.Seq.{drop-append_seam, get_or-drop, drop-drop}
+use lib.ListN.{length, get_or, drop, length-drop}
 use borrow.Author.Tests.{eq-eqb, ne_eqb}
 use Rattle.text.specs.Text.{Bytes, Line, LF, byte}
 use Rattle.text.specs.Find.{first_from, is_lf, is_bad, is_ink, bad_column, ink_column, line_to, line_at, is_blank}
@@ -54,19 +52,6 @@ module _ (p : ℕ → Bool) (s : Bytes) where
       let l : length s - 16 ≤ i = omega arith in
       nothing_later p s (length s - 16) i (length s - 16 + o) (i + o) (a o ∙ first_none p s (length s - 16 + 16) (length s - 16 + 16 + o) e) l
       ∙ sym (first_none p s (length s) (length s + o) (omega arith))
-
--- a chunk of sixteen bytes that begins at i, and what follows it
-module _ (s x r : Bytes) (i : ℕ) (e : drop i s ≡ x ++ r) (n : length x ≡ 16) where
-  pub chunk_get : (k : ℕ) → k < 16 → get_or x k 0 ≡ get_or s (i + k) 0
-  chunk_get k h = sym (get_or-append x r 0 k (omega (arith, n))) ∙ ap (λ (y : Bytes). get_or y k 0) (sym e) ∙ get_or-drop i s k 0
-
-  pub chunk_rest : r ≡ drop (i + 16) s
-  chunk_rest =
-      let seam : drop 16 (x ++ r) ≡ r = rw (← n) (drop-append_seam x r) in
-      sym seam ∙ ap (drop 16) (sym e) ∙ drop-drop 16 i s
-
-  pub chunk_inside : i + 16 ≤ length s
-  chunk_inside = omega (arith, length-drop i s, ap length e, length-append x r, n)
 
 -- the first LF: positions count from 0
 module _ (s : Bytes) (at i : ℕ) where

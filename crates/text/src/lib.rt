@@ -58,16 +58,18 @@ fn lf_of_block(s: &[u8], at: usize) -> usize
 }
 
 // A position from `at` on before which there is no LF: whole blocks without one are passed.
+#[tactic(auto, using(crate::proofs::Passing::passed_start))]
 fn near_lf(s: &[u8], at: usize) -> usize
     requires { at ≤ length s.now }
     ensures { Passed is_lf s.now at result }
 {
-    for (b, block) in s[at..].chunks_exact(16).enumerate() {
-        if any_below(16, |k| block[k] == b'\n') {
+    let blocks = (s.len() - at) / 16;
+    for b in 0..blocks {
+        if any_below(16, |k| s[at + 16 * b + k] == b'\n') {
             return lf_of_block(s, at + 16 * b);
         }
     }
-    s.len() - (s.len() - at) % 16
+    at + 16 * blocks
 }
 
 // The first LF from `at` on.
