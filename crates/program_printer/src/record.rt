@@ -16,7 +16,7 @@ use writer_copy::Copied;
 fn behind(pass: Pass, length: usize, lines: usize, out: Out) -> Result<Stepped, Verdict> {
     out.done.map_err(Verdict::Unwritten)?;
     Ok(Stepped::Next(Pass {
-        at: pass.at.saturating_add(length),
+        window: pass.window.past(length),
         records: pass.records.saturating_add(1),
         lines: pass.lines.saturating_add(lines),
         out,
@@ -262,7 +262,7 @@ pub fn put_next(
     atoms: &mut [i32; ATOMS],
     bonds: &mut [i32; BONDS],
 ) -> Result<Stepped, Verdict> {
-    if pass.ended {
+    if pass.window.ended {
         if s.is_empty() {
             return Ok(Stepped::Done);
         }
