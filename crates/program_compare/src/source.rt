@@ -2,7 +2,7 @@
 use compare_record::Numbers;
 use program_io::{Input, Window};
 use program_json_rows::{ATOMS, BONDS};
-use program_verdict::Verdict;
+use program_verdict::{CUT_SHORT, Verdict};
 use reader_record::RecordRead;
 use std::fs::File;
 
@@ -63,7 +63,7 @@ fn read(
             }))
         }
         RecordRead::Refused {
-            no: 19,
+            no: CUT_SHORT,
             line: _,
             column: _,
         } => Ok(Met::Short),

@@ -8,7 +8,8 @@ use program_json_rows::{ATOMS, BONDS};
 use program_verdict::Verdict;
 use std::fs::File;
 
-// Every record as JSON; the item of a name; the canonical text; the pieces; the formula against the atoms.
+// Every record as JSON; the item of a name; the canonical text; the pieces; the formula against the atoms. No closure says
+// which: the walk would be made once for each, and the reader's step have more than one caller (docs/SPEED.md).
 #[derive(Clone, Copy)]
 pub enum Task {
     Readings,

@@ -6,7 +6,7 @@ use piece_record::RecordSplit;
 use program_io::Out;
 use program_json::{End, Place, Reading};
 use program_json_rows::{ATOMS, BONDS};
-use program_verdict::Verdict;
+use program_verdict::{CUT_SHORT, NO_SUCH_ITEM, SHORT_ROOM, Verdict};
 use reader_look::Looked;
 use reader_record::RecordRead;
 use rules::LIMIT;
@@ -26,7 +26,7 @@ fn behind(pass: Pass, length: usize, lines: usize, out: Out) -> Result<Stepped, 
 
 // What was accepted at the first reading is only cut short by the buffer.
 fn refused(no: u8) -> Result<Stepped, Verdict> {
-    if no == 19 {
+    if no == CUT_SHORT {
         return Ok(Stepped::Short);
     }
     Err(Verdict::Changed)
@@ -183,7 +183,7 @@ fn after_copy(pass: Pass, room: &[u8], copied: Copied) -> Result<Stepped, Verdic
             line: _,
             column: _,
         } => {
-            if no == 20 {
+            if no == SHORT_ROOM {
                 make_room(pass, room)
             } else {
                 refused(no)
@@ -243,7 +243,7 @@ fn put_formula(
             line: _,
             column: _,
         } => {
-            if no < 22 {
+            if no < NO_SUCH_ITEM {
                 Err(Verdict::Changed)
             } else {
                 let out = program_formula::put_refused(pass.out, room, number, no);
