@@ -10,10 +10,10 @@ ghost use Rattle.program_compare.specs.Fitting.{Fitting};
 use compare_record::Numbers;
 use compare_rules::Count;
 use program_compare_lines::{Part, ROOM, Row, Side, Spot, Told, Way};
-use program_io::{Out, System, Target, Text};
+use program_io::{Out, System, Target, Text, Window};
 use program_json_rows::{ATOMS, BONDS};
 use program_verdict::Verdict;
-use source::{BUFFER, Shape, Source};
+use source::{BUFFER, Shape};
 use std::fs::File;
 
 // So many differences are listed at a time: a pair of records that has more is compared again, and those written are passed over.
@@ -226,8 +226,8 @@ fn hold(
     let mut tb = [0i32; BONDS];
     let mut ua = [0i32; ATOMS];
     let mut ub = [0i32; BONDS];
-    let mut a = Source::default();
-    let mut b = Source::default();
+    let mut a = Window::new();
+    let mut b = Window::new();
     let mut sum = Sum {
         out: Out::new(system),
         differences: 0,
@@ -235,12 +235,8 @@ fn hold(
         records: 0,
     };
     for _ in 0..u64::MAX {
-        let l = a
-            .next(first, left, &mut ta, &mut tb)
-            .map_err(Failed::First)?;
-        let r = b
-            .next(second, right, &mut ua, &mut ub)
-            .map_err(Failed::Second)?;
+        let l = source::next(&mut a, first, left, &mut ta, &mut tb).map_err(Failed::First)?;
+        let r = source::next(&mut b, second, right, &mut ua, &mut ub).map_err(Failed::Second)?;
         sum = match (l, r) {
             (None, None) => return Ok(sum),
             (Some(x), None) => {

@@ -58,6 +58,53 @@ pub fn keep(buf: &mut [u8], from: usize, to: usize) -> usize
     end - from
 }
 
+// What stands of an input in a buffer and is not read yet, from `at` to before `filled`; whether nothing follows it.
+#[derive(Clone, Copy)]
+pub struct Window {
+    pub at: usize,
+    filled: usize,
+    pub ended: bool,
+}
+
+impl Window {
+    // Before anything is read.
+    pub fn new() -> Window {
+        Window {
+            at: 0,
+            filled: 0,
+            ended: false,
+        }
+    }
+
+    pub fn of(self, buf: &[u8]) -> &[u8] {
+        tail(front(buf, self.filled), self.at)
+    }
+
+    // Behind so many bytes of it.
+    pub fn past(self, n: usize) -> Window {
+        Window {
+            at: self.at.saturating_add(n),
+            ..self
+        }
+    }
+
+    // Whether the buffer has no room for more of the input, even if what was read is given up.
+    pub fn is_full(self, buf: &[u8]) -> bool {
+        self.at == 0 && buf.len() <= self.filled
+    }
+
+    // What is not read yet moved to the front, and more of the input behind it.
+    pub fn refill(self, input: Input<'_>, buf: &mut [u8]) -> Result<Window, Reason> {
+        let kept = keep(buf, self.at, self.filled);
+        let filled = fill(input, buf, kept)?;
+        Ok(Window {
+            at: 0,
+            filled,
+            ended: filled < buf.len(),
+        })
+    }
+}
+
 // Whether n more stand from `at` on, in so many.
 pub fn has_more(length: usize, at: usize, n: usize) -> bool
     ensures { result ≡ true → at + n ≤ length }

@@ -2,6 +2,7 @@
 // where the bytes up to one of them are cut short, the next one is tried.
 use line_text::ItemLine;
 use mend_file::Mended;
+use program_verdict::CUT_SHORT;
 use text::LineAt;
 
 // The mended text of any record that fits the buffer fits this room.
@@ -45,7 +46,7 @@ pub fn try_record(
         let end = next_end(s, from)?;
         match mend_file::mend_file(program_io::front(s, end), room, list) {
             Mended::Refused {
-                no: 19,
+                no: CUT_SHORT,
                 line: _,
                 column: _,
             } => from = end,

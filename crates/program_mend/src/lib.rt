@@ -7,7 +7,7 @@ mod list;
 use cut::{LIST, ROOM};
 use list::Repair;
 use mend_file::Mended;
-use program_io::{Input, System, Target};
+use program_io::{Input, System, Target, Window};
 use program_verdict::Verdict;
 use std::fs::File;
 use std::ops::ControlFlow;
@@ -15,14 +15,11 @@ use std::ops::ControlFlow;
 // Bytes of a record, or of the blank lines at the end of a file.
 const BUFFER: usize = 1048577;
 
-// A reading: the bytes from `at` to before `filled` stand in the buffer, and nothing follows them once it has ended; records, lines of the file and
-// lines of the mended text so far.
+// A reading, the first or the one that writes: records, lines of the file and lines of the mended text so far.
 #[derive(Clone, Copy)]
 struct Pass {
     writing: bool,
-    at: usize,
-    filled: usize,
-    ended: bool,
+    window: Window,
     records: usize,
     lines: u64,
     out_lines: u64,
@@ -32,9 +29,7 @@ impl Pass {
     fn new(writing: bool) -> Pass {
         Pass {
             writing,
-            at: 0,
-            filled: 0,
-            ended: false,
+            window: Window::new(),
             records: 0,
             lines: 0,
             out_lines: 0,
@@ -45,20 +40,10 @@ impl Pass {
         self.records.saturating_add(1)
     }
 
-    // The rest of the buffer stands at its front, with more behind it.
-    fn refilled(self, filled: usize) -> Pass {
-        Pass {
-            at: 0,
-            filled,
-            ended: filled < BUFFER,
-            ..self
-        }
-    }
-
     // Behind a record of these bytes and this text.
     fn past(self, came: &[u8], text: &[u8]) -> Pass {
         Pass {
-            at: self.at.saturating_add(came.len()),
+            window: self.window.past(came.len()),
             records: self.count(),
             lines: self.lines.saturating_add(list::lines_in(came)),
             out_lines: self.out_lines.saturating_add(list::ends_in(text)),
@@ -128,14 +113,13 @@ fn take_mended(
 
 // More is read behind what there is of the record.
 fn refill(file: &File, buf: &mut [u8; BUFFER], pass: Pass) -> ControlFlow<Verdict, Pass> {
-    let kept = program_io::keep(buf, pass.at, pass.filled);
-    if kept == BUFFER {
+    if pass.window.is_full(buf) {
         return ControlFlow::Break(Verdict::TooLong {
             record: pass.count(),
         });
     }
-    match program_io::fill(Input::Opened(file), buf, kept) {
-        Ok(n) => ControlFlow::Continue(pass.refilled(n)),
+    match pass.window.refill(Input::Opened(file), buf) {
+        Ok(window) => ControlFlow::Continue(Pass { window, ..pass }),
         Err(why) => ControlFlow::Break(Verdict::Unreadable(why)),
     }
 }
@@ -217,8 +201,8 @@ fn take_short(
     repairs: &mut [u64; LIST],
     pass: Pass,
 ) -> ControlFlow<Verdict, Pass> {
-    if pass.ended {
-        let s = program_json::part(buf, pass.at, pass.filled);
+    if pass.window.ended {
+        let s = pass.window.of(buf);
         return take_rest(system, name, pass, s, room, repairs);
     }
     refill(file, buf, pass)
@@ -234,7 +218,7 @@ fn take_turn(
     repairs: &mut [u64; LIST],
     pass: Pass,
 ) -> ControlFlow<Verdict, Pass> {
-    let s = program_json::part(buf, pass.at, pass.filled);
+    let s = pass.window.of(buf);
     match cut::try_record(s, room, repairs) {
         Some((end, mended)) => {
             let came = program_io::front(s, end);

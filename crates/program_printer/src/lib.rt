@@ -3,12 +3,13 @@
 
 mod record;
 
-use program_io::{Input, Out, System};
+use program_io::{Input, Out, System, Window};
 use program_json_rows::{ATOMS, BONDS};
 use program_verdict::Verdict;
 use std::fs::File;
 
-// Every record as JSON; the item of a name; the canonical text; the pieces; the formula against the atoms.
+// Every record as JSON; the item of a name; the canonical text; the pieces; the formula against the atoms. No closure says
+// which: the walk would be made once for each, and the reader's step have more than one caller (docs/SPEED.md).
 #[derive(Clone, Copy)]
 pub enum Task {
     Readings,
@@ -26,13 +27,11 @@ struct Way {
     progress: bool,
 }
 
-// The second reading: the bytes from `at` to before `filled` stand in the buffer, after so many records and lines; the output so far.
+// The second reading, after so many records and lines; the output so far.
 #[derive(Clone, Copy)]
 struct Pass {
     way: Way,
-    at: usize,
-    filled: usize,
-    ended: bool,
+    window: Window,
     records: usize,
     lines: usize,
     // Records whose formula does not agree.
@@ -45,7 +44,7 @@ struct Pass {
 enum Stepped {
     Next(Pass),
     Done,
-    // The record at `at` is not wholly in the buffer.
+    // The record at the front of what is not read yet is not wholly in the buffer.
     Short,
 }
 
@@ -55,24 +54,16 @@ const BUFFER: usize = 1048577;
 // The canonical text of any record that fits the buffer fits this room.
 const ROOM: usize = 1310720;
 
-// A record that ends neither in a full buffer nor in the file has changed.
-fn has_changed(pass: Pass, room: usize) -> bool {
-    pass.ended || pass.at == 0 && room <= pass.filled
-}
-
-// More is read for a record that is not wholly there: the rest is moved to the front.
+// More is read for a record that is not wholly there. One that ends neither in a full buffer nor in the file has changed.
 fn read_on(file: &File, buf: &mut [u8], pass: Pass) -> Result<Pass, Verdict> {
-    if has_changed(pass, buf.len()) {
+    if pass.window.ended || pass.window.is_full(buf) {
         return Err(Verdict::Changed);
     }
-    let kept = program_io::keep(buf, pass.at, pass.filled);
-    let filled = program_io::fill(Input::Opened(file), buf, kept).map_err(Verdict::Unreadable)?;
-    Ok(Pass {
-        at: 0,
-        filled,
-        ended: filled < buf.len(),
-        ..pass
-    })
+    let window = pass
+        .window
+        .refill(Input::Opened(file), buf)
+        .map_err(Verdict::Unreadable)?;
+    Ok(Pass { window, ..pass })
 }
 
 // Of an accepted file; number 0 says how many records do not agree with their formula.
@@ -101,9 +92,7 @@ fn finish(pass: Pass, room: &[u8], records: usize) -> Verdict {
 fn begin(system: &System, way: Way) -> Pass {
     Pass {
         way,
-        at: 0,
-        filled: 0,
-        ended: false,
+        window: Window::new(),
         records: 0,
         lines: 0,
         apart: 0,
@@ -124,7 +113,7 @@ fn write_all(
     let mut bonds = [0i32; BONDS];
     let mut pass = begin(system, way);
     for _ in 0..u64::MAX {
-        let s = program_json::part(buf, pass.at, pass.filled);
+        let s = pass.window.of(buf);
         match record::put_next(pass, item, s, room, &mut atoms, &mut bonds)? {
             Stepped::Next(next) => pass = next,
             Stepped::Done => return Ok(pass),

@@ -6,7 +6,7 @@ use piece_record::RecordSplit;
 use program_io::Out;
 use program_json::{End, Place, Reading};
 use program_json_rows::{ATOMS, BONDS};
-use program_verdict::Verdict;
+use program_verdict::{CUT_SHORT, NO_SUCH_ITEM, SHORT_ROOM, Verdict};
 use reader_look::Looked;
 use reader_record::RecordRead;
 use rules::LIMIT;
@@ -16,7 +16,7 @@ use writer_copy::Copied;
 fn behind(pass: Pass, length: usize, lines: usize, out: Out) -> Result<Stepped, Verdict> {
     out.done.map_err(Verdict::Unwritten)?;
     Ok(Stepped::Next(Pass {
-        at: pass.at.saturating_add(length),
+        window: pass.window.past(length),
         records: pass.records.saturating_add(1),
         lines: pass.lines.saturating_add(lines),
         out,
@@ -26,7 +26,7 @@ fn behind(pass: Pass, length: usize, lines: usize, out: Out) -> Result<Stepped, 
 
 // What was accepted at the first reading is only cut short by the buffer.
 fn refused(no: u8) -> Result<Stepped, Verdict> {
-    if no == 19 {
+    if no == CUT_SHORT {
         return Ok(Stepped::Short);
     }
     Err(Verdict::Changed)
@@ -183,7 +183,7 @@ fn after_copy(pass: Pass, room: &[u8], copied: Copied) -> Result<Stepped, Verdic
             line: _,
             column: _,
         } => {
-            if no == 20 {
+            if no == SHORT_ROOM {
                 make_room(pass, room)
             } else {
                 refused(no)
@@ -243,7 +243,7 @@ fn put_formula(
             line: _,
             column: _,
         } => {
-            if no < 22 {
+            if no < NO_SUCH_ITEM {
                 Err(Verdict::Changed)
             } else {
                 let out = program_formula::put_refused(pass.out, room, number, no);
@@ -262,7 +262,7 @@ pub fn put_next(
     atoms: &mut [i32; ATOMS],
     bonds: &mut [i32; BONDS],
 ) -> Result<Stepped, Verdict> {
-    if pass.ended {
+    if pass.window.ended {
         if s.is_empty() {
             return Ok(Stepped::Done);
         }

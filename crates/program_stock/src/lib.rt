@@ -7,7 +7,7 @@ mod log;
 mod walk;
 
 use lines::{ROOM, Way};
-use program_io::{Out, System, Target, Text};
+use program_io::{Out, System, Target, Text, Window};
 use program_verdict::Verdict;
 use std::fs::File;
 use stock_counts::COUNTS;
@@ -40,9 +40,7 @@ fn begin(way: Way, task: Task, lots: usize, out: Out) -> Pass {
         lots,
         join: Join::new(),
         out,
-        at: 0,
-        filled: 0,
-        ended: false,
+        window: Window::new(),
         state: State::On,
     }
 }

@@ -1,7 +1,7 @@
 // The records of a file that was accepted, read from its start, each with its fate.
 use crate::lines;
 use crate::lines::{ROOM, Way};
-use program_io::{Input, Out, Reason, System};
+use program_io::{Input, Out, Reason, System, Window};
 use program_json::End;
 use program_verdict::Verdict;
 use std::fs::File;
@@ -27,7 +27,7 @@ pub enum Task {
     Keyless,
 }
 
-// A walk goes on; the record at `at` is not wholly in the buffer; every record is done; or what went wrong.
+// A walk goes on; the next record is not wholly in the buffer; every record is done; or what went wrong.
 #[derive(Clone, Copy)]
 pub enum State {
     On,
@@ -38,8 +38,7 @@ pub enum State {
     Unreadable(Reason),
 }
 
-// The bytes from `at` to before `filled` stand in the buffer; the join so far, the lots of the store, and the output; and whether the walk goes on, or how it
-// ended.
+// The join so far, the lots of the store, and the output; and whether the walk goes on, or how it ended.
 #[derive(Clone, Copy)]
 pub struct Pass {
     pub way: Way,
@@ -47,9 +46,7 @@ pub struct Pass {
     pub lots: usize,
     pub join: Join,
     pub out: Out,
-    pub at: usize,
-    pub filled: usize,
-    pub ended: bool,
+    pub window: Window,
     pub state: State,
 }
 
@@ -120,7 +117,7 @@ fn take_front(
         return pass.in_state(State::Unwritten(why));
     }
     Pass {
-        at: pass.at.saturating_add(length),
+        window: pass.window.past(length),
         join,
         out,
         ..pass
@@ -133,19 +130,16 @@ fn read_on(file: &File, buf: &mut [u8; BUFFER], pass: Pass) -> Pass {
     let State::Short = pass.state else {
         return pass;
     };
-    if pass.ended {
-        let is_done = pass.filled <= pass.at;
+    if pass.window.ended {
+        let is_done = pass.window.of(buf).is_empty();
         return pass.in_state(if is_done { State::Done } else { State::Changed });
     }
-    if pass.at == 0 && BUFFER <= pass.filled {
+    if pass.window.is_full(buf) {
         return pass.in_state(State::Changed);
     }
-    let kept = program_io::keep(buf, pass.at, pass.filled);
-    match program_io::fill(Input::Opened(file), buf, kept) {
-        Ok(filled) => Pass {
-            at: 0,
-            filled,
-            ended: filled < BUFFER,
+    match pass.window.refill(Input::Opened(file), buf) {
+        Ok(window) => Pass {
+            window,
             state: State::On,
             ..pass
         },
@@ -164,14 +158,12 @@ pub fn walk(
     room: &mut [u8; ROOM],
 ) -> Pass {
     let mut pass = Pass {
-        at: 0,
-        filled: 0,
-        ended: false,
+        window: Window::new(),
         state: State::On,
         ..start
     };
     for _ in 0..u64::MAX {
-        let s = program_json::part(buf, pass.at, pass.filled);
+        let s = pass.window.of(buf);
         pass = take_front(system, pass, s, keys, marks, room);
         pass = read_on(file, buf, pass);
         if !matches!(pass.state, State::On) {

@@ -12,6 +12,14 @@ pub use say::{is_judged, report, tell};
 use std::fs::File;
 use std::ops::ControlFlow;
 
+// Refusals that are told apart, by the numbers that C reads, too: a record is cut short; the room is; an item is not
+// there, or something is wrong with its text.
+pub const CUT_SHORT: u8 = 19;
+
+pub const SHORT_ROOM: u8 = 20;
+
+pub const NO_SUCH_ITEM: u8 = 22;
+
 #[derive(Clone, Copy)]
 pub enum Verdict {
     Accepted { records: usize },
@@ -143,7 +151,7 @@ fn molfile_whole(s: &[u8]) -> Verdict {
 // The beginning of a molfile by what was said of it alone: a refused line is refused whatever follows.
 fn begun(v: Verdict) -> Verdict {
     match v {
-        Verdict::Refused { no, .. } if no != 19 => v,
+        Verdict::Refused { no, .. } if no != CUT_SHORT => v,
         _ => Verdict::TooLong { record: 1 },
     }
 }
