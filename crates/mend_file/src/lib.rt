@@ -8,7 +8,6 @@ ghost use Rattle.mend_file.specs.Promise.{Promise, numbers_of};
 ghost use Rattle.mend_file.specs.Walked.{Walked, starts_at, end_of};
 ghost use Rattle.mend_file.specs.Promised.{Measured};
 
-use judge_line::Refusal;
 use mend_judge::Judge;
 use mend_lines::Deed;
 use mend_out::Mender;
@@ -84,11 +83,11 @@ fn walk_lines(
                     judge = j;
                     m = mend_out::keep_line(m, s, p, room, list);
                 }
-                Err(Refusal { no, column }) => {
+                Err(refusal) => {
                     return Mended::Refused {
-                        no,
+                        no: refusal.no,
                         line: m.out_line,
-                        column,
+                        column: refusal.column,
                     };
                 }
             },

@@ -1,7 +1,6 @@
 // Items as JSON: name and value lines of each.
 use crate::strings::put_string;
 use crate::{part, put_comma};
-use judge_line::Refusal;
 use line_text::{ItemLine, ValueKind};
 use program_io::Out;
 use text::LineAt;
@@ -55,7 +54,7 @@ fn title_line(line: &[u8]) -> Line {
     match line_text::item_line(line) {
         Ok(ItemLine::Title { from, to }) => Line::Name { from, to },
         Ok(ItemLine::Close) => Line::Other,
-        Err(Refusal { no: _, column: _ }) => Line::Other,
+        Err(_) => Line::Other,
     }
 }
 
@@ -63,7 +62,7 @@ fn inner_line(line: &[u8]) -> Line {
     match line_text::value_line(line) {
         Ok(ValueKind::Value) => Line::Value,
         Ok(ValueKind::Blank) => Line::Blank,
-        Err(Refusal { no: _, column: _ }) => Line::Other,
+        Err(_) => Line::Other,
     }
 }
 
