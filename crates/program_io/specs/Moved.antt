@@ -1,6 +1,6 @@
 -- Bytes of a buffer moved to its front.
 use Rattle.std.specs.Prelude.{ℕ, suc, ◌+◌, ◌-◌, ◌<◌, ◌≡◌, refl}
-use Rattle.core.specs.List.{copy_within}
+use Rattle.std.specs.List.{copy_within}
 use Rattle.std.proofs.Common.{add-one, zero-add, ◌∙◌, length-take, take-suc, drop-cons, get_or-append-add, get_or-drop}
 use native.Mathlib.Omega.{arith}
 use Rattle.std.proofs.Math.Path.{sym, ap}
