@@ -4,7 +4,7 @@
 mod channel;
 mod system;
 
-ghost use Rattle.std.specs.Prelude.{◌≡◌, true, ◌+◌, ◌-◌, ◌<◌, ◌≤◌, length};
+ghost use Rattle.std.specs.Prelude.{◌≡◌, true, false, ◌+◌, ◌-◌, ◌<◌, ◌≤◌, ◌^◌, nat_lt, length, take, drop, IfOk};
 ghost use Rattle.program_io.specs.Moved.{moved};
 
 use std::fmt;
@@ -13,19 +13,27 @@ use std::io::Stdout;
 pub use system::{Input, Reason, System, Target, go_back, has_place};
 
 // The first n bytes of a buffer; all of it where n is more.
-pub fn front(buf: &[u8], n: usize) -> &[u8] {
+#[tactic(auto, using(std::proofs::lemmas::List::take_min))]
+pub fn front(buf: &[u8], n: usize) -> &[u8]
+    ensures { result.now ≡ take n buf.now }
+{
     &buf[..n.min(buf.len())]
 }
 
 // What stands from `from` on; nothing where that lies past the end.
-pub fn tail(buf: &[u8], from: usize) -> &[u8] {
+#[tactic(auto, using(std::proofs::lemmas::List::drop_min))]
+pub fn tail(buf: &[u8], from: usize) -> &[u8]
+    ensures { result.now ≡ drop from buf.now }
+{
     &buf[from.min(buf.len())..]
 }
 
 // Reads until the buffer is full, the input ends or a read fails; the first `from` bytes stand there already. Answers
 // how many stand there then: fewer than the buffer holds once the input has ended.
 // A read that a signal interrupts is made again; turns are counted so that the loop ends, and no run uses them up.
-pub fn fill(input: Input<'_>, buf: &mut [u8], from: usize) -> Result<usize, Reason> {
+pub fn fill(input: Input<'_>, buf: &mut [u8], from: usize) -> Result<usize, Reason>
+    ensures { IfOk result (λ n. n ≤ length buf.new) }
+{
     let mut at = from;
     for _ in 0..u64::MAX {
         if buf.len() <= at {
@@ -68,7 +76,9 @@ pub struct Window {
 
 impl Window {
     // Before anything is read.
-    pub fn new() -> Window {
+    pub fn new() -> Window
+        ensures { (result.at ≡ 0) × (result.filled ≡ 0) × (result.ended ≡ false) }
+    {
         Window {
             at: 0,
             filled: 0,
@@ -76,12 +86,17 @@ impl Window {
         }
     }
 
-    pub fn of(self, buf: &[u8]) -> &[u8] {
+    pub fn of(self, buf: &[u8]) -> &[u8]
+        ensures { result.now ≡ drop self.at (take self.filled buf.now) }
+    {
         tail(front(buf, self.filled), self.at)
     }
 
     // Behind so many bytes of it.
-    pub fn past(self, n: usize) -> Window {
+    pub fn past(self, n: usize) -> Window
+        ensures at_after { self.at + n < 2 ^ 64 → result.at ≡ self.at + n }
+        ensures rest { (result.filled ≡ self.filled) × (result.ended ≡ self.ended) }
+    {
         Window {
             at: self.at.saturating_add(n),
             ..self
@@ -89,12 +104,17 @@ impl Window {
     }
 
     // Whether the buffer has no room for more of the input, even if what was read is given up.
-    pub fn is_full(self, buf: &[u8]) -> bool {
+    pub fn is_full(self, buf: &[u8]) -> bool
+        ensures full { result ≡ true → (self.at ≡ 0) × (length buf.now ≤ self.filled) }
+        ensures room { result ≡ false → self.at ≡ 0 → self.filled < length buf.now }
+    {
         self.at == 0 && buf.len() <= self.filled
     }
 
     // What is not read yet moved to the front, and more of the input behind it.
-    pub fn refill(self, input: Input<'_>, buf: &mut [u8]) -> Result<Window, Reason> {
+    pub fn refill(self, input: Input<'_>, buf: &mut [u8]) -> Result<Window, Reason>
+        ensures { IfOk result (λ w. (w.at ≡ 0) × (w.filled ≤ length buf.new) × (w.ended ≡ nat_lt w.filled (length buf.new))) }
+    {
         let kept = keep(buf, self.at, self.filled);
         let filled = fill(input, buf, kept)?;
         Ok(Window {
