@@ -4,8 +4,10 @@
 mod channel;
 mod system;
 
-ghost use Rattle.std.specs.Prelude.{◌≡◌, true, false, ◌+◌, ◌-◌, ◌<◌, ◌≤◌, ◌^◌, nat_lt, length, take, drop, IfOk};
+ghost use Rattle.std.specs.Prelude.{◌≡◌, true, false, ◌+◌, ◌-◌, ◌<◌, ◌≤◌, ◌^◌, ◌⊎◌, nat_lt, length, take, drop, IfOk};
+ghost use Rattle.std.specs.Fmt.{WritesText};
 ghost use Rattle.program_io.specs.Moved.{moved};
+ghost use Rattle.program_io.specs.Said.{said, said_byte};
 
 use std::fmt;
 use std::fmt::Write;
@@ -150,7 +152,10 @@ impl Text {
         }
     }
 
-    pub fn byte(mut self, b: u8) -> Text {
+    #[tactic(auto, using(crate::specs::Said::said_room, crate::specs::Said::said_full))]
+    pub fn byte(mut self, b: u8) -> Text
+        ensures { result ≡ said_byte self b }
+    {
         let at = self.used;
         if at < SHORT {
             self.bytes[at] = b;
@@ -159,21 +164,30 @@ impl Text {
         self
     }
 
-    pub fn word(mut self, word: &[u8]) -> Text {
+    #[tactic(auto, using(crate::specs::Said::said_none, crate::specs::Said::room_next, crate::specs::Said::full_next))]
+    pub fn word(self, word: &[u8]) -> Text
+        ensures { result ≡ said self word.now }
+    {
+        let mut text = self;
         for b in word {
-            let at = self.used;
+            let at = text.used;
             if at < SHORT {
-                self.bytes[at] = *b;
-                self.used = at + 1;
+                text.bytes[at] = *b;
+                text.used = at + 1;
             }
         }
-        self
+        text
     }
 
-    // What a value shows, or several in a format.
-    pub fn print(mut self, what: impl fmt::Display + Drop) -> Text {
-        let _ = write!(self, "{what}");
-        self
+    // What a value shows, or several in a format; what cannot be shown says nothing.
+    pub fn print<D: fmt::Display + Drop>(self, what: D) -> Text
+        ensures { (result ≡ self) ⊎ WritesText (λ t s u. u ≡ said t s) self (D.output what) result }
+    {
+        let mut text = self;
+        match fmt::Write::write(&mut text, what) {
+            Ok(()) => text,
+            Err(_) => self,
+        }
     }
 
     // A number in decimal digits.
@@ -197,6 +211,8 @@ impl Text {
 }
 
 impl fmt::Write for Text {
+    ghost write_str_gives = { λ t s u. u ≡ said t s };
+
     fn write_str(&mut self, s: &str) -> fmt::Result {
         *self = self.word(s.as_bytes());
         Ok(())
