@@ -40,8 +40,10 @@ pub struct Looked {
 // A name with zeros behind it.
 fn padded(name: &[u8]) -> [u8; WIDTH] {
     let mut bytes = [0u8; WIDTH];
-    let n = name.len().min(WIDTH);
-    bytes[..n].copy_from_slice(&name[..n]);
+    // By themselves: with `copy_from_slice` a check of the catalogue takes 10.49 instructions a byte in place of 10.33.
+    for (to, b) in bytes.iter_mut().zip(name) {
+        *to = *b;
+    }
     bytes
 }
 
