@@ -1,5 +1,5 @@
 -- The answer of the check of a whole file: what the array tells in the words of the rules.
-use Rattle.std.specs.Prelude.{ℕ, zero, suc, ◌≤◌, ◌≡◌, refl, ◌↔◌, List, length}
+use Rattle.std.specs.Prelude.{Result, ℕ, zero, suc, ◌≤◌, ◌≡◌, refl, ◌↔◌, List, length}
 use Rattle.std.proofs.Common.{arith, sym, ap, ◌∙◌, subst}
 use Rattle.text.specs.Text.{Bytes}
 use Rattle.rules.specs.Record.{Raw, GoodMolfile, GoodSDfile}
@@ -8,7 +8,7 @@ use Rattle.judge_file.specs.Verdict.{Verdict, accepted, refused}
 use Rattle.judge_file.specs.SameVerdict.{accepted_refused, same_numbers}
 use Rattle.reader_walk.specs.Promise.{RefusedAt, CheckedAs}
 use Rattle.reader_walk.specs.Checking.{check_of}
-use Rattle.reader_check.specs.declared.Answer.{Answer}
+use Rattle.judge_file.specs.declared.TextRefusal.{TextRefusal}
 use Rattle.reader_check.specs.Promised.{numbers_of, Promised}
 use Rattle.capellanote_numbers.specs.Numbers.{check_numbers}
 use Rattle.capellanote.specs.Answer.{number, by_first, first_refused, zero_exactly}
@@ -39,7 +39,7 @@ unfolding check_numbers check_told
 tells kind s (accepted n) p = refl
 tells kind s (refused e i column) p = first_refused e (accepted i) (λ (n : ℕ). refused n i column) (numbered kind s e i column p)
 
-module _ (kind : ℕ) (s : Bytes) (r : Answer) (out : List ℕ) (e : out ≡ check_numbers (numbers_of r)) (p : Promised kind s r) where
+module _ (kind : ℕ) (s : Bytes) (r : Result ℕ TextRefusal) (out : List ℕ) (e : out ≡ check_numbers (numbers_of r)) (p : Promised kind s r) where
   pub check_held : out ≡ check_numbers (check_of kind s)
   check_held = e ∙ ap check_numbers p.judged
 

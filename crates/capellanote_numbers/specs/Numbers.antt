@@ -1,9 +1,9 @@
 -- The answers of the library as arrays of numbers for C: the first is 0, or the number of the refusal, and then the next two are its line and column.
-use Rattle.std.specs.Prelude.{ℕ, zero, suc, ◌≡◌, refl, Bool, true, false, List, [], ◌∷◌}
+use Rattle.std.specs.Prelude.{Result, Ok, Err, ℕ, zero, suc, ◌≡◌, refl, Bool, true, false, List, [], ◌∷◌}
 use Rattle.std.proofs.Common.{arith, sym}
 use Rattle.std.proofs.Math.Path.{ap}
 use Rattle.judge_file.specs.Verdict.{Verdict, accepted, refused}
-use Rattle.reader_check.specs.declared.Answer.{Answer}
+use Rattle.judge_file.specs.declared.TextRefusal.{TextRefusal}
 use Rattle.reader_check.specs.Promised.{numbers_of}
 use Rattle.reader_answer.specs.declared.RecordRead.{RecordRead}
 use Rattle.reader_item.specs.declared.Found.{Found}
@@ -23,14 +23,14 @@ unfoldable pub check_numbers : Verdict ℕ → List ℕ
 check_numbers (accepted count) = 0 ∷ (count ∷ (0 ∷ []))
 check_numbers (refused e i column) = e ∷ (i ∷ (column ∷ []))
 
-module _ (a : Answer) where
-  pub check_accepted : (count : ℕ) → a ≡ Answer.Accepted count → 0 ∷ (count ∷ (0 ∷ [])) ≡ check_numbers (numbers_of a)
+module _ (a : Result ℕ TextRefusal) where
+  pub check_accepted : (count : ℕ) → a ≡ Ok count → 0 ∷ (count ∷ (0 ∷ [])) ≡ check_numbers (numbers_of a)
   unfolding check_numbers
-  check_accepted count h = ap (λ (x : Answer). check_numbers (numbers_of x)) (sym h)
+  check_accepted count h = ap (λ (x : Result ℕ TextRefusal). check_numbers (numbers_of x)) (sym h)
 
-  pub check_refused : (e i column : ℕ) → a ≡ Answer.Refused e i column → e ∷ (i ∷ (column ∷ [])) ≡ check_numbers (numbers_of a)
+  pub check_refused : (r : TextRefusal) → a ≡ Err r → r.no ∷ (r.line ∷ (r.column ∷ [])) ≡ check_numbers (numbers_of a)
   unfolding check_numbers
-  check_refused e i column h = ap (λ (x : Answer). check_numbers (numbers_of x)) (sym h)
+  check_refused r h = ap (λ (x : Result ℕ TextRefusal). check_numbers (numbers_of x)) (sym h)
 
 pub ruleset check_array = (check_accepted, check_refused)
 

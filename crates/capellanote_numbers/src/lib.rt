@@ -6,8 +6,8 @@ ghost use Rattle.reader_check.specs.Promised.{numbers_of};
 ghost use Rattle.reader_item.specs.Find.{numbers_of as item_of};
 ghost use Rattle.capellanote_numbers.specs.Numbers.{check_numbers, read_numbers, found_numbers, written_numbers, catalogue_numbers, copied_numbers, next_numbers, truth, fed_numbers};
 
+use judge_file::TextRefusal;
 use reader_answer::{Counted, RecordRead};
-use reader_check::Answer;
 use reader_cursor::Cursor;
 use reader_feed::Fed;
 use reader_file::Next;
@@ -15,12 +15,12 @@ use reader_item::Found;
 use writer_answer::{Catalogue, Copied};
 use writer_record::Written;
 
-pub fn of_check(a: Answer) -> [u64; 3]
+pub fn of_check(a: Result<usize, TextRefusal>) -> [u64; 3]
     ensures { result ≡ check_numbers (numbers_of a) }
 {
     match a {
-        Answer::Accepted { records } => [0, records as u64, 0],
-        Answer::Refused { no, line, column } => [no as u64, line as u64, column as u64],
+        Ok(records) => [0, records as u64, 0],
+        Err(TextRefusal { no, line, column }) => [no as u64, line as u64, column as u64],
     }
 }
 

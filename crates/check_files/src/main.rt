@@ -6,7 +6,7 @@ use program_io::{Input, System};
 use std::process::ExitCode;
 
 fn judge_file(system: &System, name: &[u8], way: Way, buf: &mut [u8; BUFFER]) {
-    if check::same(name, b"-") {
+    if name == b"-".as_slice() {
         program_delivery::judge(system, name, system.stdin(), way, buf);
         return;
     }
@@ -26,36 +26,8 @@ fn judge_argument(system: &System, i: usize, way: Way, buf: &mut [u8; BUFFER]) {
 
 fn judge_arguments(system: &System, from: usize, way: Way, buf: &mut [u8; BUFFER]) {
     let count = system.argument_count();
-    let mut i = from;
-    while i < count {
+    for i in from..count {
         judge_argument(system, i, way, buf);
-        i += 1;
-    }
-}
-
-// The names stand from `from` on, or from `next` on where `--all` is said first.
-fn judge_all(
-    system: &System,
-    from: usize,
-    next: usize,
-    sd: bool,
-    progress: bool,
-    buf: &mut [u8; BUFFER],
-) {
-    if program_io::is_argument(system, from, b"--all") {
-        let way = Way {
-            sd,
-            progress,
-            all: true,
-        };
-        judge_arguments(system, next, way, buf);
-    } else {
-        let way = Way {
-            sd,
-            progress,
-            all: false,
-        };
-        judge_arguments(system, from, way, buf);
     }
 }
 
@@ -63,10 +35,10 @@ fn main(rt: HostRuntime) -> ExitCode {
     let system = System::new(rt);
     let mut buf = [0u8; BUFFER];
     let sd = program_io::is_argument(&system, 1, b"sdfile");
-    if program_io::is_argument(&system, 2, b"--progress") {
-        judge_all(&system, 3, 4, sd, true, &mut buf);
-    } else {
-        judge_all(&system, 2, 3, sd, false, &mut buf);
-    }
+    let progress = program_io::is_argument(&system, 2, b"--progress");
+    let next = if progress { 3 } else { 2 };
+    let all = program_io::is_argument(&system, next, b"--all");
+    let way = Way { sd, progress, all };
+    judge_arguments(&system, if all { next + 1 } else { next }, way, &mut buf);
     system.ending()
 }

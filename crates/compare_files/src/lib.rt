@@ -14,7 +14,7 @@ ghost use Rattle.compare_files.specs.Promise.{Rooms, Promise};
 
 use compare_record::Numbers;
 use compare_rules::{Count, Place};
-use reader_check::Answer;
+use judge_file::TextRefusal;
 use reader_cursor::Cursor;
 use reader_record::RecordRead;
 use rules::{ATOMS, BONDS};
@@ -38,15 +38,17 @@ fn judge_second(records: usize, new: &[u8]) -> Judged
     ensures { result ≡ second_by records (verdict sdfile limit new.now) }
 {
     match reader_check::check(1, new) {
-        Answer::Accepted { records: more } => Judged::Good {
+        Ok(more) => Judged::Good {
             old: records,
             new: more,
         },
-        Answer::Refused {
-            no: _,
-            line,
-            column,
-        } => Judged::Bad {
+        Err(
+            TextRefusal {
+                no: _,
+                line,
+                column,
+            },
+        ) => Judged::Bad {
             no: 37,
             line,
             column,
@@ -58,12 +60,14 @@ fn judge(old: &[u8], new: &[u8]) -> Judged
     ensures { result ≡ judged_by (verdict sdfile limit old.now) (verdict sdfile limit new.now) }
 {
     match reader_check::check(1, old) {
-        Answer::Accepted { records } => judge_second(records, new),
-        Answer::Refused {
-            no: _,
-            line,
-            column,
-        } => Judged::Bad {
+        Ok(records) => judge_second(records, new),
+        Err(
+            TextRefusal {
+                no: _,
+                line,
+                column,
+            },
+        ) => Judged::Bad {
             no: 36,
             line,
             column,
@@ -211,13 +215,13 @@ fn pair_apart(
 }
 
 // Records after `from` up to `to`, which one file has alone.
+#[tactic(auto, using(crate::specs::Walking::resting_laws))]
 fn rest_records(list: &mut [i64], count: Count, from: usize, to: usize, side: u8) -> Count
     requires { (from ≤ to) × (to < 2 ^ 63) }
     ensures { log list.new result ≡ noted (log list.old count) (alone_records side from (to - from)) }
 {
     let mut c = count;
-    let mut k = from;
-    while k < to {
+    for k in from..to {
         let spot = Place {
             position: k + 1,
             part: 10,
@@ -225,7 +229,6 @@ fn rest_records(list: &mut [i64], count: Count, from: usize, to: usize, side: u8
             field: 0,
         };
         c = compare_tables::put(list, c, spot, side, 0, 0);
-        k += 1;
     }
     c
 }
@@ -250,6 +253,7 @@ fn files_apart(
     let mut a = Cursor::new();
     let mut b = Cursor::new();
     let mut c = Count { skip: 0, seen: 0 };
+    // Two cursors jump by records of any length and count them: a `for` would count them a second time.
     while a.records < both {
         let i = a.at;
         let j = b.at;

@@ -1,5 +1,5 @@
 -- Items of two parts, gone through side by side.
-use Rattle.std.specs.Prelude.{ℕ, suc, ◌+◌, ◌-◌, ◌*◌, ◌^◌, ◌≤◌, ◌<◌, ◌≡◌, refl, length, take, drop, ℤ}
+use Rattle.std.specs.Prelude.{Result, Ok, Err, ℕ, suc, ◌+◌, ◌-◌, ◌*◌, ◌^◌, ◌≤◌, ◌<◌, ◌≡◌, refl, length, take, drop, ℤ}
 use Rattle.std.proofs.Common.{arith, add-one, ◌∙◌, Fits}
 use Rattle.std.proofs.Math.Path.{sym, ap, ap₂}
 use mathlib.Core.List.{List, [], ◌∷◌, ◌++◌}
@@ -13,7 +13,8 @@ use Rattle.rules.specs.Record.{Item}
 use Rattle.judge_line.specs.Judge.{item_of}
 use Rattle.line_text.specs.Answer.{item_got, item_in}
 use Rattle.line_text.specs.Within.{title_order, title_end}
-use Rattle.line_text.specs.declared.ItemRead.{ItemRead}
+use Rattle.line_text.specs.declared.ItemLine.{ItemLine}
+use Rattle.judge_line.specs.declared.Refusal.{Refusal}
 use Rattle.compare_rules.specs.declared.Place.{Place}
 use Rattle.compare_rules.specs.declared.Count.{Count}
 use Rattle.compare_rules.specs.Along.{along}
@@ -34,15 +35,15 @@ pub record NameIn (l : Line) (r : Span) : Type 0 where
   pub end : r.to ≤ length l
   pub name : take (r.to - r.from) (drop r.from l) ≡ name_on l
 
-module _ (l : Line) (r : ItemRead) (e : item_got l r ≡ item_of l) where
-  pub name_title : item_in l r → (from to : ℕ) → r ≡ ItemRead.Title from to → NameIn l (record { from = from; to = to })
+module _ (l : Line) (r : Result ItemLine Refusal) (e : item_got l r ≡ item_of l) where
+  pub name_title : item_in l r → (from to : ℕ) → r ≡ Ok (ItemLine.Title from to) → NameIn l (record { from = from; to = to })
   name_title h from to q = record { order = title_order l r from to h q; end = title_end l r from to h q; name = ap name_by (sym (ap (item_got l) q) ∙ e) }
 
-  pub name_close : r ≡ ItemRead.Close → NameIn l (record { from = 0; to = 0 })
+  pub name_close : r ≡ Ok ItemLine.Close → NameIn l (record { from = 0; to = 0 })
   name_close q = record { order = omega arith; end = omega arith; name = ap name_by (sym (ap (item_got l) q) ∙ e) }
 
-  pub name_bad : (n c : ℕ) → r ≡ ItemRead.Bad n c → NameIn l (record { from = 0; to = 0 })
-  name_bad n c q = record { order = omega arith; end = omega arith; name = ap name_by (sym (ap (item_got l) q) ∙ e) }
+  pub name_bad : (f : Refusal) → r ≡ Err f → NameIn l (record { from = 0; to = 0 })
+  name_bad f q = record { order = omega arith; end = omega arith; name = ap name_by (sym (ap (item_got l) q) ∙ e) }
 
 pub ruleset name_laws = (name_title, name_close, name_bad)
 

@@ -13,7 +13,7 @@ ghost use Rattle.compare_items.specs.Part.{name_on, items_at};
 ghost use Rattle.compare_items.specs.Items.{NameIn, alone_items};
 
 use compare_rules::{Count, Place};
-use line_text::ItemRead;
+use line_text::ItemLine;
 use text::LineAt;
 
 // A value line of an item; or where the line after its blank line starts.
@@ -84,6 +84,7 @@ fn both_values(
     let mut y = j;
     let mut k: usize = 1;
     let mut c = count;
+    // Two places jump by lines of any length, and k is an answer too: a `for` would need an iterator over both.
     loop {
         let Value::Line { end: e, next: n } = value_at(a, x) else {
             return Both {
@@ -129,6 +130,7 @@ fn rest_values(list: &mut [i64], count: Count, p: Place, side: u8, s: &[u8], at:
     let mut x = at;
     let mut k = p.field;
     let mut c = count;
+    // The place jumps by lines of any length: a `for` would need an iterator over them, with a proof of its own.
     loop {
         match value_at(s, x) {
             Value::Line { end: _, next } => {
@@ -155,6 +157,7 @@ fn past_item(s: &[u8], at: usize) -> usize
     ensures { Passed s.now at result }
 {
     let mut x = at;
+    // The place jumps by lines of any length: a `for` would need an iterator over them, with a proof of its own.
     loop {
         match value_at(s, x) {
             Value::Line { end: _, next } => {
@@ -212,9 +215,9 @@ fn name_in(line: &[u8]) -> Span
     ensures { NameIn line.now result }
 {
     match line_text::item_line(line) {
-        ItemRead::Title { from, to } => Span { from, to },
-        ItemRead::Close => Span { from: 0, to: 0 },
-        ItemRead::Bad { no: _, column: _ } => Span { from: 0, to: 0 },
+        Ok(ItemLine::Title { from, to }) => Span { from, to },
+        Ok(ItemLine::Close) => Span { from: 0, to: 0 },
+        Err(_) => Span { from: 0, to: 0 },
     }
 }
 
@@ -240,6 +243,7 @@ fn rest_items(list: &mut [i64], count: Count, p: Place, side: u8, s: &[u8], at: 
     let mut x = at;
     let mut k = p.index;
     let mut c = count;
+    // The place jumps by items of any length: a `for` would need an iterator over them, with a proof of its own.
     loop {
         let LineAt::Line { end: _, next } = text::line_at(s, x) else {
             return c;
@@ -265,6 +269,7 @@ pub fn items_apart(list: &mut [i64], count: Count, position: usize, a: &[u8], b:
     let mut y: usize = 0;
     let mut k: usize = 1;
     let mut c = count;
+    // Two places jump by items of any length: a `for` would need an iterator over both, with a proof of its own.
     loop {
         let LineAt::Line { end: e, next: n } = text::line_at(a, x) else {
             let rest = Place {

@@ -81,13 +81,13 @@ pub fn figures(list: &mut [i64], count: Count, p: Place, x: i32, y: i32) -> Coun
 }
 
 // Two rows of as many numbers, field by field. The field of p is of no account.
+#[tactic(auto, using(crate::specs::SideBySide::row_laws))]
 fn row_apart(list: &mut [i64], count: Count, p: Place, a: &[i32], b: &[i32]) -> Count
     requires { Small p × (length a.now ≡ length b.now) }
     ensures { log list.new result ≡ noted (log list.old count) (along (row_of p) 1 a.now b.now) }
 {
     let mut c = count;
-    let mut k: usize = 0;
-    while k < a.len() {
+    for k in 0..a.len() {
         let spot = Place {
             position: p.position,
             part: p.part,
@@ -95,7 +95,6 @@ fn row_apart(list: &mut [i64], count: Count, p: Place, a: &[i32], b: &[i32]) -> 
             field: k + 1,
         };
         c = figures(list, c, spot, a[k], b[k]);
-        k += 1;
     }
     c
 }
@@ -111,6 +110,7 @@ pub fn smaller(n: usize, m: usize) -> usize
 }
 
 // The first n rows of two tables, so many numbers each. The place and field of p are of no account.
+#[tactic(auto, using(crate::specs::SideBySide::table_laws))]
 pub fn table_apart(
     list: &mut [i64],
     count: Count,
@@ -124,8 +124,7 @@ pub fn table_apart(
     ensures { log list.new result ≡ noted (log list.old count) (along (table_of p) 1 (rows_of width n a.now) (rows_of width n b.now)) }
 {
     let mut c = count;
-    let mut i: usize = 0;
-    while i < n {
+    for i in 0..n {
         let spot = Place {
             position: p.position,
             part: p.part,
@@ -135,7 +134,6 @@ pub fn table_apart(
         let at = width * i;
         let end = at + width;
         c = row_apart(list, c, spot, &a[at..end], &b[at..end]);
-        i += 1;
     }
     c
 }

@@ -1,4 +1,5 @@
 -- Laws on the ten columns of a coordinate field: its spaces, its point, its sign, its digits.
+use Rattle.std.specs.Prelude.{Option, Some, None}
 use Prim.Native.Nat.{ℕ, zero, suc, ◌+◌, ◌-◌, ◌*◌, ◌≤◌, ◌<◌}
 use native.Mathlib.Omega.{arith}
 use mathlib.Core.Path.{◌≡◌, refl, sym, ap, ◌∙◌}
@@ -15,9 +16,6 @@ use Rattle.field_numbers.specs.Number.{decimal_after}
 use Rattle.field_numbers.specs.Read.{is_digit, all_digits, some_digits, after_spaces, signed}
 use Rattle.field_numbers.specs.Agree.{some_digits_lem}
 use Rattle.field_numbers.specs.SignSize.{size_in}
-use Rattle.field_numbers.specs.declared.Size.{Size}
-use Rattle.field_coordinates.specs.declared.CoordinateRead.{CoordinateRead}
-use Rattle.field_coordinates.specs.declared.CoordinateRead.TheVariants.{Is, Malformed}
 use Rattle.field_coordinates.specs.Agree.{nines, digits_range}
 use Rattle.field_coordinates.specs.Read.{point_read, before_point, inked, blank_or, coordinate_in}
 
@@ -33,19 +31,19 @@ module _ (l : Line) (i : ℕ) where
   last_four = let k : i + 6 ≡ i + 5 + 1 = omega arith in columns_drop l i 6 4 ∙ ap (λ (j : ℕ). columns_for l j 4) k
 
 -- the parts of a field that can be read: where one of them is missing, ten columns are blank or nothing
-after_none : (ws fs : Bytes) → some_digits fs ≡ false → before_point ws fs ≡ Malformed
+after_none : (ws fs : Bytes) → some_digits fs ≡ false → before_point ws fs ≡ None
 unfolding before_point point_read
 after_none [] fs h = refl
 after_none (w ∷ ws) fs h = by (eqb w 45)
   where
-    none : (minus : Bool) (ds : Bytes) → point_read minus ds fs ≡ Malformed
+    none : (minus : Bool) (ds : Bytes) → point_read minus ds fs ≡ None
     none minus ds = rw (h, and-false (some_digits ds))
 
-    by : (t : Bool) → cond t (point_read true ws fs) (point_read false (w ∷ ws) fs) ≡ Malformed
+    by : (t : Bool) → cond t (point_read true ws fs) (point_read false (w ∷ ws) fs) ≡ None
     by true = none true ws
     by false = none false (w ∷ ws)
 
-same_both : (t : Bool) (r : CoordinateRead) → r ≡ Malformed → cond t r Malformed ≡ Malformed
+same_both : (t : Bool) (r : Option ℤ) → r ≡ None → cond t r None ≡ None
 same_both true r h = h
 same_both false r h = refl
 
@@ -54,7 +52,7 @@ unfolding all_digits
 space_last a b c d h = rw (h, and-false (is_digit c), and-false (is_digit b), and-false (is_digit a))
 
 -- a line that ends before the tenth column
-pub short_field : (l : Line) (i : ℕ) → 1 ≤ i → length l < i + 9 → inked (columns l i (i + 9)) ≡ Malformed
+pub short_field : (l : Line) (i : ℕ) → 1 ≤ i → length l < i + 9 → inked (columns l i (i + 9)) ≡ None
 unfolding inked columns_for
 short_field l i one h =
     let k : length l ≤ suc (suc (suc (i + 5 + 1))) - 1 = omega arith in
@@ -87,11 +85,11 @@ module _ (l : Line) (i b : ℕ) (spaces : after_spaces (columns_for l i (i + 10 
   passed : after_spaces (columns_for l i 10) ≡ columns_for l b (i + 10 - b)
   passed = let k : i + 10 - i ≡ 10 = omega arith in rw k at spaces
 
-  pub blank_field : i + 10 ≤ b → Is (pos 0) ≡ coordinate_in (columns l i (i + 9))
+  pub blank_field : i + 10 ≤ b → Some (pos 0) ≡ coordinate_in (columns l i (i + 9))
   unfolding coordinate_in
   blank_field h = sym (rw (ten l i, passed, columns_over l b (i + 10) h))
 
-  pub no_blank : b < i + 10 → inked (columns l i (i + 9)) ≡ Malformed → Malformed ≡ coordinate_in (columns l i (i + 9))
+  pub no_blank : b < i + 10 → inked (columns l i (i + 9)) ≡ None → None ≡ coordinate_in (columns l i (i + 9))
   unfolding coordinate_in
   no_blank h m = sym (rw (ten l i, passed, columns_step l b (i + 10) h) (rw (ten l i) at m))
 
@@ -99,7 +97,7 @@ pub ruleset blank_laws = (blank_field, no_blank)
 
 -- the spaces before the point end at column a
 module _ (l : Line) (i a : ℕ) (before : after_spaces (columns_for l i (i + 5 - i)) ≡ columns_for l a (i + 5 - a)) where
-  pub no_digits : i + 5 ≤ a → inked (columns l i (i + 9)) ≡ Malformed
+  pub no_digits : i + 5 ≤ a → inked (columns l i (i + 9)) ≡ None
   unfolding inked before_point
   no_digits h =
       rw (ten l i)
@@ -113,7 +111,7 @@ module _ (l : Line) (i a : ℕ) (before : after_spaces (columns_for l i (i + 5 -
         let f : after_spaces (take 5 (columns_for l i 10)) ≡ column l a ∷ columns_for l (a + 1) (i + 5 - (a + 1)) = ap after_spaces (first_five l i) ∙ before ∙ columns_step l a (i + 5) ink in
         rw (ten l i) (ink_found (columns_for l i 10) _ _ f)
 
-    pub no_point : (c ≡ 46 → ⊥) → Malformed ≡ coordinate_in (columns l i (i + 9))
+    pub no_point : (c ≡ 46 → ⊥) → None ≡ coordinate_in (columns l i (i + 9))
     unfolding inked
     no_point n = sym (inked_field ∙ rw (columns_get l i 5 10 0 (omega arith), ne_eqb (column l (i + 5)) 46 (λ e. n (six ∙ e))))
 
@@ -123,12 +121,12 @@ module _ (l : Line) (i a : ℕ) (before : after_spaces (columns_for l i (i + 5 -
       unfolding inked
       pointed_field = inked_field ∙ rw (columns_get l i 5 10 0 (omega arith), eq-eqb (column l (i + 5)) 46 (sym six ∙ point), first_five l i, before, last_four l i)
 
-      pub minus_field : (d : ℕ) (r : CoordinateRead) → d ≡ column l a → d ≡ 45 →
+      pub minus_field : (d : ℕ) (r : Option ℤ) → d ≡ column l a → d ≡ 45 →
           r ≡ point_read true (columns_for l (a + 1) (i + 5 - (a + 1))) (columns_for l (i + 5 + 1) 4) → r ≡ coordinate_in (columns l i (i + 9))
       unfolding before_point
       minus_field d r s m e = e ∙ sym (pointed_field ∙ rw (columns_step l a (i + 5) ink, eq-eqb (column l a) 45 (sym s ∙ m)))
 
-      pub plain_field : (d : ℕ) (r : CoordinateRead) → d ≡ column l a → (d ≡ 45 → ⊥) →
+      pub plain_field : (d : ℕ) (r : Option ℤ) → d ≡ column l a → (d ≡ 45 → ⊥) →
           r ≡ point_read false (columns_for l a (i + 5 - a)) (columns_for l (i + 5 + 1) 4) → r ≡ coordinate_in (columns l i (i + 9))
       unfolding before_point
       plain_field d r s m e = e ∙ sym (pointed_field ∙ rw (columns_step l a (i + 5) ink, ne_eqb (column l a) 45 (λ k. m (s ∙ k))))
@@ -140,44 +138,44 @@ record Size-is (ds : Bytes) (k : ℕ) : Type 0 where
   some : some_digits ds ≡ true
   number : decimal_after 0 ds ≡ k
 
-size_is : (ds : Bytes) (k : ℕ) → size_in ds ≡ Size.Is k → Size-is ds k
+size_is : (ds : Bytes) (k : ℕ) → size_in ds ≡ Some k → Size-is ds k
 unfolding size_in
 size_is ds k h = go (some_digits ds) refl h where
-  go : (t : Bool) → some_digits ds ≡ t → cond t (Size.Is (decimal_after 0 ds)) Size.Malformed ≡ Size.Is k → Size-is ds k
+  go : (t : Bool) → some_digits ds ≡ t → cond t (Some (decimal_after 0 ds)) None ≡ Some k → Size-is ds k
   go true e h = record { some = e; number = cc }
   go false e h = absurd (let z : ◌≡◌ {A = ℕ} 0 1 = cc in omega arith)
 
-size_not : (ds : Bytes) → size_in ds ≡ Size.Malformed → some_digits ds ≡ false
+size_not : (ds : Bytes) → size_in ds ≡ None → some_digits ds ≡ false
 unfolding size_in
 size_not ds h = go (some_digits ds) refl h where
-  go : (t : Bool) → some_digits ds ≡ t → cond t (Size.Is (decimal_after 0 ds)) Size.Malformed ≡ Size.Malformed → some_digits ds ≡ false
+  go : (t : Bool) → some_digits ds ≡ t → cond t (Some (decimal_after 0 ds)) None ≡ None → some_digits ds ≡ false
   go true e h = absurd (let z : ◌≡◌ {A = ℕ} 0 1 = cc in omega arith)
   go false e h = e
 
 -- n columns of digits at most
-pub size_range : (l : Line) (a e n k : ℕ) (s : Size) → e - a ≤ n → s ≡ size_in (columns_for l a (e - a)) → s ≡ Size.Is k → k ≤ nines 0 n
+pub size_range : (l : Line) (a e n k : ℕ) (s : Option ℕ) → e - a ≤ n → s ≡ size_in (columns_for l a (e - a)) → s ≡ Some k → k ≤ nines 0 n
 size_range l a e n k s h p q =
     let r = size_is (columns_for l a (e - a)) k (sym p ∙ q) in
     let d = digits_range n (some_digits_lem (columns_for l a (e - a)) r.some) (omega (arith, columns_length l a (e - a))) in
     omega (arith, r.number, d)
 
-module _ (minus : Bool) (l : Line) (a p : ℕ) (s : Size) (before : s ≡ size_in (columns_for l a (p - a))) where
-  pub no_whole : s ≡ Size.Malformed → Malformed ≡ point_read minus (columns_for l a (p - a)) (columns_for l (p + 1) 4)
+module _ (minus : Bool) (l : Line) (a p : ℕ) (s : Option ℕ) (before : s ≡ size_in (columns_for l a (p - a))) where
+  pub no_whole : s ≡ None → None ≡ point_read minus (columns_for l a (p - a)) (columns_for l (p + 1) 4)
   unfolding point_read
   no_whole h = sym (rw (size_not (columns_for l a (p - a)) (sym before ∙ h)))
 
-  module _ (whole : ℕ) (is : s ≡ Size.Is whole) (t : Size) (after : t ≡ size_in (columns_for l (p + 1) (p + 5 - (p + 1)))) where
+  module _ (whole : ℕ) (is : s ≡ Some whole) (t : Option ℕ) (after : t ≡ size_in (columns_for l (p + 1) (p + 5 - (p + 1)))) where
     after_four : t ≡ size_in (columns_for l (p + 1) 4)
     after_four = let k : p + 5 - (p + 1) ≡ 4 = omega arith in rw k at after
 
-    pub no_part : t ≡ Size.Malformed → Malformed ≡ point_read minus (columns_for l a (p - a)) (columns_for l (p + 1) 4)
+    pub no_part : t ≡ None → None ≡ point_read minus (columns_for l a (p - a)) (columns_for l (p + 1) 4)
     unfolding point_read
     no_part h =
         let r = size_is (columns_for l a (p - a)) whole (sym before ∙ is) in
         sym (rw (r.some, size_not (columns_for l (p + 1) 4) (sym after_four ∙ h)))
 
-    pub both_parts : (part : ℕ) (z : ℤ) → t ≡ Size.Is part → z ≡ signed minus (whole * 10000 + part) →
-        Is z ≡ point_read minus (columns_for l a (p - a)) (columns_for l (p + 1) 4)
+    pub both_parts : (part : ℕ) (z : ℤ) → t ≡ Some part → z ≡ signed minus (whole * 10000 + part) →
+        Some z ≡ point_read minus (columns_for l a (p - a)) (columns_for l (p + 1) 4)
     unfolding point_read
     both_parts part z h v =
         let r = size_is (columns_for l a (p - a)) whole (sym before ∙ is) in

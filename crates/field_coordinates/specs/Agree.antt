@@ -1,5 +1,5 @@
 -- The rule and the reading of a coordinate field say the same; a field stands for one number, and its range is known.
-use Rattle.std.specs.Prelude.{ℕ, zero, suc, ◌+◌, ◌*◌, ◌-◌, ◌≤◌, ◌≡◌, refl, [], ◌∷◌, ◌++◌, Bool, true, false, cond, eqb, length, drop, ℤ, pos, neg_ℤ}
+use Rattle.std.specs.Prelude.{Option, Some, ℕ, zero, suc, ◌+◌, ◌*◌, ◌-◌, ◌≤◌, ◌≡◌, refl, [], ◌∷◌, ◌++◌, Bool, true, false, cond, eqb, length, drop, ℤ, pos, neg_ℤ}
 use Rattle.std.proofs.Common.{arith, sym, ap, ◌∙◌, length-append, take_at, drop_at, drop-drop}
 use Rattle.std.proofs.lemmas.List.{get_or_at}
 use Rattle.text.specs.Text.{Bytes, Line, Each}
@@ -8,13 +8,11 @@ use Rattle.text.specs.Agree.{columns_length}
 use Rattle.field_numbers.specs.Number.{Digit, Digits, decimal_after, Between}
 use Rattle.field_numbers.specs.Read.{after_spaces, signed}
 use Rattle.field_numbers.specs.Agree.{digit_not, digits_some, pass_spaces}
-use Rattle.field_coordinates.specs.declared.CoordinateRead.{CoordinateRead}
-use Rattle.field_coordinates.specs.declared.CoordinateRead.TheVariants.{Is}
 use Rattle.field_coordinates.specs.Coordinate.{Pointed, Coordinate}
 use Rattle.field_coordinates.specs.Read.{point_read, before_point, inked, blank_or, coordinate_in}
 
 -- from the rule to the reading
-point_stays : (bs fs : Bytes) (r : CoordinateRead) → blank_or (after_spaces (bs ++ (46 ∷ fs))) r ≡ r
+point_stays : (bs fs : Bytes) (r : Option ℤ) → blank_or (after_spaces (bs ++ (46 ∷ fs))) r ≡ r
 unfolding after_spaces
 point_stays [] fs r = refl
 point_stays (b ∷ bs) fs r = go (eqb b 32) (point_stays bs fs r) where
@@ -34,7 +32,7 @@ pointed_reads {cs} {bs} {fs} p =
     rw (get_or_at bs 46 fs 0 5 p.column_6, take_at bs (46 ∷ fs) 5 p.column_6, drop_point bs fs p.column_6))
 
 digits_read_lem : (minus : Bool) {ds fs : Bytes} {whole part : ℕ} → Digits ds whole → Digits fs part →
-    point_read minus ds fs ≡ Is (signed minus (whole * 10000 + part))
+    point_read minus ds fs ≡ Some (signed minus (whole * 10000 + part))
 unfolding point_read
 digits_read_lem minus {ds} {fs} {whole} {part} a b = rw (digits_some ds whole a, digits_some fs part b, a.number, b.number)
 
@@ -44,12 +42,12 @@ digits_stay [] k h = refl
 digits_stay (d ∷ ds) k h = rw (digit_not d 32 (omega arith) h.each.0)
 
 plain_read : (ds fs : Bytes) {whole part : ℕ} → Digits ds whole → Digits fs part →
-    before_point ds fs ≡ Is (pos (whole * 10000 + part))
+    before_point ds fs ≡ Some (pos (whole * 10000 + part))
 unfolding before_point Each
 plain_read [] fs a b = let z : 1 ≤ 0 = a.some in absurd (omega arith)
 plain_read (d ∷ ds) fs a b = rw (digit_not d 45 (omega arith) a.each.0) (digits_read_lem false a b)
 
-pub read_coordinate : {cs : Bytes} {z : ℤ} → Coordinate cs z → coordinate_in cs ≡ Is z
+pub read_coordinate : {cs : Bytes} {z : ℤ} → Coordinate cs z → coordinate_in cs ≡ Some z
 unfolding coordinate_in after_spaces before_point
 read_coordinate (Coordinate.blank e) = rw e
 read_coordinate (Coordinate.plain i ds fs w p q a b) = pointed_reads q ∙ rw (pass_spaces i ds, digits_stay ds w a) (plain_read ds fs a b)

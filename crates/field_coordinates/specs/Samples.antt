@@ -1,35 +1,33 @@
 -- Samples of coordinate fields, read and written.
 use Prim.Native.String.{String}
-use Rattle.std.specs.Prelude.{◌≡◌, refl, List, [], ◌∷◌, map, ℤ, pos, negsuc}
+use Rattle.std.specs.Prelude.{Option, Some, None, ◌≡◌, refl, List, [], ◌∷◌, map, ℤ, pos, negsuc}
 use Rattle.text.specs.Text.{bytes}
 use Rattle.field_numbers.specs.Number.{decimal_after}
 use Rattle.field_numbers.specs.Read.{all_digits, after_spaces}
 use Rattle.field_numbers.specs.Write.{text_by}
-use Rattle.field_coordinates.specs.declared.CoordinateRead.{CoordinateRead}
-use Rattle.field_coordinates.specs.declared.CoordinateRead.TheVariants.{Is, Malformed}
 use Rattle.field_coordinates.specs.Read.{point_read, before_point, inked, coordinate_in}
 use Rattle.field_coordinates.specs.Write.{point_text, coordinate_text}
 
 pub record Sample : Type 0 where
   pub field : String
-  pub stands : CoordinateRead
+  pub stands : Option ℤ
 
 pub samples : List Sample
 samples =
-    record { field = "99999.9999"; stands = Is (pos 999999999) } ∷
-    record { field = "-9999.9999"; stands = Is (negsuc 99999998) } ∷
-    record { field = "   -0.8250"; stands = Is (negsuc 8249) } ∷
-    record { field = "    1.2500"; stands = Is (pos 12500) } ∷
-    record { field = "00001.2500"; stands = Is (pos 12500) } ∷
-    record { field = "   -0.0000"; stands = Is (pos 0) } ∷
-    record { field = "          "; stands = Is (pos 0) } ∷
-    record { field = "-99999.999"; stands = Malformed } ∷
-    record { field = "     .5000"; stands = Malformed } ∷
-    record { field = "    -.5000"; stands = Malformed } ∷
-    record { field = "    0.000 "; stands = Malformed } ∷
-    record { field = "   0.00000"; stands = Malformed } ∷
-    record { field = "     0.000"; stands = Malformed } ∷
-    record { field = "  - 0.5000"; stands = Malformed } ∷
+    record { field = "99999.9999"; stands = Some (pos 999999999) } ∷
+    record { field = "-9999.9999"; stands = Some (negsuc 99999998) } ∷
+    record { field = "   -0.8250"; stands = Some (negsuc 8249) } ∷
+    record { field = "    1.2500"; stands = Some (pos 12500) } ∷
+    record { field = "00001.2500"; stands = Some (pos 12500) } ∷
+    record { field = "   -0.0000"; stands = Some (pos 0) } ∷
+    record { field = "          "; stands = Some (pos 0) } ∷
+    record { field = "-99999.999"; stands = None } ∷
+    record { field = "     .5000"; stands = None } ∷
+    record { field = "    -.5000"; stands = None } ∷
+    record { field = "    0.000 "; stands = None } ∷
+    record { field = "   0.00000"; stands = None } ∷
+    record { field = "     0.000"; stands = None } ∷
+    record { field = "  - 0.5000"; stands = None } ∷
     []
 
 pub samples_read : map (λ (s : Sample). coordinate_in (bytes s.field)) samples ≡ map (λ (s : Sample). s.stands) samples

@@ -1,5 +1,5 @@
 -- What is written of a coordinate is read as that coordinate: ten columns of allowed bytes.
-use Rattle.std.specs.Prelude.{ℕ, suc, ◌+◌, ◌*◌, ◌/◌, ◌%◌, ◌≤◌, ◌≡◌, refl, [], ◌∷◌, ◌++◌, Bool, true, false, length, ℤ, pos, negsuc, neg_ℤ}
+use Rattle.std.specs.Prelude.{Some, ℕ, suc, ◌+◌, ◌*◌, ◌/◌, ◌%◌, ◌≤◌, ◌≡◌, refl, [], ◌∷◌, ◌++◌, Bool, true, false, length, ℤ, pos, negsuc, neg_ℤ}
 use Rattle.std.proofs.Math.Nat.{div-div-eq-div-mul}
 use Rattle.std.proofs.Common.{arith, sym, ap, ◌∙◌, subst, length-append}
 use Rattle.text.specs.Laws.{each_append}
@@ -8,7 +8,6 @@ use Rattle.text.specs.Columns.{Allowed}
 use Rattle.field_numbers.specs.Number.{Digits, Between, decimal_after}
 use Rattle.field_numbers.specs.Write.{sized_text}
 use Rattle.field_numbers.specs.Written.{text_length, text_allowed, Shape, shape}
-use Rattle.field_coordinates.specs.declared.CoordinateRead.{CoordinateRead}
 use Rattle.field_coordinates.specs.Coordinate.{Pointed, Coordinate}
 use Rattle.field_coordinates.specs.Read.{coordinate_in}
 use Rattle.field_coordinates.specs.Agree.{read_coordinate}
@@ -71,5 +70,5 @@ coordinate_back (negsuc j) h =
     subst (λ (n : ℕ). Coordinate (point_text true k) (neg_ℤ (pos n))) (whole_part k)
     (Coordinate.minus w.count w.ds _ (k / 10000) (k % 10000) (text_pointed true k _ w.parts) w.digits (part_digits k))
 
-pub coordinate_written : (z : ℤ) → Between 99999999 999999999 z → coordinate_in (coordinate_text z) ≡ CoordinateRead.Is z
+pub coordinate_written : (z : ℤ) → Between 99999999 999999999 z → coordinate_in (coordinate_text z) ≡ Some z
 coordinate_written z h = read_coordinate (coordinate_back z h)

@@ -4,46 +4,32 @@
 ghost use Rattle.std.specs.Prelude.{◌≡◌, ◌+◌, ◌-◌, ◌≤◌, length};
 ghost use Rattle.text.specs.Columns.{columns, columns_for};
 ghost use Rattle.field_coordinates.specs.Read.{point_read, inked, coordinate_in};
-ghost use Rattle.field_coordinates.specs.declared.CoordinateRead.{CoordinateRead};
-
-use field_numbers::Size;
-
-// What ten columns stand for.
-#[derive(Drop)]
-pub enum CoordinateRead {
-    Is(i32),
-    Malformed,
-}
 
 // The digits from column a up to the point in column p, the four after it, and the sign read before them: columns that the line has.
-fn digits_at(line: &[u8], a: usize, p: usize, minus: bool) -> CoordinateRead
+fn digits_at(line: &[u8], a: usize, p: usize, minus: bool) -> Option<i32>
     requires { (1 ≤ a) × (a ≤ p) × (p ≤ a + 5) × (p ≤ 2000) × (p + 4 ≤ length line.now) }
     ensures { result ≡ point_read minus (columns_for line.now a (p - a)) (columns_for line.now (p + 1) 4) }
 {
-    let Size::Is(whole) = field_numbers::inner_digits(line, a, p) else {
-        return CoordinateRead::Malformed;
-    };
-    let Size::Is(part) = field_numbers::inner_digits(line, p + 1, p + 5) else {
-        return CoordinateRead::Malformed;
-    };
-    CoordinateRead::Is(field_numbers::with_sign(minus, whole * 10000 + part))
+    let whole = field_numbers::inner_digits(line, a, p)?;
+    let part = field_numbers::inner_digits(line, p + 1, p + 5)?;
+    Some(field_numbers::with_sign(minus, whole * 10000 + part))
 }
 
 // Ten columns that are no coordinate unless they are blank.
-fn blank_only(line: &[u8], i: usize) -> CoordinateRead
-    requires { (1 ≤ i) × (i ≤ 1000) × (inked (columns line.now i (i + 9)) ≡ CoordinateRead.Malformed) }
+fn blank_only(line: &[u8], i: usize) -> Option<i32>
+    requires { (1 ≤ i) × (i ≤ 1000) × (inked (columns line.now i (i + 9)) ≡ None) }
     ensures { result ≡ coordinate_in (columns line.now i (i + 9)) }
 {
     let e = i + 10;
     let b = field_numbers::spaces_end(line, i, e);
     if e <= b {
-        return CoordinateRead::Is(0);
+        return Some(0);
     }
-    CoordinateRead::Malformed
+    None
 }
 
 // Ten columns that the line has.
-fn whole_field(line: &[u8], i: usize) -> CoordinateRead
+fn whole_field(line: &[u8], i: usize) -> Option<i32>
     requires { (1 ≤ i) × (i ≤ 1000) × (i + 9 ≤ length line.now) }
     ensures { result ≡ coordinate_in (columns line.now i (i + 9)) }
 {
@@ -53,7 +39,7 @@ fn whole_field(line: &[u8], i: usize) -> CoordinateRead
         return blank_only(line, i);
     }
     if text::inner_column(line, p) != 46 {
-        return CoordinateRead::Malformed;
+        return None;
     }
     if text::inner_column(line, a) == 45 {
         return digits_at(line, a + 1, p, true);
@@ -62,7 +48,7 @@ fn whole_field(line: &[u8], i: usize) -> CoordinateRead
 }
 
 // The coordinate in the ten columns from column i. A line that ends before the last of them leaves a space for a digit.
-pub fn coordinate(line: &[u8], i: usize) -> CoordinateRead
+pub fn coordinate(line: &[u8], i: usize) -> Option<i32>
     requires { (1 ≤ i) × (i ≤ 1000) }
     ensures { result ≡ coordinate_in (columns line.now i (i + 9)) }
 {

@@ -1,4 +1,5 @@
 -- Laws on the columns of an integer field, from column a up to column e: its spaces, its sign, its digits, the spaces after them.
+use Rattle.std.specs.Prelude.{Result, Ok, Err, Option, Some, None}
 use Prim.Native.Nat.{ℕ, zero, suc, ◌+◌, ◌-◌, ◌*◌, ◌^◌, ◌≤◌, ◌<◌, zero-le}
 use native.Mathlib.Nat.{lt_of_lt_of_le, mul-le-mul_right, mul_assoc, pow-suc, pow-succ', pow-le-pow_right}
 use native.Mathlib.Numerals.{add-one}
@@ -19,11 +20,9 @@ use Rattle.text.specs.Agree.{columns_length, columns_step, columns_over, columns
 use Rattle.field_numbers.specs.Number.{Digits, Integer, decimal_after}
 use Rattle.field_numbers.specs.Read.{is, is_digit, all_digits, some_digits, after_spaces, before_spaces, signed, digits_read, after_blank, integer_in, ranged, number_in, signed_ranged, signed_in}
 use Rattle.field_numbers.specs.Agree.{integer_read, led, before_ink, spaces_shed, shed_append, shed_front, trailed}
-use Rattle.field_numbers.specs.SignSize.{size_after, size_in, with_sign, sized_from, sized_in, integer_of, LineEnd, ShortNumber}
-use Rattle.field_numbers.specs.declared.NumberRead.{NumberRead}
-use Rattle.field_numbers.specs.declared.SignedRead.{SignedRead}
-use Rattle.field_numbers.specs.declared.Size.{Size}
-use Rattle.field_numbers.specs.declared.SizedRead.{SizedRead}
+use Rattle.field_numbers.specs.SignSize.{sized_is, size_after, size_in, with_sign, sized_from, sized_in, integer_of, LineEnd, ShortNumber}
+use Rattle.field_numbers.specs.declared.SignedSize.{SignedSize}
+use Rattle.field_numbers.specs.declared.NumberFault.{NumberFault}
 
 -- ---- the walk over leading spaces: what follows them from column i is what follows them from column a
 pub record Passing (l : Line) (i e a : ℕ) : Type 0 where
@@ -65,7 +64,7 @@ power_more i a h =
     let k : a + 1 - i ≡ suc (a - i) = omega arith in
     rw (k, pow-suc)
 
-pub digits_none : (l : Line) (i e : ℕ) → e ≤ i → Size.Malformed ≡ size_in (columns_for l i (e - i))
+pub digits_none : (l : Line) (i e : ℕ) → e ≤ i → None ≡ size_in (columns_for l i (e - i))
 unfolding size_in
 digits_none l i e h = rw (columns_over l i e h)
 
@@ -76,11 +75,11 @@ counting_start l i e h =
     record { low = omega arith; high = omega arith; small = rw z (omega arith); same = rw (columns_step l i e h) }
 
 module _ (l : Line) (i e k a b : ℕ) (c : Counting l i e k a) (h : a < e) (s : b ≡ column l a) where
-  pub counting_low : b < 48 → Size.Malformed ≡ size_in (columns_for l i (e - i))
+  pub counting_low : b < 48 → None ≡ size_in (columns_for l i (e - i))
   unfolding size_after all_digits
   counting_low low = sym (c.same ∙ rw (columns_step l a e h, ← s, lt-leb 48 b low))
 
-  pub counting_high : 48 ≤ b → 57 < b → Size.Malformed ≡ size_in (columns_for l i (e - i))
+  pub counting_high : 48 ≤ b → 57 < b → None ≡ size_in (columns_for l i (e - i))
   unfolding size_after all_digits
   counting_high low high = sym (c.same ∙ rw (columns_step l a e h, ← s, le-leb 48 b low, lt-leb b 57 high))
 
@@ -93,7 +92,7 @@ module _ (l : Line) (i e k a b : ℕ) (c : Counting l i e k a) (h : a < e) (s : 
     same = c.same ∙ rw (columns_step l a e h, ← s, le-leb 48 b low, le-leb b 57 high);
   }
 
-pub counting_end : (l : Line) (i e k a : ℕ) → Counting l i e k a → e ≤ a → Size.Is k ≡ size_in (columns_for l i (e - i))
+pub counting_end : (l : Line) (i e k a : ℕ) → Counting l i e k a → e ≤ a → Some k ≡ size_in (columns_for l i (e - i))
 unfolding size_after all_digits decimal_after
 counting_end l i e k a c h = sym (c.same ∙ rw (columns_over l a e h))
 
@@ -202,11 +201,11 @@ module _ (negatives : Bool) (l : Line) (i j e z : ℕ) (n : e ≤ j + 1) (p : Li
   shed_field : before_spaces (columns l i j) ≡ columns_for l i (z - i)
   shed_field = rw (← add-one j) (line_shed l i (j + 1) e n p ∙ s)
 
-  pub sized_blank : z ≤ i → SizedRead.Is false 0 ≡ sized_in negatives (columns l i j)
+  pub sized_blank : z ≤ i → sized_is false 0 ≡ sized_in negatives (columns l i j)
   unfolding sized_in sized_from after_spaces
   sized_blank h = sym (rw (shed_field, columns_over l i z h))
 
-  module _ (a : ℕ) (r : SizedRead) (q : after_spaces (columns_for l i (z - i)) ≡ columns_for l a (z - a)) where
+  module _ (a : ℕ) (r : Option SignedSize) (q : after_spaces (columns_for l i (z - i)) ≡ columns_for l a (z - a)) where
     pub sized_signed : negatives ≡ true → r ≡ sized_from true (columns_for l a (z - a)) → r ≡ sized_in negatives (columns l i j)
     unfolding sized_in
     sized_signed t w = w ∙ sym (rw (shed_field, q, t))
@@ -218,7 +217,7 @@ module _ (negatives : Bool) (l : Line) (i j e z : ℕ) (n : e ≤ j + 1) (p : Li
         w ∙ sym (rw (shed_field, q, t, columns_step l a z k))
 
 -- ---- the sign
-module _ (l : Line) (i e b : ℕ) (r : SizedRead) (h : i < e) (c : b ≡ column l i) where
+module _ (l : Line) (i e b : ℕ) (r : Option SignedSize) (h : i < e) (c : b ≡ column l i) where
   pub from_minus : b ≡ 45 → r ≡ with_sign true (size_in (columns_for l (i + 1) (e - (i + 1)))) → r ≡ sized_from true (columns_for l i (e - i))
   unfolding sized_from
   from_minus k w = w ∙ sym (rw (columns_step l i e h, ← c, k))
@@ -255,35 +254,40 @@ pub integer_of_lem : (negatives : Bool) (cs : Bytes) → integer_in negatives cs
 unfolding integer_in sized_in
 integer_of_lem negatives cs = sym (sized_from_lem negatives (after_spaces (before_spaces cs)))
 
--- without negatives there is no sign
-sign_is : (t m : Bool) (g : Size) (k : ℕ) → with_sign t g ≡ SizedRead.Is m k → (m ≡ t) × (g ≡ Size.Is k)
-unfolding with_sign
-sign_is t m (Size.Is n) k h = (cc, cc)
-sign_is t m Size.Malformed k h = absurd (let z : ◌≡◌ {A = ℕ} 0 1 = cc in omega arith)
+-- sizes that are the same have the same sign and the same digits
+sized_same : {minus m : Bool} {size k : ℕ} → sized_is minus size ≡ sized_is m k → (m ≡ minus) × (size ≡ k)
+sized_same {minus} {size = size} h =
+    (sym (ap (λ (o : Option SignedSize). elim o [ Some x ↦ x.minus | None ↦ minus ]) h), ap (λ (o : Option SignedSize). elim o [ Some x ↦ x.size | None ↦ size ]) h)
 
-no_sign_from : (cs : Bytes) (m : Bool) (k : ℕ) → sized_from false cs ≡ SizedRead.Is m k → m ≡ false
+-- without negatives there is no sign
+sign_is : (t m : Bool) (g : Option ℕ) (k : ℕ) → with_sign t g ≡ sized_is m k → (m ≡ t) × (g ≡ Some k)
+unfolding with_sign
+sign_is t m (Some n) k h = ((sized_same h).0, ap Some (sized_same h).1)
+sign_is t m None k h = absurd (let z : ◌≡◌ {A = ℕ} 0 1 = cc in omega arith)
+
+no_sign_from : (cs : Bytes) (m : Bool) (k : ℕ) → sized_from false cs ≡ sized_is m k → m ≡ false
 unfolding sized_from
-no_sign_from [] m k h = cc
+no_sign_from [] m k h = (sized_same h).0
 no_sign_from (b ∷ bs) m k h = (sign_is false m (size_in (b ∷ bs)) k h).0
 
-no_sign : (cs : Bytes) (m : Bool) (k : ℕ) → sized_in false cs ≡ SizedRead.Is m k → m ≡ false
+no_sign : (cs : Bytes) (m : Bool) (k : ℕ) → sized_in false cs ≡ sized_is m k → m ≡ false
 unfolding sized_in
 no_sign cs m k h = no_sign_from (after_spaces (before_spaces cs)) m k h
 
 -- ---- the range, asked of a size
-pub number_sized : (least most : ℕ) (cs : Bytes) (s : SizedRead) (m : Bool) (k : ℕ) (r : NumberRead) → s ≡ sized_in false cs → s ≡ SizedRead.Is m k → r ≡ ranged least most (is (pos k)) → r ≡ number_in least most cs
+pub number_sized : (least most : ℕ) (cs : Bytes) (s : Option SignedSize) (z : SignedSize) (r : Result ℕ NumberFault) → s ≡ sized_in false cs → s ≡ Some z → r ≡ ranged least most (is (pos z.size)) → r ≡ number_in least most cs
 unfolding number_in integer_of
-number_sized least most cs s m k r e h w = w ∙ sym (rw (integer_of_lem false cs, sym e ∙ h, no_sign cs m k (sym e ∙ h)))
+number_sized least most cs s z r e h w = w ∙ sym (rw (integer_of_lem false cs, sym e ∙ h, no_sign cs z.minus z.size (sym e ∙ h)))
 
-pub number_malformed : (least most : ℕ) (cs : Bytes) (s : SizedRead) → s ≡ sized_in false cs → s ≡ SizedRead.Malformed → NumberRead.Malformed ≡ number_in least most cs
+pub number_malformed : (least most : ℕ) (cs : Bytes) (s : Option SignedSize) → s ≡ sized_in false cs → s ≡ None → Err NumberFault.Malformed ≡ number_in least most cs
 unfolding number_in integer_of ranged
 number_malformed least most cs s e h = sym (rw (integer_of_lem false cs, sym e ∙ h))
 
-pub signed_sized : (below above : ℕ) (cs : Bytes) (s : SizedRead) (m : Bool) (k : ℕ) (r : SignedRead) → s ≡ sized_in true cs → s ≡ SizedRead.Is m k → r ≡ signed_ranged below above (is (signed m k)) → r ≡ signed_in below above cs
+pub signed_sized : (below above : ℕ) (cs : Bytes) (s : Option SignedSize) (z : SignedSize) (r : Result ℤ NumberFault) → s ≡ sized_in true cs → s ≡ Some z → r ≡ signed_ranged below above (is (signed z.minus z.size)) → r ≡ signed_in below above cs
 unfolding signed_in integer_of
-signed_sized below above cs s m k r e h w = w ∙ sym (rw (integer_of_lem true cs, sym e ∙ h))
+signed_sized below above cs s z r e h w = w ∙ sym (rw (integer_of_lem true cs, sym e ∙ h))
 
-pub signed_malformed : (below above : ℕ) (cs : Bytes) (s : SizedRead) → s ≡ sized_in true cs → s ≡ SizedRead.Malformed → SignedRead.Malformed ≡ signed_in below above cs
+pub signed_malformed : (below above : ℕ) (cs : Bytes) (s : Option SignedSize) → s ≡ sized_in true cs → s ≡ None → Err NumberFault.Malformed ≡ signed_in below above cs
 unfolding signed_in integer_of signed_ranged
 signed_malformed below above cs s e h = sym (rw (integer_of_lem true cs, sym e ∙ h))
 
@@ -302,11 +306,11 @@ some_all : (ds : Bytes) → some_digits ds ≡ true → all_digits ds ≡ true
 some_all [] h = absurd (let z : ◌≡◌ {A = ℕ} 0 1 = cc in omega arith)
 some_all (d ∷ ds) h = h
 
-size_below : (ds : Bytes) (k : ℕ) → size_in ds ≡ Size.Is k → k < 10 ^ length ds
+size_below : (ds : Bytes) (k : ℕ) → size_in ds ≡ Some k → k < 10 ^ length ds
 unfolding size_in
 size_below ds k h = by (some_digits ds) refl h
   where
-    by : (t : Bool) → some_digits ds ≡ t → cond t (Size.Is (decimal_after 0 ds)) Size.Malformed ≡ Size.Is k → k < 10 ^ length ds
+    by : (t : Bool) → some_digits ds ≡ t → cond t (Some (decimal_after 0 ds)) None ≡ Some k → k < 10 ^ length ds
     by true e h = let q : decimal_after 0 ds ≡ k = cc in omega (arith, decimal_below ds 0 (some_all ds e))
     by false e h = absurd (let z : ◌≡◌ {A = ℕ} 0 1 = cc in omega arith)
 
@@ -323,29 +327,29 @@ shed_length : (cs : Bytes) → length (before_spaces cs) ≤ length cs
 shed_length cs = let q = trailed cs in omega (arith, ap length q.parts, length-append (before_spaces cs) (spaces q.count))
 
 -- digits among at most n bytes
-some_below : (n : ℕ) (t m : Bool) (ds : Bytes) (k : ℕ) → length ds ≤ n → with_sign t (size_in ds) ≡ SizedRead.Is m k → k < 10 ^ n
+some_below : (n : ℕ) (t m : Bool) (ds : Bytes) (k : ℕ) → length ds ≤ n → with_sign t (size_in ds) ≡ sized_is m k → k < 10 ^ n
 some_below n t m ds k w h = omega (arith, size_below ds k (sign_is t m (size_in ds) k h).1, ten_mono {m = length ds} {n = n} w)
 
-from_below : (negatives m : Bool) (cs : Bytes) (k : ℕ) → sized_from negatives cs ≡ SizedRead.Is m k → k < 10 ^ length cs
+from_below : (negatives m : Bool) (cs : Bytes) (k : ℕ) → sized_from negatives cs ≡ sized_is m k → k < 10 ^ length cs
 unfolding sized_from
-from_below negatives m [] k h = let z : 0 ≡ k = cc in omega arith
+from_below negatives m [] k h = let z : 0 ≡ k = (sized_same h).1 in omega arith
 from_below negatives m (b ∷ bs) k h = by (negatives && eqb b 45) (negatives && eqb b 43) h
   where
-    by : (s t : Bool) → cond s (with_sign true (size_in bs)) (cond t (with_sign false (size_in bs)) (with_sign false (size_in (b ∷ bs)))) ≡ SizedRead.Is m k → k < 10 ^ suc (length bs)
+    by : (s t : Bool) → cond s (with_sign true (size_in bs)) (cond t (with_sign false (size_in bs)) (with_sign false (size_in (b ∷ bs)))) ≡ sized_is m k → k < 10 ^ suc (length bs)
     by true t h = some_below (suc (length bs)) true m bs k (omega arith) h
     by false true h = some_below (suc (length bs)) false m bs k (omega arith) h
     by false false h = some_below (suc (length bs)) false m (b ∷ bs) k (omega arith) h
 
-sized_below : (negatives m : Bool) (cs : Bytes) (k : ℕ) → sized_in negatives cs ≡ SizedRead.Is m k → k < 10 ^ length cs
+sized_below : (negatives m : Bool) (cs : Bytes) (k : ℕ) → sized_in negatives cs ≡ sized_is m k → k < 10 ^ length cs
 unfolding sized_in
 sized_below negatives m cs k h =
     let ds : Bytes = before_spaces cs in
     omega (arith, from_below negatives m (after_spaces ds) k h, ten_mono {m = length (after_spaces ds)} {n = length cs} (omega (arith, spaces_length ds, shed_length cs)))
 
 -- the size of a field of at most nine columns
-pub sized_small : (negatives m : Bool) (l : Line) (i j k : ℕ) (s : SizedRead) → s ≡ sized_in negatives (columns l i j) → s ≡ SizedRead.Is m k → j + 1 ≤ i + 9 → k < 1000000000
-sized_small negatives m l i j k s e h w =
-    let b : k < 10 ^ length (columns l i j) = sized_below negatives m (columns l i j) k (sym e ∙ h) in
+pub sized_small : (negatives : Bool) (l : Line) (i j : ℕ) (s : Option SignedSize) (z : SignedSize) → s ≡ sized_in negatives (columns l i j) → s ≡ Some z → j + 1 ≤ i + 9 → z.size < 1000000000
+sized_small negatives l i j s z e h w =
+    let b : z.size < 10 ^ length (columns l i j) = sized_below negatives z.minus (columns l i j) z.size (sym e ∙ h) in
     omega (arith, rw columns_length at b, ten_mono {m = suc j - i} {n = 9} (omega arith))
 
 pub ruleset passing_laws = (passing_start, passing_next, passing_stop, passing_end)
@@ -362,50 +366,50 @@ pub ruleset from_laws = (from_minus, from_plus, from_bare)
 
 pub ruleset range_laws = (number_sized, number_malformed, signed_sized, signed_malformed, sized_small)
 
-pub sign_case : (minus : Bool) (x y : Size) (k : ℕ) → x ≡ y → x ≡ Size.Is k → SizedRead.Is minus k ≡ with_sign minus y
+pub sign_case : (minus : Bool) (x y : Option ℕ) (k : ℕ) → x ≡ y → x ≡ Some k → sized_is minus k ≡ with_sign minus y
 unfolding with_sign
 sign_case minus x y k e h = sym (rw (sym e ∙ h))
 
-pub sign_none : (minus : Bool) (x y : Size) → x ≡ y → x ≡ Size.Malformed → SizedRead.Malformed ≡ with_sign minus y
+pub sign_none : (minus : Bool) (x y : Option ℕ) → x ≡ y → x ≡ None → None ≡ with_sign minus y
 unfolding with_sign
 sign_none minus x y e h = sym (rw (sym e ∙ h))
 
 -- ---- ranges
 module _ (least most k : ℕ) where
-  pub within_low : k < least → NumberRead.Outside ≡ ranged least most (is (pos k))
+  pub within_low : k < least → Err NumberFault.Outside ≡ ranged least most (is (pos k))
   unfolding ranged
   within_low h = sym (rw (lt-leb least k h))
 
-  pub within_high : least ≤ k → most < k → NumberRead.Outside ≡ ranged least most (is (pos k))
+  pub within_high : least ≤ k → most < k → Err NumberFault.Outside ≡ ranged least most (is (pos k))
   unfolding ranged
   within_high l h = sym (rw (le-leb least k l, lt-leb k most h))
 
-  pub within_both : least ≤ k → k ≤ most → NumberRead.Is k ≡ ranged least most (is (pos k))
+  pub within_both : least ≤ k → k ≤ most → Ok k ≡ ranged least most (is (pos k))
   unfolding ranged
   within_both l h = sym (rw (le-leb least k l, le-leb k most h))
 
 module _ (below above k : ℕ) where
-  pub between_low : (m : Bool) → m ≡ true → below < k → SignedRead.Outside ≡ signed_ranged below above (is (signed m k))
+  pub between_low : (m : Bool) → m ≡ true → below < k → Err NumberFault.Outside ≡ signed_ranged below above (is (signed m k))
   unfolding signed_ranged
   between_low m t h = rw t (by k h)
     where
-      by : (n : ℕ) → below < n → SignedRead.Outside ≡ signed_ranged below above (is (neg_ℤ (pos n)))
+      by : (n : ℕ) → below < n → Err NumberFault.Outside ≡ signed_ranged below above (is (neg_ℤ (pos n)))
       by zero h = absurd (omega arith)
       by (suc n) h = sym (rw (lt-leb (suc n) below h))
 
-  pub between_high : (m : Bool) → m ≡ false → above < k → SignedRead.Outside ≡ signed_ranged below above (is (signed m k))
+  pub between_high : (m : Bool) → m ≡ false → above < k → Err NumberFault.Outside ≡ signed_ranged below above (is (signed m k))
   unfolding signed_ranged
   between_high m t h = sym (rw (t, lt-leb k above h))
 
-  pub between_minus : (m : Bool) (z : ℤ) → m ≡ true → k ≤ below → z ≡ signed true k → SignedRead.Is z ≡ signed_ranged below above (is (signed m k))
+  pub between_minus : (m : Bool) (z : ℤ) → m ≡ true → k ≤ below → z ≡ signed true k → Ok z ≡ signed_ranged below above (is (signed m k))
   unfolding signed_ranged
   between_minus m z t h e = rw (t, e) (by k h)
     where
-      by : (n : ℕ) → n ≤ below → SignedRead.Is (neg_ℤ (pos n)) ≡ signed_ranged below above (is (neg_ℤ (pos n)))
+      by : (n : ℕ) → n ≤ below → Ok (neg_ℤ (pos n)) ≡ signed_ranged below above (is (neg_ℤ (pos n)))
       by zero h = sym (rw (le-leb 0 above (omega arith)))
       by (suc n) h = sym (rw (le-leb (suc n) below h))
 
-  pub between_plain : (m : Bool) (z : ℤ) → m ≡ false → k ≤ above → z ≡ signed false k → SignedRead.Is z ≡ signed_ranged below above (is (signed m k))
+  pub between_plain : (m : Bool) (z : ℤ) → m ≡ false → k ≤ above → z ≡ signed false k → Ok z ≡ signed_ranged below above (is (signed m k))
   unfolding signed_ranged
   between_plain m z t h e = rw (t, e) (sym (rw (le-leb k above h)))
 
@@ -450,11 +454,11 @@ short_times b h = record { fits = omega arith }
 pub short_plus : (b c : ℕ) → b ≤ 57 → c ≤ 57 → Fits w32 ((b - 48) * 10 + (c - 48))
 short_plus b c h k = record { fits = omega arith }
 
-pub short_within : (least most : ℕ) (l : Line) (i j k : ℕ) (r : NumberRead) → ShortNumber l i k → k ≤ 99 → j ≡ i + 2 → r ≡ ranged least most (is (pos k)) → r ≡ number_in least most (columns l i j)
+pub short_within : (least most : ℕ) (l : Line) (i j k : ℕ) (r : Result ℕ NumberFault) → ShortNumber l i k → k ≤ 99 → j ≡ i + 2 → r ≡ ranged least most (is (pos k)) → r ≡ number_in least most (columns l i j)
 unfolding ShortNumber number_in
 short_within least most l i j k r d h e w = w ∙ sym (rw (e, d h false))
 
-pub short_between : (below above : ℕ) (l : Line) (i j k : ℕ) (r : SignedRead) → ShortNumber l i k → k ≤ 99 → j ≡ i + 2 → r ≡ signed_ranged below above (is (signed false k)) → r ≡ signed_in below above (columns l i j)
+pub short_between : (below above : ℕ) (l : Line) (i j k : ℕ) (r : Result ℤ NumberFault) → ShortNumber l i k → k ≤ 99 → j ≡ i + 2 → r ≡ signed_ranged below above (is (signed false k)) → r ≡ signed_in below above (columns l i j)
 unfolding ShortNumber signed_in
 short_between below above l i j k r d h e w = w ∙ sym (rw (e, d h true))
 

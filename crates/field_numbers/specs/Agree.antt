@@ -1,5 +1,5 @@
 -- The reading of an integer field finds exactly what the rule says, at any width; so a field stands for one number.
-use Rattle.std.specs.Prelude.{ℕ, zero, suc, ◌+◌, ◌≤◌, ◌<◌, ◌≡◌, ◌↔◌, Bool, true, false, cond, ◌&&◌, leb, ℤ, negsuc}
+use Rattle.std.specs.Prelude.{Ok, Err, ℕ, zero, suc, ◌+◌, ◌≤◌, ◌<◌, ◌≡◌, ◌↔◌, Bool, true, false, cond, ◌&&◌, leb, ℤ, negsuc}
 use Rattle.std.proofs.Common.{zero-add, suc-add, arith, sym, ap, ◌∙◌, subst, leb-true, le-leb, eqb-true, ne_eqb}
 use Rattle.std.proofs.Math.Path.{refl}
 use mathlib.Core.List.{List, [], ◌∷◌, ◌++◌, append_assoc}
@@ -11,8 +11,7 @@ use Rattle.text.specs.Columns.{columns, spaces}
 use Rattle.text.specs.Laws.{and_true}
 use Rattle.field_numbers.specs.Number.{Digit, Digits, Integer, Number, Signed, Listed, SignedListed, Between, decimal_after}
 use Rattle.field_numbers.specs.Read.{IntegerRead, is, malformed, is_digit, all_digits, some_digits, after_spaces, before, before_spaces, signed, digits_read, after_blank, integer_in, ranged, number_in, is_between, signed_ranged, signed_in}
-use Rattle.field_numbers.specs.declared.NumberRead.{NumberRead}
-use Rattle.field_numbers.specs.declared.SignedRead.{SignedRead}
+use Rattle.field_numbers.specs.declared.NumberFault.{NumberFault}
 
 -- digits by the test and by the rule
 pub digit_is : (b : ℕ) → Digit b → is_digit b ≡ true
@@ -214,7 +213,7 @@ record Ranged (least most k : ℕ) (r : IntegerRead) : Type 0 where
   low : least ≤ k
   high : k ≤ most
 
-ranged_by : (least most j k : ℕ) (t : Bool) → (leb least j && leb j most) ≡ t → cond t (NumberRead.Is j) NumberRead.Outside ≡ NumberRead.Is k → Ranged least most k (is (pos j))
+ranged_by : (least most j k : ℕ) (t : Bool) → (leb least j && leb j most) ≡ t → cond t (Ok j) (Err NumberFault.Outside) ≡ Ok k → Ranged least most k (is (pos j))
 ranged_by least most j k true t h =
     let e : j ≡ k = cc in
     let a = and_true (leb least j) (leb j most) t in
@@ -223,23 +222,23 @@ ranged_by least most j k true t h =
     record { read = rw e; low = omega arith; high = omega arith }
 ranged_by least most j k false t h = absurd (let z : ◌≡◌ {A = ℕ} 0 1 = cc in omega arith)
 
-ranged_is : (least most k : ℕ) (r : IntegerRead) → ranged least most r ≡ NumberRead.Is k → Ranged least most k r
+ranged_is : (least most k : ℕ) (r : IntegerRead) → ranged least most r ≡ Ok k → Ranged least most k r
 unfolding ranged
 ranged_is least most k (is (pos j)) h = ranged_by least most j k (leb least j && leb j most) refl h
 ranged_is least most k (is (negsuc j)) h = absurd (let z : ◌≡◌ {A = ℕ} 0 1 = cc in omega arith)
 ranged_is least most k malformed h = absurd (let z : ◌≡◌ {A = ℕ} 0 1 = cc in omega arith)
 
-read_number : (l : Line) (i j least most k : ℕ) → number_in least most (columns l i j) ≡ NumberRead.Is k → Number l i j least most k
+read_number : (l : Line) (i j least most k : ℕ) → number_in least most (columns l i j) ≡ Ok k → Number l i j least most k
 unfolding number_in
 read_number l i j least most k h =
     let r = ranged_is least most k (integer_in false (columns l i j)) h in
     record { field = read_integer false (columns l i j) (pos k) r.read; low = r.low; high = r.high }
 
-number_read : (l : Line) (i j least most k : ℕ) → Number l i j least most k → number_in least most (columns l i j) ≡ NumberRead.Is k
+number_read : (l : Line) (i j least most k : ℕ) → Number l i j least most k → number_in least most (columns l i j) ≡ Ok k
 unfolding number_in ranged
 number_read l i j least most k n = rw (integer_read false n.field, le-leb least k n.low, le-leb k most n.high)
 
-pub number_agrees : (l : Line) (i j least most k : ℕ) → (number_in least most (columns l i j) ≡ NumberRead.Is k) ↔ Number l i j least most k
+pub number_agrees : (l : Line) (i j least most k : ℕ) → (number_in least most (columns l i j) ≡ Ok k) ↔ Number l i j least most k
 number_agrees l i j least most k = (read_number l i j least most k, number_read l i j least most k)
 
 pub between_is : (below above : ℕ) (z : ℤ) → Between below above z → is_between below above z ≡ true
@@ -254,28 +253,28 @@ record SignedRanged (below above : ℕ) (z : ℤ) (r : IntegerRead) : Type 0 whe
   read : r ≡ is z
   range : Between below above z
 
-signed_by : (below above : ℕ) (y z : ℤ) (t : Bool) → is_between below above y ≡ t → cond t (SignedRead.Is y) SignedRead.Outside ≡ SignedRead.Is z → SignedRanged below above z (is y)
+signed_by : (below above : ℕ) (y z : ℤ) (t : Bool) → is_between below above y ≡ t → cond t (Ok y) (Err NumberFault.Outside) ≡ Ok z → SignedRanged below above z (is y)
 signed_by below above y z true t h =
     let e : y ≡ z = cc in
     record { read = rw e; range = subst (Between below above) e (is_between_lem below above y t) }
 signed_by below above y z false t h = absurd (let z : ◌≡◌ {A = ℕ} 0 1 = cc in omega arith)
 
-signed_is : (below above : ℕ) (z : ℤ) (r : IntegerRead) → signed_ranged below above r ≡ SignedRead.Is z → SignedRanged below above z r
+signed_is : (below above : ℕ) (z : ℤ) (r : IntegerRead) → signed_ranged below above r ≡ Ok z → SignedRanged below above z r
 unfolding signed_ranged
 signed_is below above z (is y) h = signed_by below above y z (is_between below above y) refl h
 signed_is below above z malformed h = absurd (let z : ◌≡◌ {A = ℕ} 0 1 = cc in omega arith)
 
-read_signed : (l : Line) (i j below above : ℕ) (z : ℤ) → signed_in below above (columns l i j) ≡ SignedRead.Is z → Signed l i j below above z
+read_signed : (l : Line) (i j below above : ℕ) (z : ℤ) → signed_in below above (columns l i j) ≡ Ok z → Signed l i j below above z
 unfolding signed_in
 read_signed l i j below above z h =
     let r = signed_is below above z (integer_in true (columns l i j)) h in
     record { field = read_integer true (columns l i j) z r.read; range = r.range }
 
-signed_read : (l : Line) (i j below above : ℕ) (z : ℤ) → Signed l i j below above z → signed_in below above (columns l i j) ≡ SignedRead.Is z
+signed_read : (l : Line) (i j below above : ℕ) (z : ℤ) → Signed l i j below above z → signed_in below above (columns l i j) ≡ Ok z
 unfolding signed_in signed_ranged
 signed_read l i j below above z n = rw (integer_read true n.field, between_is below above z n.range)
 
-pub signed_agrees : (l : Line) (i j below above : ℕ) (z : ℤ) → (signed_in below above (columns l i j) ≡ SignedRead.Is z) ↔ Signed l i j below above z
+pub signed_agrees : (l : Line) (i j below above : ℕ) (z : ℤ) → (signed_in below above (columns l i j) ≡ Ok z) ↔ Signed l i j below above z
 signed_agrees l i j below above z = (read_signed l i j below above z, signed_read l i j below above z)
 
 -- ---- a field stands for one number, whatever the two ranges or lists

@@ -1,9 +1,8 @@
 -- How an integer field is read from left to right. `Number` has the rule; `Agree` proves that they say the same.
-use Rattle.std.specs.Prelude.{ℕ, suc, [], ◌∷◌, Bool, true, false, cond, ◌&&◌, eqb, leb, ℤ, pos, negsuc, neg_ℤ}
+use Rattle.std.specs.Prelude.{Result, Ok, Err, ℕ, suc, [], ◌∷◌, Bool, true, false, cond, ◌&&◌, eqb, leb, ℤ, pos, negsuc, neg_ℤ}
 use Rattle.text.specs.Text.{Bytes, byte}
 use Rattle.field_numbers.specs.Number.{decimal_after}
-use Rattle.field_numbers.specs.declared.NumberRead.{NumberRead}
-use Rattle.field_numbers.specs.declared.SignedRead.{SignedRead}
+use Rattle.field_numbers.specs.declared.NumberFault.{NumberFault}
 
 -- the number of an integer field, or none
 pub data IntegerRead : Type 0 where
@@ -55,12 +54,12 @@ unfoldable pub integer_in : Bool → Bytes → IntegerRead
 integer_in negatives cs = after_blank negatives (after_spaces (before_spaces cs))
 
 -- a number from `least` to `most`
-unfoldable pub ranged : ℕ → ℕ → IntegerRead → NumberRead
-ranged least most (is (pos k)) = cond (leb least k && leb k most) (NumberRead.Is k) NumberRead.Outside
-ranged least most (is (negsuc k)) = NumberRead.Outside
-ranged least most malformed = NumberRead.Malformed
+unfoldable pub ranged : ℕ → ℕ → IntegerRead → Result ℕ NumberFault
+ranged least most (is (pos k)) = cond (leb least k && leb k most) (Ok k) (Err NumberFault.Outside)
+ranged least most (is (negsuc k)) = Err NumberFault.Outside
+ranged least most malformed = Err NumberFault.Malformed
 
-unfoldable pub number_in : ℕ → ℕ → Bytes → NumberRead
+unfoldable pub number_in : ℕ → ℕ → Bytes → Result ℕ NumberFault
 number_in least most cs = ranged least most (integer_in false cs)
 
 -- whether z is from minus `below` to `above`
@@ -69,9 +68,9 @@ is_between below above (pos k) = leb k above
 is_between below above (negsuc k) = leb (suc k) below
 
 -- a number from minus `below` to `above`
-unfoldable pub signed_ranged : ℕ → ℕ → IntegerRead → SignedRead
-signed_ranged below above (is z) = cond (is_between below above z) (SignedRead.Is z) SignedRead.Outside
-signed_ranged below above malformed = SignedRead.Malformed
+unfoldable pub signed_ranged : ℕ → ℕ → IntegerRead → Result ℤ NumberFault
+signed_ranged below above (is z) = cond (is_between below above z) (Ok z) (Err NumberFault.Outside)
+signed_ranged below above malformed = Err NumberFault.Malformed
 
-unfoldable pub signed_in : ℕ → ℕ → Bytes → SignedRead
+unfoldable pub signed_in : ℕ → ℕ → Bytes → Result ℤ NumberFault
 signed_in below above cs = signed_ranged below above (integer_in true cs)

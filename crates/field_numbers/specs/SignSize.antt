@@ -1,37 +1,40 @@
 -- The reading of an integer field as the code makes it: sign and size first, the range after. `integer_of_lem` ties it to `Read`.
-use Rattle.std.specs.Prelude.{ℕ, ◌+◌, ◌≤◌, ◌<◌, ◌≡◌, [], ◌∷◌, Bool, true, false, cond, ◌&&◌, eqb, pos, length}
+use Rattle.std.specs.Prelude.{Option, Some, None, ℕ, ◌+◌, ◌≤◌, ◌<◌, ◌≡◌, [], ◌∷◌, Bool, true, false, cond, ◌&&◌, eqb, pos, length}
 use Rattle.text.specs.Text.{Bytes, Line, byte}
 use Rattle.text.specs.Columns.{columns}
 use Rattle.field_numbers.specs.Number.{decimal_after}
 use Rattle.field_numbers.specs.Read.{IntegerRead, is, malformed, all_digits, some_digits, after_spaces, before_spaces, signed, integer_in}
-use Rattle.field_numbers.specs.declared.Size.{Size}
-use Rattle.field_numbers.specs.declared.SizedRead.{SizedRead}
+use Rattle.field_numbers.specs.declared.SignedSize.{SignedSize}
 
 -- digits and nothing else, after digits that stand for k
-unfoldable pub size_after : ℕ → Bytes → Size
-size_after k ds = cond (all_digits ds) (Size.Is (decimal_after k ds)) Size.Malformed
+unfoldable pub size_after : ℕ → Bytes → Option ℕ
+size_after k ds = cond (all_digits ds) (Some (decimal_after k ds)) None
 
 -- one digit or more, and nothing else
-unfoldable pub size_in : Bytes → Size
-size_in ds = cond (some_digits ds) (Size.Is (decimal_after 0 ds)) Size.Malformed
+unfoldable pub size_in : Bytes → Option ℕ
+size_in ds = cond (some_digits ds) (Some (decimal_after 0 ds)) None
 
-unfoldable pub with_sign : Bool → Size → SizedRead
-with_sign minus (Size.Is k) = SizedRead.Is minus k
-with_sign minus Size.Malformed = SizedRead.Malformed
+-- a number with its sign, or without one
+abbrev pub sized_is : Bool → ℕ → Option SignedSize
+sized_is minus size = Some (record { minus = minus; size = size })
+
+unfoldable pub with_sign : Bool → Option ℕ → Option SignedSize
+with_sign minus (Some k) = sized_is minus k
+with_sign minus None = None
 
 -- a field without the spaces on both sides
-unfoldable pub sized_from : Bool → Bytes → SizedRead
-sized_from negatives [] = SizedRead.Is false 0
+unfoldable pub sized_from : Bool → Bytes → Option SignedSize
+sized_from negatives [] = sized_is false 0
 sized_from negatives (b ∷ bs) =
     cond (negatives && eqb b (byte "-")) (with_sign true (size_in bs))
     (cond (negatives && eqb b (byte "+")) (with_sign false (size_in bs)) (with_sign false (size_in (b ∷ bs))))
 
-unfoldable pub sized_in : Bool → Bytes → SizedRead
+unfoldable pub sized_in : Bool → Bytes → Option SignedSize
 sized_in negatives cs = sized_from negatives (after_spaces (before_spaces cs))
 
-unfoldable pub integer_of : SizedRead → IntegerRead
-integer_of (SizedRead.Is minus k) = is (signed minus k)
-integer_of SizedRead.Malformed = malformed
+unfoldable pub integer_of : Option SignedSize → IntegerRead
+integer_of (Some sized) = is (signed sized.minus sized.size)
+integer_of None = malformed
 
 -- columns from r on that come before column e are past the end of the line
 unfoldable pub LineEnd : Line → ℕ → ℕ → Type 0

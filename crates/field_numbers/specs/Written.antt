@@ -1,5 +1,5 @@
 -- What is written of a number is read as that number, at any width that holds it.
-use Rattle.std.specs.Prelude.{ℕ, zero, suc, ◌+◌, ◌-◌, ◌*◌, ◌/◌, ◌%◌, ◌^◌, ◌≤◌, ◌<◌, ◌≡◌, refl, Bool, true, false, [], ◌∷◌, ◌++◌, ltb, length, ℤ, pos, negsuc, neg_ℤ}
+use Rattle.std.specs.Prelude.{Ok, ℕ, zero, suc, ◌+◌, ◌-◌, ◌*◌, ◌/◌, ◌%◌, ◌^◌, ◌≤◌, ◌<◌, ◌≡◌, refl, Bool, true, false, [], ◌∷◌, ◌++◌, ltb, length, ℤ, pos, negsuc, neg_ℤ}
 use Rattle.std.proofs.Common.{pow-suc, arith, sym, ap, ◌∙◌, append_assoc, append-nil, length-append, ltb-true, ltb-false, le-leb}
 use Rattle.text.specs.Text.{Bytes, Each}
 use Rattle.text.specs.Columns.{spaces, Allowed}
@@ -7,8 +7,6 @@ use Rattle.field_numbers.specs.Number.{Digit, Digits, Integer, Between, decimal_
 use Rattle.field_numbers.specs.Read.{ranged, number_in, signed_ranged, signed_in}
 use Rattle.field_numbers.specs.Agree.{integer_read, between_is}
 use Rattle.field_numbers.specs.Write.{text_by, sized_text, number_text, signed_text, Fitting}
-use Rattle.field_numbers.specs.declared.NumberRead.{NumberRead}
-use Rattle.field_numbers.specs.declared.SignedRead.{SignedRead}
 
 -- ---- exactly so many columns
 pub text_length : (w : ℕ) (more minus : Bool) (k : ℕ) → length (text_by w more minus k) ≡ w
@@ -147,10 +145,10 @@ signed_back (suc zero) (negsuc k) h = let l : suc k < 1 = h in absurd (omega ari
 signed_back (suc (suc w)) (negsuc k) h = let e : suc (suc w) - 1 ≡ suc w = omega arith in negative_back w (suc k) (rw e at h)
 
 -- ---- and is read as that number
-pub number_written : (w least most k : ℕ) → k < 10 ^ w → least ≤ k → k ≤ most → number_in least most (number_text w k) ≡ NumberRead.Is k
+pub number_written : (w least most k : ℕ) → k < 10 ^ w → least ≤ k → k ≤ most → number_in least most (number_text w k) ≡ Ok k
 unfolding number_in ranged
 number_written w least most k h low high = rw (integer_read false (number_back false w k h), le-leb least k low, le-leb k most high)
 
-pub signed_written : (w below above : ℕ) (z : ℤ) → Fitting w z → Between below above z → signed_in below above (signed_text w z) ≡ SignedRead.Is z
+pub signed_written : (w below above : ℕ) (z : ℤ) → Fitting w z → Between below above z → signed_in below above (signed_text w z) ≡ Ok z
 unfolding signed_in signed_ranged
 signed_written w below above z h b = rw (integer_read true (signed_back w z h), between_is below above z b)

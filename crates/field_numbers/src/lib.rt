@@ -6,90 +6,71 @@ ghost use Rattle.text.specs.Columns.{columns_for};
 ghost use Rattle.field_numbers.specs.Read.{after_spaces, signed};
 ghost use Rattle.field_numbers.specs.SignSize.{size_in};
 
-// A number of a range without negatives, as columns hold it.
-#[derive(Drop)]
-pub enum NumberRead {
-    Is(u32),
+// Why columns hold no number of a range.
+#[derive(Clone, Copy, PartialEq, Eq, Debug)]
+pub enum NumberFault {
     Malformed,
     Outside,
-}
-
-// A number of a range with negatives.
-#[derive(Drop)]
-pub enum SignedRead {
-    Is(i32),
-    Malformed,
-    Outside,
-}
-
-// The number that digits stand for.
-#[derive(Drop)]
-pub enum Size {
-    Is(u32),
-    Malformed,
 }
 
 // A number before its range is asked: whether a `-` stands before its digits, and what they stand for.
-#[derive(Drop)]
-pub enum SizedRead {
-    Is { minus: bool, size: u32 },
-    Malformed,
+#[derive(Clone, Copy)]
+pub struct SignedSize {
+    pub minus: bool,
+    pub size: u32,
 }
 
 // The first column from i on that is no space, or e: columns i to e - 1 are looked at.
+#[tactic(auto, using(crate::proofs::Fields::passing_laws))]
 pub fn spaces_end(line: &[u8], i: usize, e: usize) -> usize
     requires { (1 ≤ i) × (i ≤ e) }
     ensures i_value { after_spaces (columns_for line.now i (e - i)) ≡ columns_for line.now result (e - result) }
     ensures lower_bound { (i ≤ result) × (result ≤ e) }
 {
-    let mut a = i;
-    while a < e {
+    for a in i..e {
         if text::column(line, a) != 32 {
             return a;
         }
-        a += 1;
     }
     e
 }
 
 // The same in columns that the line has.
+#[tactic(auto, using(crate::proofs::Fields::passing_laws))]
 pub fn inner_spaces_end(line: &[u8], i: usize, e: usize) -> usize
     requires { (1 ≤ i) × (i ≤ e) × (e ≤ length line.now + 1) }
     ensures i_value { after_spaces (columns_for line.now i (e - i)) ≡ columns_for line.now result (e - result) }
     ensures lower_bound { (i ≤ result) × (result ≤ e) }
 {
-    let mut a = i;
-    while a < e {
+    for a in i..e {
         if text::inner_column(line, a) != 32 {
             return a;
         }
-        a += 1;
     }
     e
 }
 
 // The digits in columns i to e - 1, all of which the line has.
-pub fn inner_digits(line: &[u8], i: usize, e: usize) -> Size
+#[tactic(auto, using(crate::proofs::Fields::counting_laws))]
+pub fn inner_digits(line: &[u8], i: usize, e: usize) -> Option<u32>
     requires { (1 ≤ i) × (i ≤ e) × (e ≤ i + 9) × (e ≤ length line.now + 1) }
     ensures { result ≡ size_in (columns_for line.now i (e - i)) }
 {
     if e <= i {
-        return Size::Malformed;
+        return None;
     }
     let mut k: u32 = 0;
-    let mut a = i;
-    while a < e {
+    for a in i..e {
         let d = text::inner_column(line, a);
         if d < 48 {
-            return Size::Malformed;
+            return None;
         }
         if 57 < d {
-            return Size::Malformed;
+            return None;
         }
         k = k * 10 + ((d - 48) as u32);
-        a += 1;
     }
-    Size::Is(k)
+    Some(k)
 }
 
 // A number with a sign.

@@ -6,16 +6,15 @@ ghost use Rattle.std.proofs.lemmas.List.Edits.{sets};
 ghost use Rattle.field_numbers.specs.Write.{sized_text, number_text, signed_text, first_digit};
 
 // A number right-aligned in `width` columns from position `at` on, with a `-` or without.
+#[tactic(auto, using(crate::proofs::Texts::writing_laws))]
 pub fn put_sized(out: &mut [u8], at: usize, width: usize, minus: bool, k: u32)
     requires { at + width ≤ length out.old }
     ensures { out.new ≡ sets out.old at (sized_text width minus k) }
 {
-    let mut i = at + width;
     let mut q = k;
     let mut more = true;
     let mut sign = minus;
-    while at < i {
-        i -= 1;
+    for i in (at..at + width).rev() {
         if more {
             out[i] = 48 + (q % 10) as u8;
             more = 9 < q;

@@ -6,7 +6,7 @@ ghost use Rattle.text.specs.Columns.{columns, columns_for};
 ghost use Rattle.field_numbers.specs.Read.{before_spaces, is, signed, ranged, number_in, signed_ranged, signed_in};
 ghost use Rattle.field_numbers.specs.SignSize.{size_in, with_sign, sized_from, sized_in, LineEnd, ShortNumber};
 
-use field_numbers::{NumberRead, SignedRead, Size, SizedRead};
+use field_numbers::{NumberFault, SignedSize};
 
 // Column e, or the column after the line's last if that comes before.
 fn line_end(line: &[u8], e: usize) -> usize
@@ -22,34 +22,31 @@ fn line_end(line: &[u8], e: usize) -> usize
 }
 
 // The column after the last one that is no space, or i: columns i to e - 1 are looked at, all of which the line has.
+#[tactic(auto, using(field_numbers::proofs::Fields::shedding_laws))]
 fn inner_ink_end(line: &[u8], i: usize, e: usize) -> usize
     requires { (1 ≤ i) × (e ≤ length line.now + 1) }
     ensures i_value { before_spaces (columns_for line.now i (e - i)) ≡ columns_for line.now i (result - i) }
     ensures lower_bound { (i ≤ result) × (result - i ≤ e - i) }
 {
-    let mut z = e;
-    while i < z {
-        if text::inner_column(line, z - 1) != 32 {
-            return z;
+    for z in (i..e).rev() {
+        if text::inner_column(line, z) != 32 {
+            return z + 1;
         }
-        z -= 1;
     }
     i
 }
 
 // The digits in columns i to e - 1, all of which the line has, with the sign that stands before them.
-fn sized_digits(line: &[u8], i: usize, e: usize, minus: bool) -> SizedRead
+fn sized_digits(line: &[u8], i: usize, e: usize, minus: bool) -> Option<SignedSize>
     requires { (1 ≤ i) × (i ≤ e) × (e ≤ i + 9) × (e ≤ length line.now + 1) }
     ensures { result ≡ with_sign minus (size_in (columns_for line.now i (e - i))) }
 {
-    match field_numbers::inner_digits(line, i, e) {
-        Size::Is(k) => SizedRead::Is { minus, size: k },
-        Size::Malformed => SizedRead::Malformed,
-    }
+    let size = field_numbers::inner_digits(line, i, e)?;
+    Some(SignedSize { minus, size })
 }
 
 // The same where a sign may stand in column i.
-fn signed_digits(line: &[u8], i: usize, e: usize) -> SizedRead
+fn signed_digits(line: &[u8], i: usize, e: usize) -> Option<SignedSize>
     requires { (1 ≤ i) × (i < e) × (e ≤ i + 9) × (e ≤ length line.now + 1) }
     ensures { result ≡ sized_from true (columns_for line.now i (e - i)) }
 {
@@ -64,17 +61,17 @@ fn signed_digits(line: &[u8], i: usize, e: usize) -> SizedRead
 }
 
 // The integer field in columns i to j, without the spaces on both sides.
-fn sized(line: &[u8], i: usize, j: usize, negatives: bool) -> SizedRead
+fn sized(line: &[u8], i: usize, j: usize, negatives: bool) -> Option<SignedSize>
     requires { (1 ≤ i) × (i ≤ j + 1) × (j ≤ 1000) × (j + 1 ≤ i + 9) }
     ensures { result ≡ sized_in negatives (columns line.now i j) }
 {
     let e = line_end(line, j + 1);
     let z = inner_ink_end(line, i, e);
     if z <= i {
-        return SizedRead::Is {
+        return Some(SignedSize {
             minus: false,
             size: 0,
-        };
+        });
     }
     let a = field_numbers::inner_spaces_end(line, i, z);
     if negatives {
@@ -83,16 +80,16 @@ fn sized(line: &[u8], i: usize, j: usize, negatives: bool) -> SizedRead
     sized_digits(line, a, z, false)
 }
 
-fn within(k: u32, least: u32, most: u32) -> NumberRead
+fn within(k: u32, least: u32, most: u32) -> Result<u32, NumberFault>
     ensures { result ≡ ranged least most (is (pos k)) }
 {
     if k < least {
-        return NumberRead::Outside;
+        return Err(NumberFault::Outside);
     }
     if most < k {
-        return NumberRead::Outside;
+        return Err(NumberFault::Outside);
     }
-    NumberRead::Is(k)
+    Ok(k)
 }
 
 // The number of the usual field, spaces and then one digit or two in columns i to i + 2; 100 for any other.
@@ -128,7 +125,7 @@ fn short_number(line: &[u8], i: usize) -> u32
 
 // The number in columns i to j, of a range without negatives. Any other field than the usual is asked for at two places, so that the
 // compiler leaves its reading out of line and puts this function in place at each field of a line.
-pub fn number(line: &[u8], i: usize, j: usize, least: u32, most: u32) -> NumberRead
+pub fn number(line: &[u8], i: usize, j: usize, least: u32, most: u32) -> Result<u32, NumberFault>
     requires { (1 ≤ i) × (i ≤ j + 1) × (j ≤ 1000) × (j + 1 ≤ i + 9) }
     ensures { result ≡ number_in least most (columns line.now i j) }
 {
@@ -142,34 +139,40 @@ pub fn number(line: &[u8], i: usize, j: usize, least: u32, most: u32) -> NumberR
     any_number(line, i, j, least, most)
 }
 
-fn any_number(line: &[u8], i: usize, j: usize, least: u32, most: u32) -> NumberRead
+fn any_number(line: &[u8], i: usize, j: usize, least: u32, most: u32) -> Result<u32, NumberFault>
     requires { (1 ≤ i) × (i ≤ j + 1) × (j ≤ 1000) × (j + 1 ≤ i + 9) }
     ensures { result ≡ number_in least most (columns line.now i j) }
 {
     match sized(line, i, j, false) {
-        SizedRead::Is { minus: _, size } => within(size, least, most),
-        SizedRead::Malformed => NumberRead::Malformed,
+        Some(found) => within(found.size, least, most),
+        None => Err(NumberFault::Malformed),
     }
 }
 
-fn between(minus: bool, k: u32, below: u32, above: u32) -> SignedRead
+fn between(minus: bool, k: u32, below: u32, above: u32) -> Result<i32, NumberFault>
     requires { k < 1000000000 }
     ensures { result ≡ signed_ranged below above (is (signed minus k)) }
 {
     if minus {
         if below < k {
-            return SignedRead::Outside;
+            return Err(NumberFault::Outside);
         }
-        return SignedRead::Is(field_numbers::with_sign(true, k));
+        return Ok(field_numbers::with_sign(true, k));
     }
     if above < k {
-        return SignedRead::Outside;
+        return Err(NumberFault::Outside);
     }
-    SignedRead::Is(field_numbers::with_sign(false, k))
+    Ok(field_numbers::with_sign(false, k))
 }
 
 // The number in columns i to j, of a range with negatives.
-pub fn signed_number(line: &[u8], i: usize, j: usize, below: u32, above: u32) -> SignedRead
+pub fn signed_number(
+    line: &[u8],
+    i: usize,
+    j: usize,
+    below: u32,
+    above: u32,
+) -> Result<i32, NumberFault>
     requires { (1 ≤ i) × (i ≤ j + 1) × (j ≤ 1000) × (j + 1 ≤ i + 9) }
     ensures { result ≡ signed_in below above (columns line.now i j) }
 {
@@ -182,12 +185,12 @@ pub fn signed_number(line: &[u8], i: usize, j: usize, below: u32, above: u32) ->
     any_signed(line, i, j, below, above)
 }
 
-fn any_signed(line: &[u8], i: usize, j: usize, below: u32, above: u32) -> SignedRead
+fn any_signed(line: &[u8], i: usize, j: usize, below: u32, above: u32) -> Result<i32, NumberFault>
     requires { (1 ≤ i) × (i ≤ j + 1) × (j ≤ 1000) × (j + 1 ≤ i + 9) }
     ensures { result ≡ signed_in below above (columns line.now i j) }
 {
     match sized(line, i, j, true) {
-        SizedRead::Is { minus, size } => between(minus, size, below, above),
-        SizedRead::Malformed => SignedRead::Malformed,
+        Some(found) => between(found.minus, found.size, below, above),
+        None => Err(NumberFault::Malformed),
     }
 }

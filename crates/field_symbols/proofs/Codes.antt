@@ -1,4 +1,5 @@
 -- Laws on the codes of symbols: that a code stands for its three bytes, and that what code has by first letter is the table.
+use Rattle.std.specs.Prelude.{Some, None}
 use Prim.Native.Nat.{ℕ, suc, ◌+◌, ◌*◌, ◌-◌, ◌/◌, ◌%◌, ◌^◌, ◌≤◌, ◌<◌}
 use Prim.Native.String.{String}
 use native.Mathlib.Omega.{arith}
@@ -21,7 +22,6 @@ use Rattle.field_symbols.specs.Places.{pick, rows, place_of, entries, entries_fr
 use Rattle.field_symbols.specs.Agree.{is_number, is_number_lem}
 use Rattle.text.specs.Laws.{and_true, get_d_any}
 use Rattle.field_symbols.specs.Table.{passes, passes_at}
-use Rattle.field_symbols.specs.declared.SymbolRead.TheVariants.{Is, Unknown}
 
 -- ---- Equal codes are equal bytes
 
@@ -92,15 +92,15 @@ code_found l i a b c r p q s a< b< c< e = rw e (symbol_found l i a b c p q s a< 
 -- ---- The usual symbols
 
 module _ (x : ℕ) where
-  pub carbon : x ≡ 0x202043 → Is 6 ≡ number_of x 1 codes
+  pub carbon : x ≡ 0x202043 → Some 6 ≡ number_of x 1 codes
   unfolding number_of codes columns_for
   carbon e = rw e
 
-  pub nitrogen : x ≡ 0x20204e → Is 7 ≡ number_of x 1 codes
+  pub nitrogen : x ≡ 0x20204e → Some 7 ≡ number_of x 1 codes
   unfolding number_of codes columns_for
   nitrogen e = rw e
 
-  pub oxygen : x ≡ 0x20204f → Is 8 ≡ number_of x 1 codes
+  pub oxygen : x ≡ 0x20204f → Some 8 ≡ number_of x 1 codes
   unfolding number_of codes columns_for
   oxygen e = rw e
 
@@ -164,11 +164,11 @@ carbon_right : right carbon_entry ≡ true
 unfolding right is_number number_of codes columns_for
 carbon_right = refl
 
-pub entry_found : (s x : ℕ) → pick carbon_entry s entries / 256 ≡ x → Is (pick carbon_entry s entries % 256) ≡ number_of x 1 codes
+pub entry_found : (s x : ℕ) → pick carbon_entry s entries / 256 ≡ x → Some (pick carbon_entry s entries % 256) ≡ number_of x 1 codes
 unfolding right
 entry_found s x e =
     let n = is_number_lem (pick carbon_entry s entries % 256) (number_of (pick carbon_entry s entries / 256) 1 codes) (pick_passes right carbon_entry s 0 entries carbon_right all_right) in
-    sym (subst (λ (y : ℕ). number_of y 1 codes ≡ Is (pick carbon_entry s entries % 256)) e n)
+    sym (subst (λ (y : ℕ). number_of y 1 codes ≡ Some (pick carbon_entry s entries % 256)) e n)
 
 -- a code is found at its place
 entry_for : ℕ → ℕ
@@ -181,7 +181,7 @@ all_kept : passes kept 0 codes ≡ true
 unfolding passes kept entry_for entries entries_from place_of pick rows codes columns_for
 all_kept = refl
 
-none_like : (x i k : ℕ) (xs : List ℕ) → passes kept i xs ≡ true → (entry_for x ≡ x → ⊥) → number_of x k xs ≡ Unknown
+none_like : (x i k : ℕ) (xs : List ℕ) → passes kept i xs ≡ true → (entry_for x ≡ x → ⊥) → number_of x k xs ≡ None
 unfolding passes kept number_of
 none_like x i k [] t n = refl
 none_like x i k (y ∷ ys) t n =
@@ -189,16 +189,16 @@ none_like x i k (y ∷ ys) t n =
     let m : y ≡ x → ⊥ = λ q. n (subst (λ (z : ℕ). entry_for z ≡ z) q (eqb-true (entry_for y) y u.0)) in
     rw (ne_eqb y x m, none_like x (suc i) (suc k) ys u.1 n)
 
-pub entry_lost : (x : ℕ) → (pick carbon_entry (place_of x) entries / 256 ≡ x → ⊥) → Unknown ≡ number_of x 1 codes
+pub entry_lost : (x : ℕ) → (pick carbon_entry (place_of x) entries / 256 ≡ x → ⊥) → None ≡ number_of x 1 codes
 unfolding entry_for
 entry_lost x n = sym (none_like x 0 1 codes all_kept n)
 
 -- as code asks: x is the code, r its row, e the entry at its place
 module _ (x r e : ℕ) (p : r ≡ pick 0 (x % 32) rows) (q : e ≡ pick carbon_entry (r + x / 256 % 32) entries) where
-  pub entry_taken : e / 256 ≡ x → Is (e % 256) ≡ number_of x 1 codes
+  pub entry_taken : e / 256 ≡ x → Some (e % 256) ≡ number_of x 1 codes
   entry_taken h = rw q (entry_found (r + x / 256 % 32) x (rw (← q) h))
 
-  pub entry_missed : (e / 256 ≡ x → ⊥) → Unknown ≡ number_of x 1 codes
+  pub entry_missed : (e / 256 ≡ x → ⊥) → None ≡ number_of x 1 codes
   unfolding place_of
   entry_missed n = entry_lost x (rw (← p, ← q) n)
 

@@ -1,5 +1,5 @@
 -- The three columns that are written for a symbol's number.
-use Rattle.std.specs.Prelude.{ℕ, ◌-◌, ◌≤◌, ◌≡◌, refl, [], ◌∷◌, Bool, true, false, ◌&&◌, leb, length}
+use Rattle.std.specs.Prelude.{Some, ℕ, ◌-◌, ◌≤◌, ◌≡◌, refl, [], ◌∷◌, Bool, true, false, ◌&&◌, leb, length}
 use Prim.Native.String.{String}
 use Rattle.std.proofs.Math.ListN.{get_or-eq_default}
 use Rattle.std.proofs.Common.{leb-true, leb-false}
@@ -10,7 +10,6 @@ use Rattle.field_symbols.specs.Read.{symbol_in}
 use Rattle.text.specs.Laws.{and_true}
 use Rattle.field_symbols.specs.Table.{passes, passes_at}
 use Rattle.field_symbols.specs.Agree.{symbol_agrees}
-use Rattle.field_symbols.specs.declared.SymbolRead.TheVariants.{Is}
 
 unfoldable pub symbol_text : ℕ → Bytes
 symbol_text k = columns (bytes (name k)) 1 3
@@ -25,7 +24,7 @@ pub symbol_is : {cs : Bytes} {k : ℕ} → Symbol cs k → cs ≡ symbol_text k
 unfolding symbol_text
 symbol_is s = s.text
 
-pub symbol_read : (k : ℕ) → 1 ≤ k → k ≤ symbols_all → symbol_in (symbol_text k) ≡ Is k
+pub symbol_read : (k : ℕ) → 1 ≤ k → k ≤ symbols_all → symbol_in (symbol_text k) ≡ Some k
 symbol_read k lo hi = (symbol_agrees (symbol_text k) k).1 (symbol_back k lo hi)
 
 -- ---- What is written

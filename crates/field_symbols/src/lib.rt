@@ -10,13 +10,6 @@ ghost use Rattle.field_symbols.specs.Places.{pick, rows, entries, carbon_entry};
 // How many symbols there are.
 pub const SYMBOLS: u32 = 122;
 
-// What three columns stand for.
-#[derive(Drop)]
-pub enum SymbolRead {
-    Is(u32),
-    Unknown,
-}
-
 // Where the row of a first letter starts, by the letter's number in the alphabet; the star stands where J would.
 #[tactic(auto, unfolding(crate::specs::Places::pick, crate::specs::Places::rows))]
 fn row_at(letter: u32) -> u32
@@ -192,29 +185,29 @@ fn entry_at(place: u32) -> u32
 }
 
 // The first letter tells the row, the second the place in it; what stands there has the last word.
-fn any_symbol(code: u32) -> SymbolRead
+fn any_symbol(code: u32) -> Option<u32>
     ensures { result ≡ number_of code 1 codes }
 {
     let row = row_at(code % 32);
     let entry = entry_at(row + code / 256 % 32);
     if entry / 256 == code {
-        return SymbolRead::Is(entry % 256);
+        return Some(entry % 256);
     }
-    SymbolRead::Unknown
+    None
 }
 
 // The number of a code, the usual ones first.
-fn symbol_of(code: u32) -> SymbolRead
+fn symbol_of(code: u32) -> Option<u32>
     ensures { result ≡ number_of code 1 codes }
 {
     if code == 0x202043 {
-        return SymbolRead::Is(6);
+        return Some(6);
     }
     if code == 0x20204e {
-        return SymbolRead::Is(7);
+        return Some(7);
     }
     if code == 0x20204f {
-        return SymbolRead::Is(8);
+        return Some(8);
     }
     any_symbol(code)
 }
@@ -243,7 +236,7 @@ fn code_in(line: &[u8], i: usize) -> u32
 }
 
 // The symbol in columns i to i + 2.
-pub fn symbol(line: &[u8], i: usize) -> SymbolRead
+pub fn symbol(line: &[u8], i: usize) -> Option<u32>
     requires { (1 ≤ i) × (i ≤ 1000) }
     ensures { result ≡ symbol_in (columns line.now i (i + 2)) }
 {

@@ -27,19 +27,18 @@ fn symbol_of(atoms: &[i32], i: usize) -> u32
 }
 
 // The first n atoms of a table, counted by element until one is none; whether all of them are elements.
+#[tactic(auto, using(crate::specs::Tallying::tally_laws))]
 pub fn count_drawn(atoms: &[i32], n: usize, drawn: &mut [u32; PLACES]) -> bool
     requires { (16 * n ≤ length atoms.now) × Below drawn.old }
     ensures value { result ≡ only_elements (symbols_from atoms.now 0 n) }
     ensures drawn_after { drawn.new ≡ tallied (symbols_from atoms.now 0 n) drawn.old }
 {
-    let mut i: usize = 0;
-    while i < n {
+    for i in 0..n {
         let k = symbol_of(atoms, i);
         if k > ELEMENTS {
             return false;
         }
         formula_sums::add_at(drawn, k as usize, 1);
-        i += 1;
     }
     true
 }
@@ -67,6 +66,7 @@ fn list_one(found: &mut [u32; FOUND], count: usize, k: usize, written: u32, draw
 }
 
 // The elements of which not as many are written as drawn, hydrogen left out; how many they are.
+#[tactic(auto, using(crate::specs::Listing::listing_laws))]
 pub fn list_differences(
     written: &[u32; PLACES],
     drawn: &[u32; PLACES],
@@ -76,10 +76,8 @@ pub fn list_differences(
     ensures found_after { found.new ≡ sets found.old 0 (numbers (differences (entry written.now) (entry drawn.now))) }
 {
     let mut count: usize = 0;
-    let mut k: usize = 2;
-    while k < PLACES {
+    for k in 2..PLACES {
         count = list_one(found, count, k, written[k], drawn[k]);
-        k += 1;
     }
     count
 }

@@ -1,5 +1,5 @@
 -- Letters looked up in the names of the elements: what is found is the name that stands there.
-use Rattle.std.specs.Prelude.{ℕ, suc, ◌+◌, ◌-◌, ◌≤◌, ◌≡◌, refl, [], ◌∷◌, Bool, true, false, cond, ◌&&◌, leb, length}
+use Rattle.std.specs.Prelude.{Option, Some, None, ℕ, suc, ◌+◌, ◌-◌, ◌≤◌, ◌≡◌, refl, [], ◌∷◌, Bool, true, false, cond, ◌&&◌, leb, length}
 use Prim.Native.String.{String}
 use Rattle.std.proofs.Common.{arith, sym, ap, ◌∙◌, subst, leb-true, le-leb}
 use Rattle.text.specs.Text.{Bytes, bytes}
@@ -10,8 +10,6 @@ use Rattle.field_symbols.specs.Symbol as S
 use Rattle.field_symbols.specs.Read.{symbol_in}
 use Rattle.field_symbols.specs.Agree.{symbol_agrees}
 use Rattle.field_symbols.specs.Table.{passes, passes_at}
-use Rattle.field_symbols.specs.declared.SymbolRead.{SymbolRead}
-use Rattle.field_symbols.specs.declared.SymbolRead.TheVariants.{Is, Unknown}
 use Rattle.formula_rules.specs.Formula.{between, Element, elements}
 use Rattle.formula_rules.specs.Bytes.{is_capital, is_small, between_from}
 
@@ -55,9 +53,9 @@ named k e =
 -- ---- The search
 
 -- the element that two letters name, a space for the second where there is one letter; 0 is none
-abbrev pub only_element : SymbolRead → ℕ
-only_element (Is k) = cond (leb k elements) k 0
-only_element Unknown = 0
+abbrev pub only_element : Option ℕ → ℕ
+only_element (Some k) = cond (leb k elements) k 0
+only_element None = 0
 
 unfoldable pub element_of : ℕ → ℕ → ℕ
 element_of x y = only_element (symbol_in (x ∷ y ∷ 32 ∷ []))
@@ -70,9 +68,9 @@ element_le x y = go (symbol_in (x ∷ y ∷ 32 ∷ []))
     low k true e = leb-true k elements e
     low k false e = omega arith
 
-    go : (r : SymbolRead) → only_element r ≤ elements
-    go (Is k) = low k (leb k elements) refl
-    go Unknown = omega arith
+    go : (r : Option ℕ) → only_element r ≤ elements
+    go (Some k) = low k (leb k elements) refl
+    go None = omega arith
 
 columns_one : (x : ℕ) → columns (x ∷ []) 1 3 ≡ x ∷ 32 ∷ 32 ∷ []
 unfolding columns_for
@@ -104,15 +102,15 @@ spelled : (k x y : ℕ) → element_of x y ≡ suc k → Spelled (suc k) x y
 unfolding element_of
 spelled k x y h = go (symbol_in (x ∷ y ∷ 32 ∷ [])) refl h
   where
-    small : (j : ℕ) (t : Bool) → leb j elements ≡ t → symbol_in (x ∷ y ∷ 32 ∷ []) ≡ Is j → cond t j 0 ≡ suc k → Spelled (suc k) x y
+    small : (j : ℕ) (t : Bool) → leb j elements ≡ t → symbol_in (x ∷ y ∷ 32 ∷ []) ≡ Some j → cond t j 0 ≡ suc k → Spelled (suc k) x y
     small j true q e h =
-        let s : S.Symbol (x ∷ y ∷ 32 ∷ []) (suc k) = (symbol_agrees (x ∷ y ∷ 32 ∷ []) (suc k)).0 (e ∙ ap Is h) in
+        let s : S.Symbol (x ∷ y ∷ 32 ∷ []) (suc k) = (symbol_agrees (x ∷ y ∷ 32 ∷ []) (suc k)).0 (e ∙ ap Some h) in
         record { element = record { low = s.low; high = omega (arith, leb-true j elements q) }; text = s.text }
     small j false q e h = absurd (omega arith)
 
-    go : (r : SymbolRead) → symbol_in (x ∷ y ∷ 32 ∷ []) ≡ r → only_element r ≡ suc k → Spelled (suc k) x y
-    go (Is j) e h = small j (leb j elements) refl e h
-    go Unknown e h = absurd (omega arith)
+    go : (r : Option ℕ) → symbol_in (x ∷ y ∷ 32 ∷ []) ≡ r → only_element r ≡ suc k → Spelled (suc k) x y
+    go (Some j) e h = small j (leb j elements) refl e h
+    go None e h = absurd (omega arith)
 
 pub element_is : (k x y : ℕ) → element_of x y ≡ suc k → Element (suc k)
 element_is k x y h = (spelled k x y h).element

@@ -1,8 +1,9 @@
 -- The sums in the facts that the code has.
 use Prim.Native.Nat.{ℕ, zero, suc, ◌+◌, ◌*◌, ◌-◌, ◌≤◌, ◌<◌}
-use Rattle.std.specs.Prelude.{◌≡◌, refl, Bool, cond, ◌&&◌, eqb, ltb, length, get_or, set}
+use Rattle.std.specs.Prelude.{Option, Some, None, ◌≡◌, refl, Bool, cond, ◌&&◌, eqb, ltb, length, get_or, set, take, drop}
 use Rattle.std.proofs.Math.Path.{sym, ap}
-use Rattle.std.proofs.Common.{◌∙◌, subst, mul-le-mul, Fits, eqb-true, lt-ltb, le-ltb}
+use Rattle.std.proofs.Common.{◌∙◌, subst, add-one, drop-cons, mul-le-mul, Fits, eqb-true, lt-ltb, le-ltb}
+use Rattle.std.specs.List.{list_any}
 use mathlib.Core.List.{List, []}
 use Rattle.std.proofs.Math.Bool.{true, false, and-eq-true_iff}
 use native.Mathlib.Omega.{arith}
@@ -19,7 +20,6 @@ use Rattle.formula_rules.specs.Judged.{empty, empty_below, crowded, sums_of, ver
 use Rattle.formula_rules.proofs.Judged.{counts_none}
 use Rattle.formula_text.specs.Steps.{units_open, units_symbol, units_none, group_step}
 use Rattle.formula_text.specs.Told.{told_unit, told_units}
-use Rattle.formula_text.specs.declared.Parsed.{Parsed}
 use Rattle.formula_sums.specs.Values.{count_value, symbol_count}
 
 -- ---- numbers
@@ -115,7 +115,7 @@ after_read : (x : UnitRead) (k : ℕ → UnitsRead) → read_units (after x k) �
 after_read (unit n t) k h = refl
 after_read UnitRead.no k h = h
 
-after_more : (x : UnitRead) (k : ℕ → UnitsRead) (n : ℕ) → told_unit x ≡ Parsed.At n → read_units (after x k) ≡ true → read_units (k n) ≡ true
+after_more : (x : UnitRead) (k : ℕ → UnitsRead) (n : ℕ) → told_unit x ≡ Some n → read_units (after x k) ≡ true → read_units (k n) ≡ true
 unfolding told_unit
 after_more (unit i t) k n e h = let q : i ≡ n = cc in subst (λ (j : ℕ). read_units (k j) ≡ true) q (onto_read t (k i) h)
 after_more UnitRead.no k n e h = absurd (let z : ◌≡◌ {A = ℕ} 0 1 = cc in omega arith)
@@ -125,13 +125,13 @@ unfolding added_units add_tree
 onto_added m x (units e ts) t h = refl
 onto_added m x UnitsRead.no t h = absurd (let z : ◌≡◌ {A = ℕ} 0 1 = cc in omega arith)
 
-after_added : (m : ℕ) (x : UnitRead) (k : ℕ → UnitsRead) (n : ℕ) (t : List ℕ) → told_unit x ≡ Parsed.At n → read_units (after x k) ≡ true →
+after_added : (m : ℕ) (x : UnitRead) (k : ℕ → UnitsRead) (n : ℕ) (t : List ℕ) → told_unit x ≡ Some n → read_units (after x k) ≡ true →
     added_units m (after x k) t ≡ added_units m (k n) (added_unit m x t)
 unfolding told_unit added_unit
 after_added m (unit i x) k n t e h = let q : i ≡ n = cc in onto_added m x (k i) t (onto_read x (k i) h) ∙ ap (λ (j : ℕ). added_units m (k j) (add_tree m x t)) q
 after_added m UnitRead.no k n t e h = absurd (let z : ◌≡◌ {A = ℕ} 0 1 = cc in omega arith)
 
-never_bad : {X : Type 0} (x : UnitRead) → told_unit x ≡ Parsed.Bad → read_unit x ≡ true → X
+never_bad : {X : Type 0} (x : UnitRead) → told_unit x ≡ None → read_unit x ≡ true → X
 unfolding told_unit
 never_bad (unit i t) e h = absurd (let z : ◌≡◌ {A = ℕ} 0 1 = cc in omega arith)
 never_bad UnitRead.no e h = absurd (let z : ◌≡◌ {A = ℕ} 0 1 = cc in omega arith)
@@ -149,20 +149,20 @@ unfolding symbol_at symbol_count
 one_symbol s a m t h = counted_added s (element_at s a) m (symbol_end s a) t (count_at s (symbol_end s a)) refl h
 
 module _ (s : List ℕ) (d a : ℕ) (w : a ≤ length s) (read : read_units (units_of s d a) ≡ true) {b : ℕ} (eb : b ≡ byte_at s a) where
-  module _ (o : b ≡ 40) {g : Parsed} (eg : g ≡ told_unit (group_of s d (a + 1))) where
+  module _ (o : b ≡ 40) {g : Option ℕ} (eg : g ≡ told_unit (group_of s d (a + 1))) where
     open_read : read_units (after (group_of s d (a + 1)) (units_of s d)) ≡ true
     open_read = rw (sym (units_open s d a w eb o)) read
 
     pub group_read : read_unit (group_of s d (a + 1)) ≡ true
     group_read = after_read (group_of s d (a + 1)) (units_of s d) open_read
 
-    pub open_never : {X : Type 0} → g ≡ Parsed.Bad → X
+    pub open_never : {X : Type 0} → g ≡ None → X
     open_never h = never_bad (group_of s d (a + 1)) (sym eg ∙ h) group_read
 
-    pub open_more : (n : ℕ) → g ≡ Parsed.At n → read_units (units_of s d n) ≡ true
+    pub open_more : (n : ℕ) → g ≡ Some n → read_units (units_of s d n) ≡ true
     open_more n h = after_more (group_of s d (a + 1)) (units_of s d) n (sym eg ∙ h) open_read
 
-    pub open_added : (n : ℕ) → g ≡ Parsed.At n → (m : ℕ) (t u v : List ℕ) → u ≡ added_unit m (group_of s d (a + 1)) t → v ≡ added_units m (units_of s d n) u →
+    pub open_added : (n : ℕ) → g ≡ Some n → (m : ℕ) (t u v : List ℕ) → u ≡ added_unit m (group_of s d (a + 1)) t → v ≡ added_units m (units_of s d n) u →
         v ≡ added_units m (units_of s d a) t
     open_added n h m t u v eu ev =
         ev ∙ ap (added_units m (units_of s d n)) eu ∙ sym (ap (λ (r : UnitsRead). added_units m r t) (units_open s d a w eb o) ∙ after_added m (group_of s d (a + 1)) (units_of s d) n t (sym eg ∙ h) open_read)
@@ -172,17 +172,17 @@ module _ (s : List ℕ) (d a : ℕ) (w : a ≤ length s) (read : read_units (uni
     unfolding added_units add_tree
     none_added tp m t = sym (ap (λ (r : UnitsRead). added_units m r t) (units_none s d a w eb o ep tp))
 
-    module _ (tp : p ≡ true) {g : Parsed} (eg : g ≡ told_unit (symbol_at s a)) where
+    module _ (tp : p ≡ true) {g : Option ℕ} (eg : g ≡ told_unit (symbol_at s a)) where
       symbol_read : read_units (after (symbol_at s a) (units_of s d)) ≡ true
       symbol_read = rw (sym (units_symbol s d a w eb o ep tp)) read
 
-      pub symbol_never : {X : Type 0} → g ≡ Parsed.Bad → X
+      pub symbol_never : {X : Type 0} → g ≡ None → X
       symbol_never h = never_bad (symbol_at s a) (sym eg ∙ h) (after_read (symbol_at s a) (units_of s d) symbol_read)
 
-      pub symbol_more : (n : ℕ) → g ≡ Parsed.At n → read_units (units_of s d n) ≡ true
+      pub symbol_more : (n : ℕ) → g ≡ Some n → read_units (units_of s d n) ≡ true
       symbol_more n h = after_more (symbol_at s a) (units_of s d) n (sym eg ∙ h) symbol_read
 
-      pub symbol_added : (n : ℕ) → g ≡ Parsed.At n → (m : ℕ) (t u v : List ℕ) → u ≡ set t (element_at s a) (sat (get_or t (element_at s a) 0 + sat (m * symbol_count s a))) →
+      pub symbol_added : (n : ℕ) → g ≡ Some n → (m : ℕ) (t u v : List ℕ) → u ≡ set t (element_at s a) (sat (get_or t (element_at s a) 0 + sat (m * symbol_count s a))) →
           v ≡ added_units m (units_of s d n) u → v ≡ added_units m (units_of s d a) t
       symbol_added n h m t u v eu ev =
           ev ∙ ap (added_units m (units_of s d n)) (eu ∙ sym (one_symbol s a m t (after_read (symbol_at s a) (units_of s d) symbol_read)))
@@ -195,7 +195,7 @@ group_value : (s : List ℕ) (m i f c : ℕ) (ts : Trees) (t : List ℕ) → cou
 unfolding added_unit added_units add_tree
 group_value s m i f c ts t q = rw (count_value_lem s (i + 1) f c q)
 
-closed_by : (s : List ℕ) (a e m : ℕ) (x : UnitsRead) (t : List ℕ) → told_units x ≡ Parsed.At e → read_unit (closed s a x) ≡ true →
+closed_by : (s : List ℕ) (a e m : ℕ) (x : UnitsRead) (t : List ℕ) → told_units x ≡ Some e → read_unit (closed s a x) ≡ true →
     (e < length s) × (added_unit m (closed s a x) t ≡ added_units (sat (m * count_value s (e + 1))) x t)
 unfolding told_units
 closed_by s a e m (units i ts) t h r =
@@ -220,7 +220,7 @@ closed_read : (s : List ℕ) (a : ℕ) (x : UnitsRead) → read_unit (closed s a
 closed_read s a (units i ts) h = refl
 closed_read s a UnitsRead.no h = h
 
-bad_units : {X : Type 0} (x : UnitsRead) → told_units x ≡ Parsed.Bad → read_units x ≡ true → X
+bad_units : {X : Type 0} (x : UnitsRead) → told_units x ≡ None → read_units x ≡ true → X
 unfolding told_units
 bad_units (units i t) e h = absurd (let z : ◌≡◌ {A = ℕ} 0 1 = cc in omega arith)
 bad_units UnitsRead.no e h = absurd (let z : ◌≡◌ {A = ℕ} 0 1 = cc in omega arith)
@@ -235,14 +235,14 @@ module _ (s : List ℕ) (d a : ℕ) (w : a ≤ length s) (read : read_unit (grou
   pub inner_read : read_units (units_of s (d - 1) a) ≡ true
   inner_read = closed_read s a (units_of s (d - 1) a) closed_here
 
-  module _ {u : Parsed} (eu : u ≡ told_units (units_of s (d - 1) a)) where
-    pub inner_never : {X : Type 0} → u ≡ Parsed.Bad → X
+  module _ {u : Option ℕ} (eu : u ≡ told_units (units_of s (d - 1) a)) where
+    pub inner_never : {X : Type 0} → u ≡ None → X
     inner_never h = bad_units (units_of s (d - 1) a) (sym eu ∙ h) inner_read
 
-    pub inner_within : (e : ℕ) → u ≡ Parsed.At e → e + 1 ≤ length s
+    pub inner_within : (e : ℕ) → u ≡ Some e → e + 1 ≤ length s
     inner_within e h = let l = (closed_by s a e 0 (units_of s (d - 1) a) [] (sym eu ∙ h) closed_here).0 in omega arith
 
-    pub group_added : (e : ℕ) → u ≡ Parsed.At e → (m k : ℕ) → k ≡ sat (m * count_value s (e + 1)) → (t v : List ℕ) → v ≡ added_units k (units_of s (d - 1) a) t → v ≡ added_unit m (group_of s d a) t
+    pub group_added : (e : ℕ) → u ≡ Some e → (m k : ℕ) → k ≡ sat (m * count_value s (e + 1)) → (t v : List ℕ) → v ≡ added_units k (units_of s (d - 1) a) t → v ≡ added_unit m (group_of s d a) t
     group_added e h m k ek t v ev =
         ev ∙ ap (λ (i : ℕ). added_units i (units_of s (d - 1) a) t) ek ∙ sym (closed_by s a e m (units_of s (d - 1) a) t (sym eu ∙ h) closed_here).1
         ∙ sym (ap (λ (x : UnitRead). added_unit m x t) (group_step s d a f w))
@@ -272,6 +272,15 @@ module _ (t : List ℕ) where
   pub crowd_end : (i : ℕ) → crowded t 1 118 ≡ crowded t i (119 - i) → 119 ≤ i → false ≡ crowded t 1 118
   unfolding crowded
   crowd_end i e l = let n : 119 - i ≡ 0 = omega arith in sym (e ∙ ap (crowded t i) n)
+
+-- the same as one test of n places from i on
+pub crowded_any : (t : List ℕ) (i n : ℕ) → i + n ≤ length t → crowded t i n ≡ list_any (λ c. ltb 9999 c) (take n (drop i t))
+unfolding crowded
+crowded_any t i zero h = refl
+crowded_any t i (suc n) h =
+    let one : i < length t = omega arith in
+    let more : i + 1 + n ≤ length t = omega arith in
+    rw (drop-cons t i 0 one, crowded_any t (i + 1) n more, add-one i)
 
 -- ---- a line
 

@@ -7,8 +7,6 @@ ghost use Rattle.formula_rules.specs.Sums.{sat, Below, read_units, read_unit, ad
 ghost use Rattle.formula_rules.specs.Judged.{empty, crowded, verdict_of, shallow_of, counts_of, number_of};
 ghost use Rattle.formula_sums.specs.Values.{count_value, symbol_count};
 
-use formula_text::Parsed;
-
 // Places for elements 1 to 118, and place 0.
 pub const PLACES: usize = 119;
 
@@ -99,7 +97,7 @@ fn add_units(s: &[u8], at: usize, depth: usize, times: u32, counts: &mut [u32; P
     let b = formula_text::byte_at(s, at);
     if b == 40 {
         let g = formula_text::group(s, at + 1, depth);
-        let Parsed::At(n) = g else {
+        let Some(n) = g else {
             return;
         };
         add_group(s, at + 1, depth, times, counts);
@@ -108,7 +106,7 @@ fn add_units(s: &[u8], at: usize, depth: usize, times: u32, counts: &mut [u32; P
     }
     if formula_text::in_range(b, 65, 90) {
         let y = formula_text::symbol_at(s, at);
-        let Parsed::At(n) = y else {
+        let Some(n) = y else {
             return;
         };
         let c = symbol_count(s, at);
@@ -128,7 +126,7 @@ fn add_group(s: &[u8], at: usize, depth: usize, times: u32, counts: &mut [u32; P
         return;
     }
     let u = formula_text::units(s, at, depth - 1);
-    let Parsed::At(e) = u else {
+    let Some(e) = u else {
         return;
     };
     let c = count_value(s, e + 1);
@@ -139,14 +137,7 @@ fn add_group(s: &[u8], at: usize, depth: usize, times: u32, counts: &mut [u32; P
 fn too_many(counts: &[u32; PLACES]) -> bool
     ensures { result ≡ crowded counts.now 1 118 }
 {
-    let mut i: usize = 1;
-    while i < PLACES {
-        if counts[i] > MOST {
-            return true;
-        }
-        i += 1;
-    }
-    false
+    counts[1..].iter().any(|count| *count > MOST)
 }
 
 // A formula whose depth is not judged yet.

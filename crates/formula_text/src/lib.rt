@@ -7,17 +7,8 @@ ghost use Rattle.formula_rules.specs.Element.{element_of};
 ghost use Rattle.formula_rules.specs.Parse.{count_at, symbol_end, element_at, symbol_at, group_of, units_of, formula_of};
 ghost use Rattle.formula_text.specs.Told.{told_count, told_unit, told_units};
 
-use field_symbols::SymbolRead;
-
 // The symbols that are elements are the first of all symbols.
 pub const ELEMENTS: u32 = 118;
-
-// Where a part of the text ends, if it is one.
-#[derive(Drop)]
-pub enum Parsed {
-    At(usize),
-    Bad,
-}
 
 // The byte at a position; 0 past the end.
 pub fn byte_at(s: &[u8], i: usize) -> u8
@@ -39,14 +30,14 @@ pub fn in_range(b: u8, low: u8, high: u8) -> bool
 }
 
 // A count from 2 to 999 without leading zeros, or none.
-fn count_at(s: &[u8], at: usize) -> Parsed
+fn count_at(s: &[u8], at: usize) -> Option<usize>
     requires { at ≤ length s.now }
     ensures { result ≡ told_count (count_at s.now at) }
 {
     let a = byte_at(s, at);
     if in_range(a, 48, 57) {
         if a == 48 {
-            return Parsed::Bad;
+            return None;
         }
         let b = byte_at(s, at + 1);
         if in_range(b, 48, 57) {
@@ -54,18 +45,18 @@ fn count_at(s: &[u8], at: usize) -> Parsed
             if in_range(c, 48, 57) {
                 let d = byte_at(s, at + 3);
                 if in_range(d, 48, 57) {
-                    return Parsed::Bad;
+                    return None;
                 }
-                return Parsed::At(at + 3);
+                return Some(at + 3);
             }
-            return Parsed::At(at + 2);
+            return Some(at + 2);
         }
         if a == 49 {
-            return Parsed::Bad;
+            return None;
         }
-        return Parsed::At(at + 1);
+        return Some(at + 1);
     }
-    Parsed::At(at)
+    Some(at)
 }
 
 // The element that two letters name, a space for the second where there is one; 0 is none.
@@ -73,7 +64,7 @@ fn element_of(first: u8, second: u8) -> u32
     ensures { result ≡ element_of first second }
 {
     let letters = [first, second, b' '];
-    let SymbolRead::Is(k) = field_symbols::symbol(&letters, 1) else {
+    let Some(k) = field_symbols::symbol(&letters, 1) else {
         return 0;
     };
     if k <= ELEMENTS {
@@ -107,13 +98,13 @@ pub fn symbol_end(s: &[u8], at: usize) -> usize
 }
 
 // A symbol and its count, where a capital letter stands.
-pub fn symbol_at(s: &[u8], at: usize) -> Parsed
+pub fn symbol_at(s: &[u8], at: usize) -> Option<usize>
     requires { at < length s.now }
     ensures { result ≡ told_unit (symbol_at s.now at) }
 {
     let k = element_at(s, at);
     if k == 0 {
-        return Parsed::Bad;
+        return None;
     }
     let e = symbol_end(s, at);
     count_at(s, e)
@@ -121,46 +112,46 @@ pub fn symbol_at(s: &[u8], at: usize) -> Parsed
 
 // Units, as many as stand from here on, with groups nested to `depth` at most.
 #[cycle(group_units)]
-pub fn units(s: &[u8], at: usize, depth: usize) -> Parsed
+pub fn units(s: &[u8], at: usize, depth: usize) -> Option<usize>
     requires { at ≤ length s.now }
     ensures { result ≡ told_units (units_of s.now depth at) }
 {
     let b = byte_at(s, at);
     if b == 40 {
         let g = group(s, at + 1, depth);
-        let Parsed::At(n) = g else {
-            return Parsed::Bad;
+        let Some(n) = g else {
+            return None;
         };
         return units(s, n, depth);
     }
     if in_range(b, 65, 90) {
         let y = symbol_at(s, at);
-        let Parsed::At(n) = y else {
-            return Parsed::Bad;
+        let Some(n) = y else {
+            return None;
         };
         return units(s, n, depth);
     }
-    Parsed::At(at)
+    Some(at)
 }
 
 // A group after its opening parenthesis: one or more units, the closing parenthesis, its count.
 #[cycle(group_units)]
-pub fn group(s: &[u8], at: usize, depth: usize) -> Parsed
+pub fn group(s: &[u8], at: usize, depth: usize) -> Option<usize>
     requires { at ≤ length s.now }
     ensures { result ≡ told_unit (group_of s.now depth at) }
 {
     if depth == 0 {
-        return Parsed::Bad;
+        return None;
     }
     let u = units(s, at, depth - 1);
-    let Parsed::At(e) = u else {
-        return Parsed::Bad;
+    let Some(e) = u else {
+        return None;
     };
     if e <= at {
-        return Parsed::Bad;
+        return None;
     }
     if byte_at(s, e) != 41 {
-        return Parsed::Bad;
+        return None;
     }
     count_at(s, e + 1)
 }
@@ -170,7 +161,7 @@ pub fn is_formula(s: &[u8], depth: usize) -> bool
     ensures { result ≡ formula_of s.now depth }
 {
     let u = units(s, 0, depth);
-    let Parsed::At(e) = u else {
+    let Some(e) = u else {
         return false;
     };
     if e == 0 {

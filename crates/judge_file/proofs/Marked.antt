@@ -1,17 +1,13 @@
 -- A line's refusal carries a number from 3 to 18 and a column from 1 on; so none is taken for a text cut short.
-use Rattle.std.specs.Prelude.{ℕ, zero, suc, ◌+◌, ◌*◌, ◌-◌, ◌≤◌, ◌≡◌, List, ◌∷◌, not, ℤ, eqb, leb}
+use Rattle.std.specs.Prelude.{Result, Ok, Err, Option, Some, None, ℕ, zero, suc, ◌+◌, ◌*◌, ◌-◌, ◌≤◌, ◌≡◌, List, ◌∷◌, not, ℤ, eqb, leb}
 use Rattle.std.proofs.Common.{subst, arith}
 use Rattle.text.specs.Text.{Line, byte}
 use Rattle.text.specs.Columns.{column, columns}
 use Rattle.text.specs.Find.{ink_column}
 use Rattle.text.specs.Agree.{ink_within}
 use Rattle.field_numbers.specs.Read.{number_in, signed_in}
-use Rattle.field_numbers.specs.declared.NumberRead.{NumberRead}
-use Rattle.field_numbers.specs.declared.SignedRead.{SignedRead}
 use Rattle.field_coordinates.specs.Read.{coordinate_in}
-use Rattle.field_coordinates.specs.declared.CoordinateRead.{CoordinateRead}
 use Rattle.field_symbols.specs.Read.{symbol_in}
-use Rattle.field_symbols.specs.declared.SymbolRead.{SymbolRead}
 use Rattle.rules.specs.Forms.{stereos, centres, Kind, CHG, RAD, ISO, tag}
 use Rattle.judge_pairs.specs.Taken.{pair_taken}
 use Rattle.judge_line.specs.Got.{Got, bad}
@@ -21,6 +17,7 @@ use Rattle.judge_line.specs.Judge.{counts_of, atom_of, bond_of, entry_number_at,
 use Rattle.judge_file.specs.Place.{FileKind, Place, first, second, third, counts, atoms, bonds, properties, over, items, values, seen_in, line_of, longest}
 use Rattle.judge_file.specs.Place.{turn_of}
 use Rattle.judge_file.specs.Marked.{Marked, marked_bad, marked_then, marked_need, marked_cond, marked_none, marked_within, marked_header, marked_item, marked_value, value, refusal}
+use Rattle.field_numbers.specs.declared.NumberFault.{NumberFault}
 
 -- ---- Fields
 
@@ -28,19 +25,19 @@ marked_number : (l : Line) (i j least most : ℕ) → 1 ≤ i → Marked (number
 unfolding number_at
 marked_number l i j least most h = go (number_in least most (columns l i j))
   where
-    go : (r : NumberRead) → Marked (number_got i r)
-    go (NumberRead.Is k) = value
-    go NumberRead.Malformed = refusal 7 i (omega arith) h
-    go NumberRead.Outside = refusal 8 i (omega arith) h
+    go : (r : Result ℕ NumberFault) → Marked (number_got i r)
+    go (Ok k) = value
+    go (Err NumberFault.Malformed) = refusal 7 i (omega arith) h
+    go (Err NumberFault.Outside) = refusal 8 i (omega arith) h
 
 marked_signed : (l : Line) (i j below above : ℕ) → 1 ≤ i → Marked (signed_at l i j below above)
 unfolding signed_at
 marked_signed l i j below above h = go (signed_in below above (columns l i j))
   where
-    go : (r : SignedRead) → Marked (signed_got i r)
-    go (SignedRead.Is z) = value
-    go SignedRead.Malformed = refusal 7 i (omega arith) h
-    go SignedRead.Outside = refusal 8 i (omega arith) h
+    go : (r : Result ℤ NumberFault) → Marked (signed_got i r)
+    go (Ok z) = value
+    go (Err NumberFault.Malformed) = refusal 7 i (omega arith) h
+    go (Err NumberFault.Outside) = refusal 8 i (omega arith) h
 
 marked_listed : (l : Line) (i j most : ℕ) (list : List ℕ) → 1 ≤ i → Marked (listed_at l i j most list)
 unfolding listed_at
@@ -56,17 +53,17 @@ marked_coordinate : (l : Line) (i j : ℕ) → 1 ≤ i → Marked (coordinate_at
 unfolding coordinate_at
 marked_coordinate l i j h = go (coordinate_in (columns l i j))
   where
-    go : (r : CoordinateRead) → Marked (coordinate_got i r)
-    go (CoordinateRead.Is z) = value
-    go CoordinateRead.Malformed = refusal 7 i (omega arith) h
+    go : (r : Option ℤ) → Marked (coordinate_got i r)
+    go (Some z) = value
+    go None = refusal 7 i (omega arith) h
 
 marked_symbol : (l : Line) (i j : ℕ) → 1 ≤ i → Marked (symbol_at l i j)
 unfolding symbol_at
 marked_symbol l i j h = go (symbol_in (columns l i j))
   where
-    go : (r : SymbolRead) → Marked (symbol_got i r)
-    go (SymbolRead.Is k) = value
-    go SymbolRead.Unknown = refusal 9 i (omega arith) h
+    go : (r : Option ℕ) → Marked (symbol_got i r)
+    go (Some k) = value
+    go None = refusal 9 i (omega arith) h
 
 module _ {A : Type 0} (l : Line) {x : Got A} where
   marked_space : (i : ℕ) → 1 ≤ i → Marked x → Marked (space_at l i x)

@@ -1,11 +1,10 @@
 -- A line's refusal carries a number from 3 to 18 and a column from 1 on; so none is taken for a text cut short.
-use Rattle.std.specs.Prelude.{ℕ, suc, ◌≤◌, ◌≡◌, refl, Bool, cond, not, length, leb}
+use Rattle.std.specs.Prelude.{Option, Some, None, ℕ, suc, ◌≤◌, ◌≡◌, refl, Bool, cond, not, length, leb}
 use Rattle.std.proofs.Common.{arith}
 use Rattle.std.proofs.Math.Bool.{true, false}
 use Rattle.text.specs.Text.{Line, bytes}
 use Rattle.text.specs.Find.{bad_column, is_blank}
 use Rattle.text.specs.Agree.{bad_within}
-use Rattle.text.specs.declared.Found.{Found}
 use Rattle.judge_line.specs.Got.{Got, got, bad, then, need}
 use Rattle.judge_line.specs.Field.{none_found, within}
 use Rattle.judge_line.specs.Judge.{reserved, first_header_of, HeaderRead, named, none}
@@ -37,9 +36,9 @@ module _ {A : Type 0} where
 -- ---- Fields
 
 module _ {A : Type 0} (l : Line) {x : Got A} where
-  pub marked_none : (e : ℕ) (f : Found) → (3 ≤ e) × (e ≤ 18) → ((c : ℕ) → f ≡ Found.At c → 1 ≤ c) → Marked x → Marked (none_found e f x)
-  marked_none e (Found.At c) r h m = refusal e c r (h c refl)
-  marked_none e Found.Nothing r h m = m
+  pub marked_none : (e : ℕ) (f : Option ℕ) → (3 ≤ e) × (e ≤ 18) → ((c : ℕ) → f ≡ Some c → 1 ≤ c) → Marked x → Marked (none_found e f x)
+  marked_none e (Some c) r h m = refusal e c r (h c refl)
+  marked_none e None r h m = m
 
   pub marked_within : (k : ℕ) → Marked x → Marked (within k l x)
   unfolding within

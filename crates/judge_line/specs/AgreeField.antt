@@ -1,5 +1,5 @@
 -- Each field of a line is judged as its rule says: `..-got` from what is found to the rule, `..-is` back.
-use Rattle.std.specs.Prelude.{ℕ, suc, ◌≡◌, refl, List, [], ◌∷◌, Bool, true, false, cond, eqb, length, ℤ, pos, negsuc}
+use Rattle.std.specs.Prelude.{Result, Ok, Err, Option, Some, None, ℕ, suc, ◌≡◌, refl, List, [], ◌∷◌, Bool, true, false, cond, eqb, length, ℤ, pos, negsuc}
 use Prim.Native.String.{String}
 use Rattle.std.proofs.Common.{arith, ◌∙◌}
 use Rattle.std.proofs.Math.Path.{ap, subst}
@@ -9,23 +9,19 @@ use Rattle.text.specs.Text.{Line, bytes, byte}
 use Rattle.text.specs.Columns.{column, columns, Space, SpacesFrom, Has, Within}
 use Rattle.text.specs.Find.{bad_column, ink_column}
 use Rattle.text.specs.Agree.{bad_none, ink_none, same_bytes_lem}
-use Rattle.text.specs.declared.Found.{Found}
 use Rattle.field_numbers.specs.Number.{Number, Signed, OneOf, Listed, SignedListed}
 use Rattle.field_numbers.specs.Read.{number_in, signed_in, is_between}
 use Rattle.field_numbers.specs.Agree.{number_agrees, signed_agrees, is_between_lem}
-use Rattle.field_numbers.specs.declared.NumberRead.{NumberRead}
-use Rattle.field_numbers.specs.declared.SignedRead.{SignedRead}
 use Rattle.field_coordinates.specs.Coordinate.{Coordinate}
 use Rattle.field_coordinates.specs.Read.{coordinate_in}
 use Rattle.field_coordinates.proofs.Agree.{coordinate_agrees}
-use Rattle.field_coordinates.specs.declared.CoordinateRead.{CoordinateRead}
 use Rattle.field_symbols.specs.Symbol.{Symbol}
 use Rattle.field_symbols.specs.Read.{symbol_in}
 use Rattle.field_symbols.specs.Agree.{symbol_agrees}
-use Rattle.field_symbols.specs.declared.SymbolRead.{SymbolRead}
 use Rattle.judge_line.specs.Got.{Got, got, then, need}
 use Rattle.judge_line.specs.GotLaws.{got_inj, bad_got, then_got, then_is, need_got, need_is, cond_by}
 use Rattle.judge_line.specs.Field.{number_got, number_at, signed_got, signed_at, elem, listed_at, same_integer, elem_signed, signed_listed_at, coordinate_got, coordinate_at, symbol_got, symbol_at, space_at, none_found, spaces_from, has, within}
+use Rattle.field_numbers.specs.declared.NumberFault.{NumberFault}
 
 -- a field is judged, and then the rest: with its value, the rule for it, and what the rest finds
 pub on : {A B X : Type 0} {P : A → Type 0} (x : Got A) (f : A → Got B) (v : B) →
@@ -38,10 +34,10 @@ after b e c x v h rest = let t = need_got b e c x v h in rest t.0 t.1
 
 -- ---- numbers
 
-number_read : (i k : ℕ) (r : NumberRead) → number_got i r ≡ got k → r ≡ NumberRead.Is k
-number_read i k (NumberRead.Is j) h = ap NumberRead.Is (got_inj h)
-number_read i k NumberRead.Malformed h = bad_got h
-number_read i k NumberRead.Outside h = bad_got h
+number_read : (i k : ℕ) (r : Result ℕ NumberFault) → number_got i r ≡ got k → r ≡ Ok k
+number_read i k (Ok j) h = ap Ok (got_inj h)
+number_read i k (Err NumberFault.Malformed) h = bad_got h
+number_read i k (Err NumberFault.Outside) h = bad_got h
 
 pub number_got_lem : (l : Line) (i j least most k : ℕ) → number_at l i j least most ≡ got k → Number l i j least most k
 unfolding number_at
@@ -51,10 +47,10 @@ pub number_is : {l : Line} {i j least most k : ℕ} → Number l i j least most 
 unfolding number_at
 number_is {l} {i} {j} {least} {most} {k} n = ap (number_got i) ((number_agrees l i j least most k).1 n)
 
-signed_read : (i : ℕ) (z : ℤ) (r : SignedRead) → signed_got i r ≡ got z → r ≡ SignedRead.Is z
-signed_read i z (SignedRead.Is y) h = ap SignedRead.Is (got_inj h)
-signed_read i z SignedRead.Malformed h = bad_got h
-signed_read i z SignedRead.Outside h = bad_got h
+signed_read : (i : ℕ) (z : ℤ) (r : Result ℤ NumberFault) → signed_got i r ≡ got z → r ≡ Ok z
+signed_read i z (Ok y) h = ap Ok (got_inj h)
+signed_read i z (Err NumberFault.Malformed) h = bad_got h
+signed_read i z (Err NumberFault.Outside) h = bad_got h
 
 pub signed_got_lem : (l : Line) (i j below above : ℕ) (z : ℤ) → signed_at l i j below above ≡ got z → Signed l i j below above z
 unfolding signed_at
@@ -152,9 +148,9 @@ module _ (l : Line) (i j below above : ℕ) (list : List ℤ) (z : ℤ) where
 
 -- ---- coordinates and symbols
 
-coordinate_found : (i : ℕ) (z : ℤ) (r : CoordinateRead) → coordinate_got i r ≡ got z → r ≡ CoordinateRead.Is z
-coordinate_found i z (CoordinateRead.Is y) h = ap CoordinateRead.Is (got_inj h)
-coordinate_found i z CoordinateRead.Malformed h = bad_got h
+coordinate_found : (i : ℕ) (z : ℤ) (r : Option ℤ) → coordinate_got i r ≡ got z → r ≡ Some z
+coordinate_found i z (Some y) h = ap Some (got_inj h)
+coordinate_found i z None h = bad_got h
 
 module _ (l : Line) (i j : ℕ) (ten : length (columns l i j) ≡ 10) (z : ℤ) where
   pub coordinate_got_lem : coordinate_at l i j ≡ got z → Coordinate (columns l i j) z
@@ -165,9 +161,9 @@ module _ (l : Line) (i j : ℕ) (ten : length (columns l i j) ≡ 10) (z : ℤ) 
   unfolding coordinate_at
   coordinate_is n = ap (coordinate_got i) ((coordinate_agrees (columns l i j) ten z).1 n)
 
-symbol_found : (i k : ℕ) (r : SymbolRead) → symbol_got i r ≡ got k → r ≡ SymbolRead.Is k
-symbol_found i k (SymbolRead.Is j) h = ap SymbolRead.Is (got_inj h)
-symbol_found i k SymbolRead.Unknown h = bad_got h
+symbol_found : (i k : ℕ) (r : Option ℕ) → symbol_got i r ≡ got k → r ≡ Some k
+symbol_found i k (Some j) h = ap Some (got_inj h)
+symbol_found i k None h = bad_got h
 
 module _ (l : Line) (i j k : ℕ) where
   pub symbol_got_lem : symbol_at l i j ≡ got k → Symbol (columns l i j) k
@@ -189,11 +185,11 @@ module _ {A : Type 0} (l : Line) (i : ℕ) (x : Got A) where
   unfolding space_at
   space_is s = need_is (eqb (column l i) (byte " ")) 15 i x (eq-eqb (column l i) (byte " ") s)
 
-none_got : {A : Type 0} (e : ℕ) (f : Found) (x : Got A) (v : A) → none_found e f x ≡ got v → (f ≡ Found.Nothing) × (x ≡ got v)
-none_got e (Found.At i) x v h = bad_got h
-none_got e Found.Nothing x v h = (refl, h)
+none_got : {A : Type 0} (e : ℕ) (f : Option ℕ) (x : Got A) (v : A) → none_found e f x ≡ got v → (f ≡ None) × (x ≡ got v)
+none_got e (Some i) x v h = bad_got h
+none_got e None x v h = (refl, h)
 
-none_is : {A : Type 0} (e : ℕ) (f : Found) (x : Got A) → f ≡ Found.Nothing → none_found e f x ≡ x
+none_is : {A : Type 0} (e : ℕ) (f : Option ℕ) (x : Got A) → f ≡ None → none_found e f x ≡ x
 none_is e f x h = rw h
 
 module _ {A : Type 0} (l : Line) (i : ℕ) (x : Got A) where

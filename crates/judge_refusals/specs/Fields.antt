@@ -4,7 +4,7 @@ use Prim.Native.String.{String}
 use Rattle.std.proofs.Math.Nat.{add-zero, suc-add}
 use Rattle.std.proofs.Common.{add-suc, sym, ap, ◌∙◌, subst, inl, inr, get_or-drop}
 use native.Mathlib.Omega.{arith}
-use Rattle.std.specs.Prelude.{◌≡◌, Bool, cond, ◌&&◌, eqb, leb, length, get_or, drop, ℤ, pos, negsuc}
+use Rattle.std.specs.Prelude.{Result, Ok, Err, Option, Some as Found, None, ◌≡◌, Bool, cond, ◌&&◌, eqb, leb, length, get_or, drop, ℤ, pos, negsuc}
 use Rattle.std.proofs.Math.Path.{refl}
 use mathlib.Core.List.{List, [], ◌∷◌, ◌++◌}
 use Rattle.std.proofs.Math.Bool.{true, false}
@@ -14,19 +14,14 @@ use Rattle.text.specs.Text.{Bytes, Line, byte}
 use Rattle.text.specs.Columns.{column, columns, Space, Has}
 use Rattle.text.specs.Find.{first_from, is_ink, ink_column}
 use Rattle.text.specs.Agree.{no_ink, space_no_ink}
-use Rattle.text.specs.declared.Found.{Found}
 use Rattle.text.specs.Laws.{never_both}
 use Rattle.field_numbers.specs.Number.{Integer, Number, Signed, Listed, SignedListed}
 use Rattle.field_numbers.specs.Read.{IntegerRead, is, malformed, integer_in, ranged, number_in, is_between, signed_ranged, signed_in}
 use Rattle.field_numbers.specs.Agree.{integer_read, read_integer}
-use Rattle.field_numbers.specs.declared.NumberRead.{NumberRead}
-use Rattle.field_numbers.specs.declared.SignedRead.{SignedRead}
 use Rattle.field_coordinates.specs.Coordinate.{Coordinate}
 use Rattle.field_coordinates.specs.Read.{coordinate_in}
-use Rattle.field_coordinates.specs.declared.CoordinateRead.{CoordinateRead}
 use Rattle.field_symbols.specs.Symbol.{Symbol}
 use Rattle.field_symbols.specs.Read.{symbol_in}
-use Rattle.field_symbols.specs.declared.SymbolRead.{SymbolRead}
 use Rattle.judge_line.specs.Got.{Got, got, bad, then, need}
 use Rattle.judge_line.specs.GotLaws.{bad_got}
 use Rattle.judge_line.specs.Field.{number_got, number_at, signed_got, signed_at, elem, listed_at, elem_signed, signed_listed_at, coordinate_got, coordinate_at, symbol_got, symbol_at, space_at, none_found, has}
@@ -35,6 +30,7 @@ use Rattle.judge_line.specs.AgreeField.{all_pass, number_got_lem, number_is, sig
 use Rattle.judge_refusals.specs.Demand.{Demand, ◌else◌at_column◌, ◌and_then◌, All, Some}
 use Rattle.judge_refusals.specs.Refusals.{each_for, number, signed, signed_listed, coordinate, symbol, space, spaces_from_lem}
 use Rattle.judge_refusals.specs.Tells.{Tells, value, refusal, past, need_tells, no_more}
+use Rattle.field_numbers.specs.declared.NumberFault.{NumberFault}
 
 -- where something else was found, there is no such value
 none_such : {A : Type 0} (P : A → Type 0) {x : Got A} {e c : ℕ} → x ≡ bad e c → ((a : A) → P a → x ≡ got a) → ¬ Some P
@@ -42,24 +38,24 @@ none_such P h f s = bad_got (sym h ∙ f s.0 s.1)
 
 -- ---- numbers: an integer, and then one of its range
 
-in_range : (least most : ℕ) (z : ℤ) → ¬ (ranged least most (is z) ≡ NumberRead.Malformed)
+in_range : (least most : ℕ) (z : ℤ) → ¬ (ranged least most (is z) ≡ Err NumberFault.Malformed)
 unfolding ranged
 in_range least most (pos k) h = go (leb least k && leb k most) h
   where
-    go : (t : Bool) → cond t (NumberRead.Is k) NumberRead.Outside ≡ NumberRead.Malformed → ⊥
+    go : (t : Bool) → cond t (Ok k) (Err NumberFault.Outside) ≡ Err NumberFault.Malformed → ⊥
     go true h = let z : ◌≡◌ {A = ℕ} 0 1 = cc in omega arith
     go false h = let z : ◌≡◌ {A = ℕ} 0 1 = cc in omega arith
 in_range least most (negsuc k) h = let z : ◌≡◌ {A = ℕ} 0 1 = cc in omega arith
 
-number_malformed : (least most : ℕ) (cs : Bytes) → number_in least most cs ≡ NumberRead.Malformed → ¬ Some (Integer false cs)
+number_malformed : (least most : ℕ) (cs : Bytes) → number_in least most cs ≡ Err NumberFault.Malformed → ¬ Some (Integer false cs)
 unfolding number_in
 number_malformed least most cs h n = in_range least most n.0 (rw (integer_read false n.1) at h)
 
-number_outside : (least most : ℕ) (cs : Bytes) → number_in least most cs ≡ NumberRead.Outside → Some (Integer false cs)
+number_outside : (least most : ℕ) (cs : Bytes) → number_in least most cs ≡ Err NumberFault.Outside → Some (Integer false cs)
 unfolding number_in ranged
 number_outside least most cs h = go (integer_in false cs) refl h
   where
-    go : (r : IntegerRead) → integer_in false cs ≡ r → ranged least most r ≡ NumberRead.Outside → Some (Integer false cs)
+    go : (r : IntegerRead) → integer_in false cs ≡ r → ranged least most r ≡ Err NumberFault.Outside → Some (Integer false cs)
     go (is z) e h = (z, read_integer false cs z e)
     go malformed e h = absurd (let z : ◌≡◌ {A = ℕ} 0 1 = cc in omega arith)
 
@@ -67,33 +63,33 @@ pub number_tells : (l : Line) (i j least most : ℕ) → Tells (number l i j lea
 unfolding number_at
 number_tells l i j least most = go (number_in least most (columns l i j)) refl
   where
-    go : (r : NumberRead) → number_in least most (columns l i j) ≡ r → Tells (number l i j least most) (number_got i r)
-    go (NumberRead.Is k) e =
+    go : (r : Result ℕ NumberFault) → number_in least most (columns l i j) ≡ r → Tells (number l i j least most) (number_got i r)
+    go (Ok k) e =
         let n = number_got_lem l i j least most k (ap (number_got i) e) in
         value ((pos k, n.field), ((k, n), tt))
-    go NumberRead.Malformed e = refusal (inl (number_malformed least most (columns l i j) e, refl, refl))
-    go NumberRead.Outside e =
+    go (Err NumberFault.Malformed) e = refusal (inl (number_malformed least most (columns l i j) e, refl, refl))
+    go (Err NumberFault.Outside) e =
         refusal (inr (number_outside least most (columns l i j) e, inl (none_such (Number l i j least most) (ap (number_got i) e) (λ k n. number_is n), refl, refl)))
 
 -- ---- numbers of a range with negatives
 
-in_signed_range : (below above : ℕ) (z : ℤ) → ¬ (signed_ranged below above (is z) ≡ SignedRead.Malformed)
+in_signed_range : (below above : ℕ) (z : ℤ) → ¬ (signed_ranged below above (is z) ≡ Err NumberFault.Malformed)
 unfolding signed_ranged
 in_signed_range below above z h = go (is_between below above z) h
   where
-    go : (t : Bool) → cond t (SignedRead.Is z) SignedRead.Outside ≡ SignedRead.Malformed → ⊥
+    go : (t : Bool) → cond t (Ok z) (Err NumberFault.Outside) ≡ Err NumberFault.Malformed → ⊥
     go true h = let z : ◌≡◌ {A = ℕ} 0 1 = cc in omega arith
     go false h = let z : ◌≡◌ {A = ℕ} 0 1 = cc in omega arith
 
-signed_malformed : (below above : ℕ) (cs : Bytes) → signed_in below above cs ≡ SignedRead.Malformed → ¬ Some (Integer true cs)
+signed_malformed : (below above : ℕ) (cs : Bytes) → signed_in below above cs ≡ Err NumberFault.Malformed → ¬ Some (Integer true cs)
 unfolding signed_in
 signed_malformed below above cs h n = in_signed_range below above n.0 (rw (integer_read true n.1) at h)
 
-signed_outside : (below above : ℕ) (cs : Bytes) → signed_in below above cs ≡ SignedRead.Outside → Some (Integer true cs)
+signed_outside : (below above : ℕ) (cs : Bytes) → signed_in below above cs ≡ Err NumberFault.Outside → Some (Integer true cs)
 unfolding signed_in signed_ranged
 signed_outside below above cs h = go (integer_in true cs) refl h
   where
-    go : (r : IntegerRead) → integer_in true cs ≡ r → signed_ranged below above r ≡ SignedRead.Outside → Some (Integer true cs)
+    go : (r : IntegerRead) → integer_in true cs ≡ r → signed_ranged below above r ≡ Err NumberFault.Outside → Some (Integer true cs)
     go (is z) e h = (z, read_integer true cs z e)
     go malformed e h = absurd (let z : ◌≡◌ {A = ℕ} 0 1 = cc in omega arith)
 
@@ -101,12 +97,12 @@ pub signed_tells : (l : Line) (i j below above : ℕ) → Tells (signed l i j be
 unfolding signed_at
 signed_tells l i j below above = go (signed_in below above (columns l i j)) refl
   where
-    go : (r : SignedRead) → signed_in below above (columns l i j) ≡ r → Tells (signed l i j below above) (signed_got i r)
-    go (SignedRead.Is z) e =
+    go : (r : Result ℤ NumberFault) → signed_in below above (columns l i j) ≡ r → Tells (signed l i j below above) (signed_got i r)
+    go (Ok z) e =
         let n = signed_got_lem l i j below above z (ap (signed_got i) e) in
         value ((z, n.field), ((z, n), tt))
-    go SignedRead.Malformed e = refusal (inl (signed_malformed below above (columns l i j) e, refl, refl))
-    go SignedRead.Outside e =
+    go (Err NumberFault.Malformed) e = refusal (inl (signed_malformed below above (columns l i j) e, refl, refl))
+    go (Err NumberFault.Outside) e =
         refusal (inr (signed_outside below above (columns l i j) e, inl (none_such (Signed l i j below above) (ap (signed_got i) e) (λ z n. signed_is n), refl, refl)))
 
 -- ---- numbers of a list
@@ -124,8 +120,8 @@ module _ (l : Line) (i j most : ℕ) (list : List ℕ) (small : all_pass (λ m. 
       demands : List Demand
       demands = Some (Integer false (columns l i j)) else 7 at_column i ∷ G else 8 at_column i ∷ []
 
-      go : (r : NumberRead) → number_in 0 most (columns l i j) ≡ r → Tells demands (then (number_got i r) (λ k. need (elem k list) 8 i (got k)))
-      go (NumberRead.Is k) e = found (elem k list) refl
+      go : (r : Result ℕ NumberFault) → number_in 0 most (columns l i j) ≡ r → Tells demands (then (number_got i r) (λ k. need (elem k list) 8 i (got k)))
+      go (Ok k) e = found (elem k list) refl
         where
           field : Some (Integer false (columns l i j))
           field = let n = number_got_lem l i j 0 most k (ap (number_got i) e) in (pos k, n.field)
@@ -133,8 +129,8 @@ module _ (l : Line) (i j most : ℕ) (list : List ℕ) (small : all_pass (λ m. 
           found : (t : Bool) → elem k list ≡ t → Tells demands (need t 8 i (got k))
           found true h = value (field, (to (k, listed_got l i j most list k (rw (e, h))), tt))
           found false h = refusal (inr (field, inl (none_listed {e = 8} {c = i} (rw (e, h)), refl, refl)))
-      go NumberRead.Malformed e = refusal (inl (number_malformed 0 most (columns l i j) e, refl, refl))
-      go NumberRead.Outside e = refusal (inr (number_outside 0 most (columns l i j) e, inl (none_listed {e = 8} {c = i} (rw e), refl, refl)))
+      go (Err NumberFault.Malformed) e = refusal (inl (number_malformed 0 most (columns l i j) e, refl, refl))
+      go (Err NumberFault.Outside) e = refusal (inr (number_outside 0 most (columns l i j) e, inl (none_listed {e = 8} {c = i} (rw e), refl, refl)))
 
 module _ (l : Line) (i j below above : ℕ) (list : List ℤ) (small : all_pass (is_between below above) list ≡ true) where
   none_signed : {e c : ℕ} → signed_listed_at l i j below above list ≡ bad e c → ¬ Some (SignedListed l i j list)
@@ -144,9 +140,9 @@ module _ (l : Line) (i j below above : ℕ) (list : List ℤ) (small : all_pass 
   unfolding signed_listed_at signed_at then need
   signed_listed_tells = go (signed_in below above (columns l i j)) refl
     where
-      go : (r : SignedRead) → signed_in below above (columns l i j) ≡ r →
+      go : (r : Result ℤ NumberFault) → signed_in below above (columns l i j) ≡ r →
           Tells (signed_listed l i j list) (then (signed_got i r) (λ z. need (elem_signed z list) 8 i (got z)))
-      go (SignedRead.Is z) e = found (elem_signed z list) refl
+      go (Ok z) e = found (elem_signed z list) refl
         where
           field : Some (Integer true (columns l i j))
           field = let n = signed_got_lem l i j below above z (ap (signed_got i) e) in (z, n.field)
@@ -154,8 +150,8 @@ module _ (l : Line) (i j below above : ℕ) (list : List ℤ) (small : all_pass 
           found : (t : Bool) → elem_signed z list ≡ t → Tells (signed_listed l i j list) (need t 8 i (got z))
           found true h = value (field, ((z, signed_listed_got l i j below above list z (rw (e, h))), tt))
           found false h = refusal (inr (field, inl (none_signed {e = 8} {c = i} (rw (e, h)), refl, refl)))
-      go SignedRead.Malformed e = refusal (inl (signed_malformed below above (columns l i j) e, refl, refl))
-      go SignedRead.Outside e = refusal (inr (signed_outside below above (columns l i j) e, inl (none_signed {e = 8} {c = i} (rw e), refl, refl)))
+      go (Err NumberFault.Malformed) e = refusal (inl (signed_malformed below above (columns l i j) e, refl, refl))
+      go (Err NumberFault.Outside) e = refusal (inr (signed_outside below above (columns l i j) e, inl (none_signed {e = 8} {c = i} (rw e), refl, refl)))
 
 -- ---- coordinates and symbols
 
@@ -163,18 +159,18 @@ pub coordinate_tells : (l : Line) (i j : ℕ) → length (columns l i j) ≡ 10 
 unfolding coordinate_at
 coordinate_tells l i j ten = go (coordinate_in (columns l i j)) refl
   where
-    go : (r : CoordinateRead) → coordinate_in (columns l i j) ≡ r → Tells (coordinate l i j) (coordinate_got i r)
-    go (CoordinateRead.Is z) e = value ((z, coordinate_got_lem l i j ten z (ap (coordinate_got i) e)), tt)
-    go CoordinateRead.Malformed e =
+    go : (r : Option ℤ) → coordinate_in (columns l i j) ≡ r → Tells (coordinate l i j) (coordinate_got i r)
+    go (Found z) e = value ((z, coordinate_got_lem l i j ten z (ap (coordinate_got i) e)), tt)
+    go None e =
         refusal (inl (none_such (Coordinate (columns l i j)) (ap (coordinate_got i) e) (λ z. coordinate_is l i j ten z), refl, refl))
 
 pub symbol_tells : (l : Line) (i j : ℕ) → Tells (symbol l i j) (symbol_at l i j)
 unfolding symbol_at
 symbol_tells l i j = go (symbol_in (columns l i j)) refl
   where
-    go : (r : SymbolRead) → symbol_in (columns l i j) ≡ r → Tells (symbol l i j) (symbol_got i r)
-    go (SymbolRead.Is k) e = value ((k, symbol_got_lem l i j k (ap (symbol_got i) e)), tt)
-    go SymbolRead.Unknown e = refusal (inl (none_such (Symbol (columns l i j)) (ap (symbol_got i) e) (λ k. symbol_is l i j k), refl, refl))
+    go : (r : Option ℕ) → symbol_in (columns l i j) ≡ r → Tells (symbol l i j) (symbol_got i r)
+    go (Found k) e = value ((k, symbol_got_lem l i j k (ap (symbol_got i) e)), tt)
+    go None e = refusal (inl (none_such (Symbol (columns l i j)) (ap (symbol_got i) e) (λ k. symbol_is l i j k), refl, refl))
 
 -- ---- spaces and texts
 
@@ -196,13 +192,13 @@ module _ (p : ℕ → Bool) (P : ℕ → Type 0) (good : (b : ℕ) → p b ≡ f
       (subst P (sym here) blank, past_end (suc i) w (λ k. let q = h (suc k) in rw (add-suc i k, ← suc-add i k) at q))
 
   -- the first byte
-  one_tells : {A : Type 0} {es : List Demand} (x : Got A) (b i : ℕ) (u : Bool) (f : Found) → p b ≡ u → column l i ≡ b →
-      (u ≡ false → Tells es (none_found e f x)) → Tells (P (column l i) else e at_column i ∷ es) (none_found e (cond u (Found.At i) f) x)
+  one_tells : {A : Type 0} {es : List Demand} (x : Got A) (b i : ℕ) (u : Bool) (f : Option ℕ) → p b ≡ u → column l i ≡ b →
+      (u ≡ false → Tells es (none_found e f x)) → Tells (P (column l i) else e at_column i ∷ es) (none_found e (cond u (Found i) f) x)
   one_tells x b i true f h here t = refusal (inl ((λ q. never_both (p b) h (ill b (subst P here q))), refl, refl))
   one_tells x b i false f h here t = past (P (column l i) else e at_column i ∷ []) (subst P (sym here) (good b h), tt) (t refl)
 
   pub first_tells : {A : Type 0} {ds : List Demand} {x : Got A} (xs : Bytes) (i w : ℕ) → length xs ≤ w → ((k : ℕ) → column l (i + k) ≡ get_or xs k (byte " ")) →
-      (first_from p i xs ≡ Found.Nothing → Tells ds x) → Tells (each_for P e l i w ++ ds) (none_found e (first_from p i xs) x)
+      (first_from p i xs ≡ None → Tells ds x) → Tells (each_for P e l i w ++ ds) (none_found e (first_from p i xs) x)
   unfolding first_from
   first_tells [] i w s h t = past (each_for P e l i w) (past_end i w h) (t refl)
   first_tells (b ∷ xs) i zero s h t = absurd (omega arith)

@@ -1,29 +1,23 @@
 -- What the code says of an atom line, as the judge says it.
-use Rattle.std.specs.Prelude.{ℕ}
+use Rattle.std.specs.Prelude.{Result, Ok, Err, ℕ}
 use Rattle.text.specs.Text.{Line}
 use Rattle.rules.specs.Forms as R
-use Rattle.judge_line.specs.Got.{Got, got, bad, then}
+use Rattle.judge_line.specs.Got.{got_by, Got, got, bad, then}
 use Rattle.judge_line.specs.Field.{number_at, signed_at, coordinate_at, symbol_at, space_at, spaces_from}
 use Rattle.line_usual_position.specs.declared.Position.{Position}
-use Rattle.line_atom.specs.declared.PositionRead.{PositionRead}
+use Rattle.judge_line.specs.declared.Refusal.{Refusal}
 use Rattle.line_atom.specs.declared.AtomPlace.{AtomPlace}
-use Rattle.line_atom.specs.declared.PlaceRead.{PlaceRead}
 use Rattle.line_atom.specs.declared.AtomCodes.{AtomCodes}
-use Rattle.line_atom.specs.declared.CodesRead.{CodesRead}
 use Rattle.line_atom.specs.declared.Atom.{Atom}
-use Rattle.line_atom.specs.declared.AtomRead.{AtomRead}
 
-abbrev pub position_got : PositionRead → Got Position
-position_got (PositionRead.Is p) = got p
-position_got (PositionRead.Bad e column) = bad e column
+abbrev pub position_got : Result Position Refusal → Got Position
+position_got x = got_by (λ p. p) x
 
-abbrev pub place_got : PlaceRead → Got AtomPlace
-place_got (PlaceRead.Is p) = got p
-place_got (PlaceRead.Bad e column) = bad e column
+abbrev pub place_got : Result AtomPlace Refusal → Got AtomPlace
+place_got x = got_by (λ p. p) x
 
-abbrev pub codes_got : CodesRead → Got AtomCodes
-codes_got (CodesRead.Is c) = got c
-codes_got (CodesRead.Bad e column) = bad e column
+abbrev pub codes_got : Result AtomCodes Refusal → Got AtomCodes
+codes_got x = got_by (λ c. c) x
 
 -- columns 1 to 30
 unfoldable pub position_of : Line → Got Position
@@ -78,9 +72,8 @@ atom_is a =
       exact_change = a.exact_change;
     }
 
-abbrev pub atom_got : AtomRead → Got R.Atom
-atom_got (AtomRead.Is a) = got (atom_is a)
-atom_got (AtomRead.Bad e column) = bad e column
+abbrev pub atom_got : Result Atom Refusal → Got R.Atom
+atom_got x = got_by atom_is x
 
 -- from column 67 on
 unfoldable pub exact_of : Line → Got ℕ

@@ -1,12 +1,11 @@
 -- Atom lines that end in the usual zeros: what their fields hold.
-use Rattle.std.specs.Prelude.{ℕ, ◌≤◌, ◌≡◌, Bool, true, pos, length, drop}
+use Rattle.std.specs.Prelude.{Result, Ok, None, ℕ, ◌≤◌, ◌≡◌, Bool, true, pos, length, drop}
 use Rattle.std.proofs.Common.{sym, ap, ◌∙◌}
 use Rattle.std.proofs.Math.ListN.{take}
 use Rattle.text.specs.Text.{Line, bytes}
 use Rattle.text.specs.Columns.{columns_for}
 use Rattle.text.specs.Find.{is_ink, ink_column, has_text}
 use Rattle.text.specs.First.{first_none}
-use Rattle.text.specs.declared.Found.{Found}
 use Rattle.text.specs.Agree.{has_text_is}
 use Rattle.judge_line.specs.Got.{got, then}
 use Rattle.judge_line.specs.Field.{spaces_from}
@@ -15,7 +14,7 @@ use Rattle.line_fields.specs.Zeros.{zero_number, zero_narrow}
 use Rattle.line_atom.specs.Answer.{place_got, place_of, codes_of, exact_of, atom_from, atom_is}
 use Rattle.line_atom.specs.AtomParts.{atom_parts}
 use Rattle.line_atom.specs.declared.AtomPlace.{AtomPlace}
-use Rattle.line_atom.specs.declared.PlaceRead.{PlaceRead}
+use Rattle.judge_line.specs.declared.Refusal.{Refusal}
 use Rattle.line_atom.specs.declared.AtomCodes.{AtomCodes}
 use Rattle.line_atom.specs.declared.Atom.{Atom}
 
@@ -43,7 +42,7 @@ module _ (l : Line) (z : AtomZeros l) where
   cols : columns_for l 35 35 ≡ bytes " 0  0  0  0  0  0  0  0  0  0  0  0"
   cols = (has_text_is l 35 (bytes " 0  0  0  0  0  0  0  0  0  0  0  0")).0 z.zeros
 
-  atom_over : ink_column l 70 ≡ Found.Nothing
+  atom_over : ink_column l 70 ≡ None
   unfolding ink_column
   atom_over = first_none is_ink l 69 70 z.ends
 
@@ -72,7 +71,7 @@ module _ (l : Line) (z : AtomZeros l) where
       )
 
 -- the test and the atom as the code has them
-pub atom_plain : (n : ℕ) (l : Line) (x : PlaceRead) (p : AtomPlace) (t : Bool) (a : Atom) → place_got x ≡ place_of l → x ≡ PlaceRead.Is p →
+pub atom_plain : (n : ℕ) (l : Line) (x : Result AtomPlace Refusal) (p : AtomPlace) (t : Bool) (a : Atom) → place_got x ≡ place_of l → x ≡ Ok p →
     (t ≡ true → AtomZeros l) → t ≡ true → a ≡ plain_atom p → got (atom_is a) ≡ atom_of n l
 unfolding then
 atom_plain n l x p t a q h f e s =

@@ -1,22 +1,20 @@
 -- What the code says of counts and bond lines, as the judge says it.
-use Rattle.std.specs.Prelude.{ℕ, List, [], ◌∷◌, not, eqb}
+use Rattle.std.specs.Prelude.{Result, Ok, Err, ℕ, List, [], ◌∷◌, not, eqb}
 use Rattle.text.specs.Text.{Line}
 use Rattle.rules.specs.Forms as R
-use Rattle.judge_line.specs.Got.{Got, got, bad, then, need}
+use Rattle.judge_line.specs.Got.{got_by, Got, got, bad, then, need}
 use Rattle.judge_line.specs.Field.{number_at, signed_listed_at, spaces_from, has}
 use Rattle.line_counts_bonds.specs.declared.Counts.{Counts}
-use Rattle.line_counts_bonds.specs.declared.CountsRead.{CountsRead}
+use Rattle.judge_line.specs.declared.Refusal.{Refusal}
 use Rattle.line_counts_bonds.specs.declared.Bond.{Bond}
-use Rattle.line_counts_bonds.specs.declared.BondRead.{BondRead}
 
 -- ---- the counts line
 
 abbrev pub counts_is : Counts → R.Counts
 counts_is c = record { atoms = c.atoms; bonds = c.bonds; chiral = c.chiral }
 
-abbrev pub counts_got : CountsRead → Got R.Counts
-counts_got (CountsRead.Is c) = got (counts_is c)
-counts_got (CountsRead.Bad e column) = bad e column
+abbrev pub counts_got : Result Counts Refusal → Got R.Counts
+counts_got x = got_by counts_is x
 
 -- from column 7 on
 unfoldable pub after_counts : ℕ → ℕ → Line → Got R.Counts
@@ -45,9 +43,8 @@ bond_is b =
 abbrev pub next_centres : List ℕ
 next_centres = 0 ∷ 1 ∷ 2 ∷ 3 ∷ 5 ∷ 6 ∷ 9 ∷ 10 ∷ 13 ∷ 14 ∷ []
 
-abbrev pub bond_got : BondRead → Got R.Bond
-bond_got (BondRead.Is b) = got (bond_is b)
-bond_got (BondRead.Bad e column) = bad e column
+abbrev pub bond_got : Result Bond Refusal → Got R.Bond
+bond_got x = got_by bond_is x
 
 -- from column 13 on
 unfoldable pub bond_from : ℕ → ℕ → ℕ → ℕ → Line → Got R.Bond

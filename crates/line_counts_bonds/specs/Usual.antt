@@ -1,5 +1,5 @@
 -- Bond lines that end in the usual zeros: what their fields hold.
-use Rattle.std.specs.Prelude.{ℕ, ◌≤◌, ◌≡◌, Bool, true, not, eqb, pos, length, drop}
+use Rattle.std.specs.Prelude.{Result, Ok, None, ℕ, ◌≤◌, ◌≡◌, Bool, true, not, eqb, pos, length, drop}
 use Rattle.std.proofs.Math.Path.{refl, sym}
 use Rattle.std.proofs.Common.{ap, ◌∙◌}
 use Rattle.std.proofs.Math.ListN.{take}
@@ -7,7 +7,6 @@ use Rattle.text.specs.Text.{Line, bytes}
 use Rattle.text.specs.Columns.{columns_for}
 use Rattle.text.specs.Find.{is_ink, ink_column, has_text}
 use Rattle.text.specs.First.{first_none}
-use Rattle.text.specs.declared.Found.{Found}
 use Rattle.text.specs.Agree.{has_text_is}
 use Rattle.rules.specs.Forms as R
 use Rattle.judge_line.specs.Got.{Got, got, then, need}
@@ -15,7 +14,7 @@ use Rattle.judge_line.specs.Field.{number_at, listed_at, elem_signed, signed_lis
 use Rattle.judge_line.specs.Judge.{bond_of}
 use Rattle.line_fields.specs.Answer.{field_got}
 use Rattle.line_fields.specs.Zeros.{zero_number, zero_signed}
-use Rattle.line_fields.specs.declared.Field.{Field}
+use Rattle.judge_line.specs.declared.Refusal.{Refusal}
 use Rattle.line_counts_bonds.specs.Answer.{bond_from}
 use Rattle.line_counts_bonds.specs.Lists.{no_stereo}
 
@@ -33,7 +32,7 @@ module _ (l : Line) (z : BondZeros l) where
   tail : columns_for l 10 12 ≡ bytes "  0  0  0  0"
   tail = (has_text_is l 10 (bytes "  0  0  0  0")).0 z.zeros
 
-  bond_over : ink_column l 22 ≡ Found.Nothing
+  bond_over : ink_column l 22 ≡ None
   unfolding ink_column
   bond_over = first_none is_ink l 21 22 z.ends
 
@@ -52,8 +51,8 @@ module _ (l : Line) (z : BondZeros l) where
       ))
 
 -- the three fields before, the test and the bond as the code has them
-pub bond_plain : (n : ℕ) (l : Line) (x y w : Field) (first second type : ℕ) (t : Bool) (g : Got R.Bond) → field_got x ≡ number_at l 1 3 1 n → x ≡ Field.Is first →
-    field_got y ≡ number_at l 4 6 1 n → y ≡ Field.Is second → field_got w ≡ number_at l 7 9 1 8 → w ≡ Field.Is type →
+pub bond_plain : (n : ℕ) (l : Line) (x y w : Result ℕ Refusal) (first second type : ℕ) (t : Bool) (g : Got R.Bond) → field_got x ≡ number_at l 1 3 1 n → x ≡ Ok first →
+    field_got y ≡ number_at l 4 6 1 n → y ≡ Ok second → field_got w ≡ number_at l 7 9 1 8 → w ≡ Ok type →
     (t ≡ true → BondZeros l) → t ≡ true → g ≡ plain_bond first second type → g ≡ bond_of n l
 unfolding bond_of bond_from then
 bond_plain n l x y w first second type t g a b c d e h f k s = s ∙ bond_tail l (f k) first second type ∙ sym (rw (← a, b, ← c, d, ← e, h))

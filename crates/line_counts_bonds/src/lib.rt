@@ -10,8 +10,7 @@ ghost use Rattle.line_fields.specs.Answer.{field_got, signed_field_got};
 ghost use Rattle.line_counts_bonds.specs.Answer.{counts_got, bond_got, after_counts, bond_from, next_centres};
 ghost use Rattle.line_counts_bonds.specs.Usual.{BondZeros, plain_bond};
 
-use line_fields::{Field, SignedField};
-use text::Found;
+use judge_line::Refusal;
 
 // The most atoms, and the most bonds, of a record.
 pub const LIMIT: u32 = rules::LIMIT as u32;
@@ -24,12 +23,6 @@ pub struct Counts {
 }
 
 #[derive(Drop)]
-pub enum CountsRead {
-    Is(Counts),
-    Bad { no: u8, column: usize },
-}
-
-#[derive(Drop)]
 pub struct Bond {
     pub first: u32,
     pub second: u32,
@@ -39,69 +32,38 @@ pub struct Bond {
     pub centre: i32,
 }
 
-#[derive(Drop)]
-pub enum BondRead {
-    Is(Bond),
-    Bad { no: u8, column: usize },
-}
-
 // The counts line from column 7 on.
-fn counts_rest(line: &[u8], atoms: u32, bonds: u32) -> CountsRead
+fn counts_rest(line: &[u8], atoms: u32, bonds: u32) -> Result<Counts, Refusal>
     ensures { counts_got result ≡ after_counts atoms bonds line.now }
 {
-    let _lists = match line_fields::number_field(line, 7, 9, 0, 0) {
-        Field::Is(k) => k,
-        Field::Bad { no, column } => {
-            return CountsRead::Bad { no, column };
-        }
-    };
-    let chiral = match line_fields::number_field(line, 13, 15, 0, 1) {
-        Field::Is(k) => k,
-        Field::Bad { no, column } => {
-            return CountsRead::Bad { no, column };
-        }
-    };
-    let _stext = match line_fields::number_field(line, 16, 18, 0, 0) {
-        Field::Is(k) => k,
-        Field::Bad { no, column } => {
-            return CountsRead::Bad { no, column };
-        }
-    };
+    let _lists = line_fields::number_field(line, 7, 9, 0, 0)?;
+    let chiral = line_fields::number_field(line, 13, 15, 0, 1)?;
+    let _stext = line_fields::number_field(line, 16, 18, 0, 0)?;
     if text::has_text(line, 34, b" V2000") {
         match text::ink_column(line, 40) {
-            Found::Nothing => CountsRead::Is(Counts {
+            None => Ok(Counts {
                 atoms,
                 bonds,
                 chiral,
             }),
-            Found::At(column) => CountsRead::Bad { no: 15, column },
+            Some(column) => Err(Refusal { no: 15, column }),
         }
     } else {
-        CountsRead::Bad { no: 6, column: 34 }
+        Err(Refusal { no: 6, column: 34 })
     }
 }
 
 // aaabbblllfffcccsssxxxrrrpppiiimmmvvvvvv
-pub fn counts_line(line: &[u8], limit: u32) -> CountsRead
+pub fn counts_line(line: &[u8], limit: u32) -> Result<Counts, Refusal>
     requires { limit ≤ 999 }
     ensures { counts_got result ≡ counts_of limit line.now }
 {
-    let atoms = match line_fields::number_field(line, 1, 3, 0, limit) {
-        Field::Is(k) => k,
-        Field::Bad { no, column } => {
-            return CountsRead::Bad { no, column };
-        }
-    };
-    let bonds = match line_fields::number_field(line, 4, 6, 0, limit) {
-        Field::Is(k) => k,
-        Field::Bad { no, column } => {
-            return CountsRead::Bad { no, column };
-        }
-    };
+    let atoms = line_fields::number_field(line, 1, 3, 0, limit)?;
+    let bonds = line_fields::number_field(line, 4, 6, 0, limit)?;
     if enough_pairs(atoms, bonds) {
         counts_rest(line, atoms, bonds)
     } else {
-        CountsRead::Bad { no: 12, column: 4 }
+        Err(Refusal { no: 12, column: 4 })
     }
 }
 
@@ -117,19 +79,14 @@ pub fn enough_pairs(n: u32, m: u32) -> bool
 }
 
 // Columns 10 to 12 of a bond line: what its type allows.
-fn stereo_field(line: &[u8], order: u32) -> Field
+fn stereo_field(line: &[u8], order: u32) -> Result<u32, Refusal>
     ensures { field_got result ≡ listed_at line.now 10 12 6 (stereos order) }
 {
-    let stereo = match line_fields::number_field(line, 10, 12, 0, 6) {
-        Field::Is(k) => k,
-        Field::Bad { no, column } => {
-            return Field::Bad { no, column };
-        }
-    };
+    let stereo = line_fields::number_field(line, 10, 12, 0, 6)?;
     if stereo_allowed(order, stereo) {
-        Field::Is(stereo)
+        Ok(stereo)
     } else {
-        Field::Bad { no: 8, column: 10 }
+        Err(Refusal { no: 8, column: 10 })
     }
 }
 
@@ -166,19 +123,14 @@ fn stereo_allowed(order: u32, stereo: u32) -> bool
 }
 
 // Columns 19 to 21 of a bond line.
-fn centre_field(line: &[u8]) -> SignedField
+fn centre_field(line: &[u8]) -> Result<i32, Refusal>
     ensures { signed_field_got result ≡ signed_listed_at line.now 19 21 1 13 centres }
 {
-    let centre = match line_fields::signed_field(line, 19, 21, 1, 13) {
-        SignedField::Is(z) => z,
-        SignedField::Bad { no, column } => {
-            return SignedField::Bad { no, column };
-        }
-    };
+    let centre = line_fields::signed_field(line, 19, 21, 1, 13)?;
     if centre_allowed(centre) {
-        SignedField::Is(centre)
+        Ok(centre)
     } else {
-        SignedField::Bad { no: 8, column: 19 }
+        Err(Refusal { no: 8, column: 19 })
     }
 }
 
@@ -216,27 +168,17 @@ fn next_allowed(k: u32) -> bool
 }
 
 // A bond line from column 13 on.
-fn bond_rest(line: &[u8], first: u32, second: u32, order: u32, stereo: u32) -> BondRead
+fn bond_rest(line: &[u8], first: u32, second: u32, order: u32, stereo: u32) -> Result<Bond, Refusal>
     ensures { bond_got result ≡ bond_from first second order stereo line.now }
 {
-    let topology = match line_fields::number_field(line, 16, 18, 0, 2) {
-        Field::Is(k) => k,
-        Field::Bad { no, column } => {
-            return BondRead::Bad { no, column };
-        }
-    };
-    let centre = match centre_field(line) {
-        SignedField::Is(z) => z,
-        SignedField::Bad { no, column } => {
-            return BondRead::Bad { no, column };
-        }
-    };
+    let topology = line_fields::number_field(line, 16, 18, 0, 2)?;
+    let centre = centre_field(line)?;
     match text::ink_column(line, 22) {
-        Found::Nothing => {
+        None => {
             if first == second {
-                return BondRead::Bad { no: 10, column: 1 };
+                return Err(Refusal { no: 10, column: 1 });
             }
-            BondRead::Is(Bond {
+            Ok(Bond {
                 first,
                 second,
                 order,
@@ -245,7 +187,7 @@ fn bond_rest(line: &[u8], first: u32, second: u32, order: u32, stereo: u32) -> B
                 centre,
             })
         }
-        Found::At(column) => BondRead::Bad { no: 15, column },
+        Some(column) => Err(Refusal { no: 15, column }),
     }
 }
 
@@ -253,22 +195,16 @@ fn bond_rest(line: &[u8], first: u32, second: u32, order: u32, stereo: u32) -> B
 fn bond_zeros(line: &[u8]) -> bool
     ensures { result ≡ true → BondZeros line.now }
 {
-    if line.len() < 21 {
-        return false;
-    }
-    if 21 < line.len() {
-        return false;
-    }
-    text::text_differs(line, 10, b"  0  0  0  0") == 0
+    line.len() == 21 && !text::text_differs(line, 10, b"  0  0  0  0")
 }
 
-fn plain_bond(first: u32, second: u32, order: u32) -> BondRead
+fn plain_bond(first: u32, second: u32, order: u32) -> Result<Bond, Refusal>
     ensures { bond_got result ≡ plain_bond first second order }
 {
     if first == second {
-        return BondRead::Bad { no: 10, column: 1 };
+        return Err(Refusal { no: 10, column: 1 });
     }
-    BondRead::Is(Bond {
+    Ok(Bond {
         first,
         second,
         order,
@@ -279,32 +215,15 @@ fn plain_bond(first: u32, second: u32, order: u32) -> BondRead
 }
 
 // 111222tttsssxxxrrrccc
-pub fn bond_line(line: &[u8], n: u32) -> BondRead
+pub fn bond_line(line: &[u8], n: u32) -> Result<Bond, Refusal>
     ensures { bond_got result ≡ bond_of n line.now }
 {
-    let first = match line_fields::number_field(line, 1, 3, 1, n) {
-        Field::Is(k) => k,
-        Field::Bad { no, column } => {
-            return BondRead::Bad { no, column };
-        }
-    };
-    let second = match line_fields::number_field(line, 4, 6, 1, n) {
-        Field::Is(k) => k,
-        Field::Bad { no, column } => {
-            return BondRead::Bad { no, column };
-        }
-    };
-    let order = match line_fields::number_field(line, 7, 9, 1, 8) {
-        Field::Is(k) => k,
-        Field::Bad { no, column } => {
-            return BondRead::Bad { no, column };
-        }
-    };
+    let first = line_fields::number_field(line, 1, 3, 1, n)?;
+    let second = line_fields::number_field(line, 4, 6, 1, n)?;
+    let order = line_fields::number_field(line, 7, 9, 1, 8)?;
     if bond_zeros(line) {
         return plain_bond(first, second, order);
     }
-    match stereo_field(line, order) {
-        Field::Is(stereo) => bond_rest(line, first, second, order, stereo),
-        Field::Bad { no, column } => BondRead::Bad { no, column },
-    }
+    let stereo = stereo_field(line, order)?;
+    bond_rest(line, first, second, order, stereo)
 }

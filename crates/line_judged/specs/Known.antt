@@ -1,5 +1,5 @@
 -- What is known of a line that was judged good, and what one look at it then tells.
-use Rattle.std.specs.Prelude.{ℕ, zero, suc, ◌+◌, ◌-◌, ◌≤◌, ◌<◌, ◌≡◌, refl, Bool, true, false, List, [], ◌∷◌, ◌++◌, eqb, length, get_or, take, drop}
+use Rattle.std.specs.Prelude.{Option, Some, None, ℕ, zero, suc, ◌+◌, ◌-◌, ◌≤◌, ◌<◌, ◌≡◌, refl, Bool, true, false, List, [], ◌∷◌, ◌++◌, eqb, length, get_or, take, drop}
 use Rattle.std.proofs.Common.{arith, sym, ap, ◌∙◌, subst, length-drop, take_at}
 use borrow.Author.Tests.{eq-eqb, ne_eqb, lt-ltb, le-ltb}
 use Rattle.text.specs.Text.{Bytes, Line, Each}
@@ -7,7 +7,6 @@ use Rattle.text.specs.Columns.{column, columns, columns_for, spaces}
 use Rattle.text.specs.Find.{line_at, line_to, first_from}
 use Rattle.text.specs.First.{each_as, first_within}
 use Rattle.text.specs.declared.LineAt.{LineAt}
-use Rattle.text.specs.declared.Found.{Found}
 use Rattle.rules.specs.Forms.{DataHeader, RecordEnd}
 use Rattle.judge_line.specs.Judge.{is_close}
 use Rattle.judge_line.specs.AgreeItem.{not_close}
@@ -33,17 +32,17 @@ is_byte b x = eqb x b
 -- a byte b stands at `at` or after it
 pub record Stands (b : ℕ) (s : Bytes) (at : ℕ) : Type 0 where
   pub place : ℕ
-  pub is : first_from (is_byte b) at (drop at s) ≡ Found.At place
+  pub is : first_from (is_byte b) at (drop at s) ≡ Some place
 
 pub ends : (s : Bytes) (at : ℕ) → Standing s at → Stands 10 s at
 unfolding line_at line_to
 ends s at g = go (first_from (is_byte 10) at (drop at s)) refl
   where
-    go : (x : Found) → first_from (is_byte 10) at (drop at s) ≡ x → Stands 10 s at
-    go (Found.At k) e = record { place = k; is = e }
-    go Found.Nothing e = whole_never s at g (ap (line_to s at) e)
+    go : (x : Option ℕ) → first_from (is_byte 10) at (drop at s) ≡ x → Stands 10 s at
+    go (Some k) e = record { place = k; is = e }
+    go None e = whole_never s at g (ap (line_to s at) e)
 
-module _ (s : Bytes) (at k : ℕ) (e : first_from (is_byte 10) at (drop at s) ≡ Found.At k) where
+module _ (s : Bytes) (at k : ℕ) (e : first_from (is_byte 10) at (drop at s) ≡ Some k) where
   pub whole_inside : k < length s
   whole_inside = let w = first_within (is_byte 10) at k (drop at s) e in omega (arith, w.0, w.1, length-drop at s)
 
@@ -92,12 +91,12 @@ pub record Named (l : Line) (from to : ℕ) : Type 0 where
   pub inside : to ≤ length l
   pub is : DataHeader l (take (to - from) (drop from l))
 
-first_after : (b i : ℕ) (xs ys : Bytes) → Each (λ x. is_byte b x ≡ false) xs → first_from (is_byte b) i (xs ++ (b ∷ ys)) ≡ Found.At (i + length xs)
+first_after : (b i : ℕ) (xs ys : Bytes) → Each (λ x. is_byte b x ≡ false) xs → first_from (is_byte b) i (xs ++ (b ∷ ys)) ≡ Some (i + length xs)
 unfolding first_from Each
 first_after b i [] ys e = let z : i + 0 ≡ i = omega arith in rw (eq-eqb b b refl, z)
 first_after b i (x ∷ xs) ys e =
     let z : suc i + length xs ≡ i + suc (length xs) = omega arith in
-    rw e.0 (first_after b (suc i) xs ys e.1 ∙ ap Found.At z)
+    rw e.0 (first_after b (suc i) xs ys e.1 ∙ ap Some z)
 
 no_open : (k : ℕ) → Each (λ x. is_byte 60 x ≡ false) (spaces k)
 unfolding Each
@@ -119,42 +118,42 @@ module _ (l : Line) (g : Header l) where
   abbrev tail : Bytes
   tail = g.name ++ (62 ∷ spaces g.is.after)
 
-  opens : first_from (is_byte 60) 1 (drop 1 l) ≡ Found.At (1 + k)
+  opens : first_from (is_byte 60) 1 (drop 1 l) ≡ Some (1 + k)
   opens =
       ap (λ (z : Line). first_from (is_byte 60) 1 (drop 1 z)) g.is.parts
       ∙ first_after 60 1 (spaces k) tail (no_open k)
-      ∙ ap (λ (z : ℕ). Found.At (1 + z)) (spaces_length k)
+      ∙ ap (λ (z : ℕ). Some (1 + z)) (spaces_length k)
 
   from_name : drop (1 + k + 1) l ≡ tail
   from_name =
       let z : 1 + k + 1 ≡ suc (suc k) = omega arith in
       ap (λ (n : ℕ). drop n l) z ∙ ap (drop (suc (suc k))) g.is.parts ∙ after_open k tail
 
-  closes : (i : ℕ) → first_from (is_byte 62) i (drop (1 + k + 1) l) ≡ Found.At (i + length g.name)
+  closes : (i : ℕ) → first_from (is_byte 62) i (drop (1 + k + 1) l) ≡ Some (i + length g.name)
   closes i =
       ap (first_from (is_byte 62) i) from_name
       ∙ first_after 62 i g.name (spaces g.is.after) (each_as g.name (λ b. ne_eqb b 62) g.is.no_close)
 
-  same_place : {i j : ℕ} → Found.At i ≡ Found.At j → i ≡ j
+  same_place : {i j : ℕ} → Some i ≡ Some j → i ≡ j
   same_place h = cc
 
   pub opening : Stands 60 l 1
   opening = record { place = 1 + k; is = opens }
 
-  module _ (o : ℕ) (e : first_from (is_byte 60) 1 (drop 1 l) ≡ Found.At o) where
+  module _ (o : ℕ) (e : first_from (is_byte 60) 1 (drop 1 l) ≡ Some o) where
     open_is : o ≡ 1 + k
     open_is = same_place (sym e ∙ opens)
 
     pub open_low : o < length l
     open_low = let w = first_within (is_byte 60) 1 o (drop 1 l) e in omega (arith, w.0, w.1, length-drop 1 l)
 
-    closes_at : first_from (is_byte 62) (o + 1) (drop (o + 1) l) ≡ Found.At (o + 1 + length g.name)
+    closes_at : first_from (is_byte 62) (o + 1) (drop (o + 1) l) ≡ Some (o + 1 + length g.name)
     closes_at = ap (λ (z : ℕ). first_from (is_byte 62) (o + 1) (drop (z + 1) l)) open_is ∙ closes (o + 1)
 
     pub closing : Stands 62 l (o + 1)
     closing = record { place = o + 1 + length g.name; is = closes_at }
 
-    pub named : (t : ℕ) → first_from (is_byte 62) (o + 1) (drop (o + 1) l) ≡ Found.At t → Named l (o + 1) t
+    pub named : (t : ℕ) → first_from (is_byte 62) (o + 1) (drop (o + 1) l) ≡ Some t → Named l (o + 1) t
     named t h =
         let w = first_within (is_byte 62) (o + 1) t (drop (o + 1) l) h in
         let m : t ≡ o + 1 + length g.name = same_place (sym h ∙ closes_at) in

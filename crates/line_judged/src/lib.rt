@@ -4,7 +4,6 @@
 ghost use Rattle.std.specs.Prelude.{◌≡◌, drop};
 ghost use Rattle.text.specs.Find.{line_at, first_from};
 ghost use Rattle.text.specs.declared.LineAt.{LineAt};
-ghost use Rattle.text.specs.declared.Found.{Found};
 ghost use Rattle.judge_line.specs.Judge.{is_close};
 ghost use Rattle.line_judged.specs.Known.{Standing, HeaderOrEnd, Header, Named, is_byte, Stands};
 
@@ -23,9 +22,11 @@ pub struct Name {
 }
 
 // The first byte b from position `at` on, where one is known to stand.
+// No `for`: it would ask for the line's end at each byte, and `records canon` counted 19.7 instructions a byte then, on
+// items of 10,000 bytes, and 16.3 so.
 fn find(line: &[u8], at: usize, b: u8) -> usize
     requires { Stands b line.now at }
-    ensures { first_from (is_byte b) at (drop at line.now) ≡ Found.At result }
+    ensures { first_from (is_byte b) at (drop at line.now) ≡ Some result }
 {
     let mut i = at;
     loop {

@@ -1,20 +1,19 @@
 -- What the code's answers say, as the judge says it, with the table beside them.
-use Rattle.std.specs.Prelude.{ℕ, ◌+◌, List, eqb, get_or, set}
+use Rattle.std.specs.Prelude.{Result, Ok, Err, Option, Some, None, ℕ, ◌+◌, List, eqb, get_or, set}
 use Rattle.text.specs.Text.{Line}
-use Rattle.text.specs.declared.Found.{Found}
 use Rattle.rules.specs.Forms as R
 use Rattle.judge_line.specs.Got.{Got, got, bad, then, need}
 use Rattle.judge_line.specs.Field.{number_at, space_at}
 use Rattle.judge_line.specs.Judge.{PropertyOrEnd, property, last, entry_number_at, entries_of}
 use Rattle.line_property.specs.Listed.{slot, noted, enter, seen_of}
 use Rattle.line_property.specs.declared.Kind.{Kind}
-use Rattle.line_property.specs.declared.PropertyRead.{PropertyRead}
-use Rattle.line_property.specs.declared.Entered.{Entered}
+use Rattle.line_property.specs.declared.PropertyLine.{PropertyLine}
+use Rattle.judge_line.specs.declared.Refusal.{Refusal}
 
-abbrev pub property_read : Got PropertyOrEnd → PropertyRead
-property_read (got (property p)) = PropertyRead.Listed
-property_read (got last) = PropertyRead.End
-property_read (bad e column) = PropertyRead.Bad e column
+abbrev pub property_read : Got PropertyOrEnd → Result PropertyLine Refusal
+property_read (got (property p)) = Ok PropertyLine.Listed
+property_read (got last) = Ok PropertyLine.End
+property_read (bad e column) = Err (record { no = e; column = column })
 
 abbrev pub kind_is : Kind → R.Kind
 kind_is Kind.Charge = R.CHG
@@ -54,13 +53,13 @@ unfoldable pub entered_from : ℕ → R.Kind → Line → ℕ → ℕ → List �
 entered_from n kind l i k t = then (entries_of n kind l i k (seen_of n t kind)) λ es. got (enter kind t es)
 
 -- an answer and the table then
-abbrev pub entered_got : Entered → List ℕ → Got (List ℕ)
-entered_got Entered.Good t = got t
-entered_got (Entered.Bad e column) t = bad e column
+abbrev pub entered_got : Result (Unit {0}) Refusal → List ℕ → Got (List ℕ)
+entered_got (Ok tt) t = got t
+entered_got (Err r) t = bad r.no r.column
 
 -- ---- the rest of a line
 
 -- what is read where nothing stands any more, and else the refusal
-abbrev pub rest_read : PropertyRead → Found → PropertyRead
-rest_read r Found.Nothing = r
-rest_read r (Found.At column) = PropertyRead.Bad 15 column
+abbrev pub rest_read : PropertyLine → Option ℕ → Result PropertyLine Refusal
+rest_read r None = Ok r
+rest_read r (Some column) = Err (record { no = 15; column = column })

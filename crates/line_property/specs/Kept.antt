@@ -1,12 +1,13 @@
 -- What the table holds after a good line.
-use Rattle.std.specs.Prelude.{ℕ, ◌≡◌, List, length}
+use Rattle.std.specs.Prelude.{Result, ℕ, ◌≡◌, List, length}
 use Rattle.text.specs.Text.{Line}
 use Rattle.rules.specs.Forms.{Property}
 use Rattle.judge_line.specs.Got.{Got, got}
 use Rattle.judge_line.specs.Judge.{PropertyOrEnd, property_of, property, last}
 use Rattle.line_property.specs.Listed.{enter, seen_of}
 use Rattle.line_property.specs.Answer.{property_read}
-use Rattle.line_property.specs.declared.PropertyRead.{PropertyRead}
+use Rattle.line_property.specs.declared.PropertyLine.{PropertyLine}
+use Rattle.judge_line.specs.declared.Refusal.{Refusal}
 
 -- t before the line, t' after it; after a refusal it may hold anything, but is as long as before
 pub record Kept (n : ℕ) (t : List ℕ) (l : Line) (t' : List ℕ) : Type 0 where
@@ -15,7 +16,7 @@ pub record Kept (n : ℕ) (t : List ℕ) (l : Line) (t' : List ℕ) : Type 0 whe
   pub size : length t' ≡ length t
 
 -- the answer and the table where a part of the line is judged to be g
-pub record KeptBy (g : Got PropertyOrEnd) (t : List ℕ) (r : PropertyRead) (t' : List ℕ) : Type 0 where
+pub record KeptBy (g : Got PropertyOrEnd) (t : List ℕ) (r : Result PropertyLine Refusal) (t' : List ℕ) : Type 0 where
   pub read : r ≡ property_read g
   pub entered : (p : Property) → g ≡ got (property p) → t' ≡ enter p.kind t p.entries
   pub same : g ≡ got last → t' ≡ t

@@ -1,4 +1,5 @@
 -- Laws on data headers, `$$$$` lines, value lines and blank lines.
+use Rattle.std.specs.Prelude.{Ok, Err, Option, Some, None}
 use Prim.Native.Nat.{ℕ, suc, ◌+◌, ◌-◌, ◌≤◌, ◌<◌}
 use native.Mathlib.Omega.{arith}
 use mathlib.Core.Path.{◌≡◌, refl, sym, ap, ◌∙◌, subst}
@@ -12,60 +13,59 @@ use Rattle.text.specs.Text.{Bytes, Line, bytes}
 use Rattle.text.specs.Columns.{column}
 use Rattle.text.specs.Find.{first_from, is_ink, ink_column, is_blank}
 use Rattle.text.specs.First.{first_within}
-use Rattle.text.specs.declared.Found.{Found}
-use Rattle.text.specs.declared.Found.TheVariants.{At, Nothing}
 use Rattle.field_numbers.specs.Read.{after_spaces}
 use Rattle.judge_line.specs.Got.{Got, got, bad}
 use Rattle.judge_line.specs.Judge.{HeaderRead, none, begins, opened, spaced, arrowed, header_of, ItemOrEnd, title, close, title_got, is_close, item_of, ValueOrBlank, value, blank, not_header, value_of}
 use Rattle.judge_line.specs.AgreeText.{begins_got}
 use Rattle.line_text.specs.Answer.{name_got, name_in, item_in}
 use Rattle.line_text.specs.declared.NameRead.{NameRead}
-use Rattle.line_text.specs.declared.ItemRead.{ItemRead}
+use Rattle.line_text.specs.declared.ItemLine.{ItemLine}
+use Rattle.judge_line.specs.declared.Refusal.{Refusal}
 use Rattle.line_text.proofs.Names.{unnamed_in}
 
 -- ---- spaces before `<`
 
-ink_at_by : (x i k : ℕ) (xs : Bytes) (t : Bool) → eqb x 32 ≡ t → (first_from is_ink (suc i) xs ≡ At k → after_spaces xs ≡ drop (k - suc i) xs) →
-    first_from is_ink i (x ∷ xs) ≡ At k → after_spaces (x ∷ xs) ≡ drop (k - i) (x ∷ xs)
+ink_at_by : (x i k : ℕ) (xs : Bytes) (t : Bool) → eqb x 32 ≡ t → (first_from is_ink (suc i) xs ≡ Some k → after_spaces xs ≡ drop (k - suc i) xs) →
+    first_from is_ink i (x ∷ xs) ≡ Some k → after_spaces (x ∷ xs) ≡ drop (k - i) (x ∷ xs)
 unfolding first_from after_spaces
 ink_at_by x i k xs true e ih h =
-    let g : first_from is_ink (suc i) xs ≡ At k = rw e at h in
+    let g : first_from is_ink (suc i) xs ≡ Some k = rw e at h in
     let w = first_within is_ink (suc i) k xs g in
     let z : k - i ≡ suc (k - suc i) = omega arith in
     rw (e, z) (ih g)
 ink_at_by x i k xs false e ih h =
-    let g : At i ≡ At k = rw e at h in
+    let g : Some i ≡ Some k = rw e at h in
     let same : i ≡ k = cc in
     let z : k - i ≡ 0 = omega arith in
     rw (e, z)
 
-ink_at : (i k : ℕ) (xs : Bytes) → first_from is_ink i xs ≡ At k → after_spaces xs ≡ drop (k - i) xs
+ink_at : (i k : ℕ) (xs : Bytes) → first_from is_ink i xs ≡ Some k → after_spaces xs ≡ drop (k - i) xs
 ink_at i k [] h = absurd (let w = first_within is_ink i k [] h in omega arith)
 ink_at i k (x ∷ xs) h = ink_at_by x i k xs (eqb x 32) refl (ink_at (suc i) k xs) h
 
-ink_no_by : (x i : ℕ) (xs : Bytes) (t : Bool) → eqb x 32 ≡ t → (first_from is_ink (suc i) xs ≡ Nothing → after_spaces xs ≡ []) →
-    first_from is_ink i (x ∷ xs) ≡ Nothing → after_spaces (x ∷ xs) ≡ []
+ink_no_by : (x i : ℕ) (xs : Bytes) (t : Bool) → eqb x 32 ≡ t → (first_from is_ink (suc i) xs ≡ None → after_spaces xs ≡ []) →
+    first_from is_ink i (x ∷ xs) ≡ None → after_spaces (x ∷ xs) ≡ []
 unfolding first_from after_spaces
 ink_no_by x i xs true e ih h = rw e (ih (rw e at h))
 ink_no_by x i xs false e ih h =
-    let g : At i ≡ Nothing = rw e at h in
+    let g : Some i ≡ None = rw e at h in
     absurd (let z : ◌≡◌ {A = ℕ} 0 1 = cc in omega arith)
 
-ink_no : (i : ℕ) (xs : Bytes) → first_from is_ink i xs ≡ Nothing → after_spaces xs ≡ []
+ink_no : (i : ℕ) (xs : Bytes) → first_from is_ink i xs ≡ None → after_spaces xs ≡ []
 unfolding after_spaces
 ink_no i [] h = refl
 ink_no i (x ∷ xs) h = ink_no_by x i xs (eqb x 32) refl (ink_no (suc i) xs) h
 
-module _ (l : Line) (v : Found) (e : v ≡ ink_column l 3) where
-  pub ink_low : (k : ℕ) → v ≡ At k → 1 ≤ k
+module _ (l : Line) (v : Option ℕ) (e : v ≡ ink_column l 3) where
+  pub ink_low : (k : ℕ) → v ≡ Some k → 1 ≤ k
   unfolding ink_column
   ink_low k f = let w = first_within is_ink 3 k (drop 2 l) (sym e ∙ f) in omega arith
 
-  pub ink_high : (k : ℕ) → v ≡ At k → k - 1 < length l
+  pub ink_high : (k : ℕ) → v ≡ Some k → k - 1 < length l
   unfolding ink_column
   ink_high k f = let w = first_within is_ink 3 k (drop 2 l) (sym e ∙ f) in omega (arith, length-drop 2 l)
 
-  pub spaced_at : (k : ℕ) (x : HeaderRead) → v ≡ At k → x ≡ opened (drop (k - 1) l) → x ≡ opened (after_spaces (drop 2 l))
+  pub spaced_at : (k : ℕ) (x : HeaderRead) → v ≡ Some k → x ≡ opened (drop (k - 1) l) → x ≡ opened (after_spaces (drop 2 l))
   unfolding ink_column
   spaced_at k x f g = g ∙ ap opened (sym (ink_at 3 k (drop 2 l) (sym e ∙ f) ∙ there))
     where
@@ -75,7 +75,7 @@ module _ (l : Line) (v : Found) (e : v ≡ ink_column l 3) where
           let z : 2 + (k - 3) ≡ k - 1 = omega arith in
           drop-drop (k - 3) 2 l ∙ ap (λ (n : ℕ). drop n l) z
 
-  pub spaced_no : v ≡ Nothing → none ≡ opened (after_spaces (drop 2 l))
+  pub spaced_no : v ≡ None → none ≡ opened (after_spaces (drop 2 l))
   unfolding ink_column opened
   spaced_no f = sym (rw (ink_no 3 (drop 2 l) (sym e ∙ f)))
 
@@ -153,17 +153,17 @@ module _ (l : Line) (v : NameRead) (e : name_got l v ≡ header_of l) where
   pub value_none : v ≡ NameRead.Unnamed → got value ≡ not_header (header_of l)
   value_none f = ap not_header (ap (name_got l) (sym f) ∙ e)
 
-pub title_in_lem : (l : Line) (v : NameRead) (from to : ℕ) → name_in l v → v ≡ NameRead.Named from to → item_in l (ItemRead.Title from to)
+pub title_in_lem : (l : Line) (v : NameRead) (from to : ℕ) → name_in l v → v ≡ NameRead.Named from to → item_in l (Ok (ItemLine.Title from to))
 unfolding name_in item_in
 title_in_lem l v from to h e = subst (name_in l) e h
 
-pub close_in : (l : Line) → item_in l ItemRead.Close
+pub close_in : (l : Line) → item_in l (Ok ItemLine.Close)
 unfolding item_in
 close_in l = tt
 
-pub bad_in : (l : Line) (e column : ℕ) → item_in l (ItemRead.Bad e column)
+pub bad_in : (l : Line) (r : Refusal) → item_in l (Err r)
 unfolding item_in
-bad_in l e column = tt
+bad_in l r = tt
 
 pub item_close : (l : Line) (r : Bool) → r ≡ is_close l → r ≡ true → got close ≡ item_of l
 unfolding item_of

@@ -9,29 +9,20 @@ ghost use Rattle.judge_line.specs.Judge.{begins, first_header_of, is_close, name
 ghost use Rattle.line_text.specs.Answer.{header_got, name_got, name_in, item_got, item_in, value_got};
 ghost use Rattle.line_text.specs.HeaderParts.{spaceless, tagged, name_ends};
 
-use text::Found;
-
-// What the first header line is found to be.
-#[derive(Drop)]
-pub enum HeaderJudged {
-    Good,
-    Bad { no: u8, column: usize },
-}
+use judge_line::Refusal;
 
 // What a line is found to be where a data header or `$$$$` must stand. A title's name has the positions from `from` up to but not with `to`.
 #[derive(Drop)]
-pub enum ItemRead {
+pub enum ItemLine {
     Title { from: usize, to: usize },
     Close,
-    Bad { no: u8, column: usize },
 }
 
 // What a line is found to be where a value line or the blank line after the values must stand.
 #[derive(Drop)]
-pub enum ValueRead {
+pub enum ValueKind {
     Value,
     Blank,
-    Bad { no: u8, column: usize },
 }
 
 // Where the name of a data header stands, in a line that is one.
@@ -85,17 +76,16 @@ fn tag_at(line: &[u8], i: usize) -> bool
 }
 
 // The first header line: it may not contain a reserved tag.
-pub fn first_header(line: &[u8]) -> HeaderJudged
+#[tactic(auto, using(crate::proofs::Tags::untagged_laws))]
+pub fn first_header(line: &[u8]) -> Result<(), Refusal>
     ensures { header_got line.now result ≡ first_header_of line.now }
 {
-    let mut i: usize = 0;
-    while i < line.len() {
+    for i in 0..line.len() {
         if tag_at(line, i) {
-            return HeaderJudged::Bad { no: 5, column: 1 };
+            return Err(Refusal { no: 5, column: 1 });
         }
-        i += 1;
     }
-    HeaderJudged::Good
+    Ok(())
 }
 
 // The name from `from` up to its `>` at position `to`: 1 to 30 bytes, and only spaces after it.
@@ -117,20 +107,19 @@ fn name_to(line: &[u8], from: usize, to: usize) -> NameRead
 }
 
 // The name that starts at `from`, right after `<`: it ends at the next `<` or `>`, which has to be `>`.
+#[tactic(auto, using(crate::proofs::Names::naming_laws))]
 fn name_from(line: &[u8], from: usize) -> NameRead
     requires { from ≤ length line.now }
     ensures result_value { name_got line.now result ≡ name_on [] (drop from line.now) }
     ensures name_in { name_in line.now result }
 {
-    let mut i = from;
-    while i < line.len() {
+    for i in from..line.len() {
         if line[i] == b'<' {
             return NameRead::Unnamed;
         }
         if line[i] == b'>' {
             return name_to(line, from, i);
         }
-        i += 1;
     }
     NameRead::Unnamed
 }
@@ -153,8 +142,8 @@ fn name_spaced(line: &[u8]) -> NameRead
     ensures name_in { name_in line.now result }
 {
     match text::ink_column(line, 3) {
-        Found::At(k) => name_opened(line, k - 1),
-        Found::Nothing => NameRead::Unnamed,
+        Some(k) => name_opened(line, k - 1),
+        None => NameRead::Unnamed,
     }
 }
 
@@ -186,39 +175,39 @@ fn is_close(line: &[u8]) -> bool
 }
 
 // A line that is no `$$$$` line, where a data header or `$$$$` must stand.
-fn title_line(line: &[u8]) -> ItemRead
+fn title_line(line: &[u8]) -> Result<ItemLine, Refusal>
     ensures result_value { item_got line.now result ≡ title_got (header_of line.now) }
     ensures item_in { item_in line.now result }
 {
     match data_header(line) {
-        NameRead::Named { from, to } => ItemRead::Title { from, to },
-        NameRead::Unnamed => ItemRead::Bad { no: 16, column: 1 },
+        NameRead::Named { from, to } => Ok(ItemLine::Title { from, to }),
+        NameRead::Unnamed => Err(Refusal { no: 16, column: 1 }),
     }
 }
 
 // A line where a data header or `$$$$` must stand.
-pub fn item_line(line: &[u8]) -> ItemRead
+pub fn item_line(line: &[u8]) -> Result<ItemLine, Refusal>
     ensures result_value { item_got line.now result ≡ item_of line.now }
     ensures item_in { item_in line.now result }
 {
     if is_close(line) {
-        return ItemRead::Close;
+        return Ok(ItemLine::Close);
     }
     title_line(line)
 }
 
 // A line that begins with `>`, where a value line must stand.
-fn arrow_value(line: &[u8]) -> ValueRead
+fn arrow_value(line: &[u8]) -> Result<ValueKind, Refusal>
     ensures { value_got result ≡ not_header (header_of line.now) }
 {
     match data_header(line) {
-        NameRead::Named { from: _, to: _ } => ValueRead::Bad { no: 17, column: 1 },
-        NameRead::Unnamed => ValueRead::Value,
+        NameRead::Named { from: _, to: _ } => Err(Refusal { no: 17, column: 1 }),
+        NameRead::Unnamed => Ok(ValueKind::Value),
     }
 }
 
 // A line where a value line or the blank line after the values must stand. Most are values by their first byte.
-pub fn value_line(line: &[u8]) -> ValueRead
+pub fn value_line(line: &[u8]) -> Result<ValueKind, Refusal>
     ensures { value_got result ≡ value_of line.now }
 {
     let first = text::column(line, 1);
@@ -227,15 +216,15 @@ pub fn value_line(line: &[u8]) -> ValueRead
     }
     if first == b'$' {
         if begins_with(line, b"$$$$") {
-            return ValueRead::Bad { no: 17, column: 1 };
+            return Err(Refusal { no: 17, column: 1 });
         }
-        return ValueRead::Value;
+        return Ok(ValueKind::Value);
     }
     if first == b' ' {
         if text::is_blank(line) {
-            return ValueRead::Blank;
+            return Ok(ValueKind::Blank);
         }
-        return ValueRead::Value;
+        return Ok(ValueKind::Value);
     }
-    ValueRead::Value
+    Ok(ValueKind::Value)
 }

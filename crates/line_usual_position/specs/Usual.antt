@@ -1,5 +1,5 @@
 -- The usual form of a coordinate: spaces, one digit or two with at most a sign before them, the point, four digits.
-use Rattle.std.specs.Prelude.{ℕ, suc, ◌+◌, ◌-◌, ◌*◌, ◌≤◌, ◌<◌, ◌≡◌, refl, [], ◌∷◌, Bool, true, false, cond, eqb, leb, ltb, length, get_or, ℤ}
+use Rattle.std.specs.Prelude.{Option, None, Some, ℕ, suc, ◌+◌, ◌-◌, ◌*◌, ◌≤◌, ◌<◌, ◌≡◌, refl, [], ◌∷◌, Bool, true, false, cond, eqb, leb, ltb, length, get_or, ℤ}
 use Rattle.std.proofs.Common.{arith, sym, ap, ◌∙◌}
 use borrow.Author.Tests.{le-leb, lt-leb, eq-eqb, ne_eqb, eqb-true, ltb-true, ltb-false}
 use Rattle.text.specs.Text.{Bytes, Line, bytes, Each}
@@ -8,10 +8,8 @@ use Rattle.text.specs.Laws.{false_true}
 use Rattle.field_numbers.specs.Number.{Digit, decimal_after}
 use Rattle.field_numbers.specs.Read.{all_digits, after_spaces, signed}
 use Rattle.field_numbers.specs.Agree.{each_digit, digit_not}
-use Rattle.field_coordinates.specs.declared.CoordinateRead.{CoordinateRead}
 use Rattle.field_coordinates.specs.Read.{coordinate_in, inked, before_point, point_read}
 use Rattle.line_usual_position.specs.declared.Position.{Position}
-use Rattle.line_usual_position.specs.declared.Usual.{Usual}
 
 -- the first k columns lie within their bounds
 abbrev pub Between : Line → Bytes → Bytes → ℕ → Type 0
@@ -56,10 +54,10 @@ coordinate_of l i =
     signed (minus_of (column l (i + 2)) (column l (i + 3))) ((tens_of (column l (i + 3)) * 10 + (column l (i + 4) - 48)) * 10000 + decimals_of l i)
 
 -- what is said of a line: coordinates, or nothing
-abbrev pub Said : Line → Usual → Type 0
-Said l (Usual.At p) =
-    (coordinate_in (columns l 1 10) ≡ CoordinateRead.Is p.x) × (coordinate_in (columns l 11 20) ≡ CoordinateRead.Is p.y) × (coordinate_in (columns l 21 30) ≡ CoordinateRead.Is p.z)
-Said l Usual.Other = Unit {0}
+abbrev pub Said : Line → Option Position → Type 0
+Said l (Some p) =
+    (coordinate_in (columns l 1 10) ≡ Some p.x) × (coordinate_in (columns l 11 20) ≡ Some p.y) × (coordinate_in (columns l 21 30) ≡ Some p.z)
+Said l None = Unit {0}
 
 -- ---- It is read so
 
@@ -68,7 +66,7 @@ module _ (u d e f g : ℕ) (pu : Digit u) (pd : Digit d) (pe : Digit e) (pf : Di
   abbrev Reads : ℕ → ℕ → Type 0
   Reads a b =
       coordinate_in (32 ∷ 32 ∷ a ∷ b ∷ u ∷ 46 ∷ d ∷ e ∷ f ∷ g ∷ [])
-      ≡ CoordinateRead.Is (signed (minus_of a b) ((tens_of b * 10 + (u - 48)) * 10000 + decimal_after 0 (d ∷ e ∷ f ∷ g ∷ [])))
+      ≡ Some (signed (minus_of a b) ((tens_of b * 10 + (u - 48)) * 10000 + decimal_after 0 (d ∷ e ∷ f ∷ g ∷ [])))
 
   unit : all_digits (u ∷ []) ≡ true
   unfolding Each
@@ -125,7 +123,7 @@ ten_columns l i =
     let j : i + 9 ≡ suc (suc (suc (suc (suc (suc (suc (suc (suc i)))))))) = omega arith in
     rw k (rw (a, b, c, d, e, f, g, h, j))
 
-pub usual_reads : (l : Line) (i : ℕ) → UsualAt l i → coordinate_in (columns l i (i + 9)) ≡ CoordinateRead.Is (coordinate_of l i)
+pub usual_reads : (l : Line) (i : ℕ) → UsualAt l i → coordinate_in (columns l i (i + 9)) ≡ Some (coordinate_of l i)
 unfolding coordinate_of decimals_of
 usual_reads l i h =
     rw (ten_columns l i, h.first, h.second, h.point)
@@ -207,6 +205,6 @@ module _ (l : Line) (h : 30 ≤ length l) (b : Between l (bytes "    0.0000    0
   )
 
 pub line_said : (l : Line) (x y z : ℤ) → UsualLine l → x ≡ coordinate_of l 1 → y ≡ coordinate_of l 11 → z ≡ coordinate_of l 21 →
-    Said l (Usual.At (record { x = x; y = y; z = z }))
+    Said l (Some (record { x = x; y = y; z = z }))
 line_said l x y z u p q r =
-    (usual_reads l 1 u.0 ∙ ap CoordinateRead.Is (sym p), usual_reads l 11 u.1 ∙ ap CoordinateRead.Is (sym q), usual_reads l 21 u.2 ∙ ap CoordinateRead.Is (sym r))
+    (usual_reads l 1 u.0 ∙ ap Some (sym p), usual_reads l 11 u.1 ∙ ap Some (sym q), usual_reads l 21 u.2 ∙ ap Some (sym r))

@@ -1,7 +1,7 @@
 // The three coordinates of an atom line in their usual form, with one digit or two before the point: most have it, and it is asked of all thirty columns at once.
 #![tactic(auto)]
 
-ghost use Rattle.std.specs.Prelude.{◌≡◌, true, ◌+◌, ◌-◌, ◌≤◌, length};
+ghost use Rattle.std.specs.Prelude.{◌≡◌, true, false, ◌+◌, ◌-◌, ◌≤◌, length};
 ghost use Rattle.text.specs.Columns.{column};
 ghost use Rattle.field_numbers.specs.Number.{Digit};
 ghost use Rattle.line_usual_position.specs.Usual.{Between, Lead, UsualAt, UsualLine, minus_of, tens_of, decimals_of, coordinate_of, Said};
@@ -13,32 +13,16 @@ pub struct Position {
     pub z: i32,
 }
 
-// What thirty columns are found to be.
-#[derive(Drop)]
-pub enum Usual {
-    At(Position),
-    // Another form, or none.
-    Other,
-}
-
-// 0 only where each column from 1 on lies within its bounds. All are compared, which compiles to a few vector tests.
-fn outside(line: &[u8], low: &[u8], high: &[u8]) -> usize
+// Whether a column from 1 on lies outside its bounds. All are compared, and by `|` with both, which compiles to a few
+// vector tests.
+fn outside(line: &[u8], low: &[u8], high: &[u8]) -> bool
     requires { (length low.now ≤ length line.now) × (length low.now ≡ length high.now) }
-    ensures { result ≡ 0 → Between line.now low.now high.now (length low.now) }
+    ensures { result ≡ false → Between line.now low.now high.now (length low.now) }
 {
-    let mut w: usize = 0;
-    let mut k: usize = 0;
-    while k < low.len() {
+    text::any_below(low.len(), |k| {
         let b = text::inner_column(line, k + 1);
-        if b < low[k] {
-            w = 1;
-        }
-        if high[k] < b {
-            w = 1;
-        }
-        k += 1;
-    }
-    w
+        (b < low[k]) | (high[k] < b)
+    })
 }
 
 // Whether the two columns before the units have no digit and at most a sign in the second, or a digit there and at most a sign before it.
@@ -124,8 +108,7 @@ fn is_usual(line: &[u8]) -> bool
         line,
         b"    0.0000    0.0000    0.0000",
         b"  -99.9999  -99.9999  -99.9999",
-    ) != 0
-    {
+    ) {
         return false;
     }
     if !has_lead(line, 1) {
@@ -138,15 +121,15 @@ fn is_usual(line: &[u8]) -> bool
 }
 
 // Columns 1 to 30 of an atom line, where all three coordinates are usual.
-pub fn usual_position(line: &[u8]) -> Usual
+pub fn usual_position(line: &[u8]) -> Option<Position>
     ensures { Said line.now result }
 {
     if is_usual(line) {
-        return Usual::At(Position {
+        return Some(Position {
             x: coordinate(line, 1),
             y: coordinate(line, 11),
             z: coordinate(line, 21),
         });
     }
-    Usual::Other
+    None
 }

@@ -4,7 +4,7 @@ use native.Mathlib.Omega.{arith}
 use Rattle.std.proofs.Math.Path.{◌≡◌, refl, sym, ap, subst}
 use Rattle.std.proofs.Common.{ap₂, ◌∙◌, length-append, length-take-le, length-drop}
 use mathlib.Core.List.{List, [], ◌∷◌, ◌++◌, map, append-nil}
-use Rattle.std.specs.Prelude.{Bool, true, false, cond, ◌&&◌, eqb, take, drop, set}
+use Rattle.std.specs.Prelude.{Result, Ok, Err, Bool, true, false, cond, ◌&&◌, eqb, take, drop, set}
 use Rattle.std.proofs.Math.Bool.{and-eq-true_iff}
 use Rattle.std.proofs.Math.ListN.{length}
 use Rattle.std.proofs.Math.Seq.{sets, length-sets}
@@ -32,7 +32,7 @@ use Rattle.mend_rules.specs.Pieces.{PieceIs, Begins, begins_first, no_piece}
 use Rattle.mend_rules.specs.Sizes.{joined_append, text_size}
 use Rattle.mend_rules.proofs.Sizes.{list_size}
 use Rattle.mend_judge.specs.declared.Judge.{Judge}
-use Rattle.mend_judge.specs.declared.Judged.{Judged}
+use Rattle.judge_line.specs.declared.Refusal.{Refusal}
 use Rattle.mend_judge.specs.Standing.{fresh, after_blank, Stands, Standing, Placed, Tells, Judges}
 use Rattle.mend_judge.specs.Judging.{fresh_stands}
 use Rattle.mend_lines.specs.declared.Piece.{Piece}
@@ -303,22 +303,22 @@ module _ (s : Bytes) (room₀ list₀ : List ℕ) (j : Judge) (m : Mender) (tail
 
     -- ---- Kept
 
-    module _ (h : d ≡ D.Keep) (x : Judged) (t' keys' : List ℕ) (v : Judges j t keys (take (p.end - m.at) (drop m.at s)) x t' keys') where
+    module _ (h : d ≡ D.Keep) (x : Result Judge Refusal) (t' keys' : List ℕ) (v : Judges j t keys (take (p.end - m.at) (drop m.at s)) x t' keys') where
       tells : Tells g.p g.xs (take (p.end - m.at) (drop m.at s)) x t' keys'
       tells = v.tells g.p g.xs g.standing
 
-      pub keep_refused : (n c : ℕ) → x ≡ Judged.Refused n c → (room' list' : List ℕ) → Walked s room₀ list₀ (Mended.Refused n m.out_line c) room' list'
-      keep_refused n c f room' list' =
-          let w : left limit g.p g.xs (take (p.end - m.at) (drop m.at s)) ≡ fell n c =
-          subst (λ (y : Judged). Tells g.p g.xs (take (p.end - m.at) (drop m.at s)) y t' keys') f tells in
+      pub keep_refused : (r : Refusal) → x ≡ Err r → (room' list' : List ℕ) → Walked s room₀ list₀ (Mended.Refused r.no m.out_line r.column) room' list'
+      keep_refused r f room' list' =
+          let w : left limit g.p g.xs (take (p.end - m.at) (drop m.at s)) ≡ fell r.no r.column =
+          subst (λ (y : Result Judge Refusal). Tells g.p g.xs (take (p.end - m.at) (drop m.at s)) y t' keys') f tells in
           Walked.bad
-          (still_refused limit s g.p g.xs g.out g.noted m.line q.raw (pieces (drop p.next s)) still n c (does D.Keep h)
+          (still_refused limit s g.p g.xs g.out g.noted m.line q.raw (pieces (drop p.next s)) still r.no r.column (does D.Keep h)
           (ap (left limit g.p g.xs) q.line ∙ w))
-          (ap (λ (i : ℕ). Mended.Refused n i c) g.line_is)
+          (ap (λ (i : ℕ). Mended.Refused r.no i r.column) g.line_is)
 
-      module _ (j' : Judge) (f : x ≡ Judged.On j') where
+      module _ (j' : Judge) (f : x ≡ Ok j') where
         onto : (o : J.Place) × (ys : List Raw) × (left limit g.p g.xs (take (p.end - m.at) (drop m.at s)) ≡ went o ys) × Standing j' t' keys' o ys
-        onto = subst (λ (y : Judged). Tells g.p g.xs (take (p.end - m.at) (drop m.at s)) y t' keys') f tells
+        onto = subst (λ (y : Result Judge Refusal). Tells g.p g.xs (take (p.end - m.at) (drop m.at s)) y t' keys') f tells
 
         -- the line end that is missing
         ends : line_end m.line (unfinished (split s).rest && none (pieces (drop p.next s))) ≡ line_end m.line p.missing

@@ -8,7 +8,7 @@ ghost use Rattle.mend_file.specs.Promise.{Promise, numbers_of};
 ghost use Rattle.mend_file.specs.Walked.{Walked, starts_at, end_of};
 ghost use Rattle.mend_file.specs.Promised.{Measured};
 
-use mend_judge::{Judge, Judged};
+use mend_judge::Judge;
 use mend_lines::Deed;
 use mend_out::Mender;
 use reader_pairs::KEYS;
@@ -72,21 +72,22 @@ fn walk_lines(
     let mut judge = Judge::new(false);
     let mut m = Mender::new();
     let mut tail = false;
+    // A line may be dropped, put before or looked at twice: no `for` over lines says where the next turn starts.
     while m.at < s.len() {
         let at = m.at;
         let p = mend_lines::piece_at(s, at);
         let end = p.end;
         match mend_lines::deed_at(judge, tail, s, at, end) {
             Deed::Keep => match mend_judge::judge_line(judge, &s[at..end], listed, keys) {
-                Judged::On(j) => {
+                Ok(j) => {
                     judge = j;
                     m = mend_out::keep_line(m, s, p, room, list);
                 }
-                Judged::Refused { no, column } => {
+                Err(refusal) => {
                     return Mended::Refused {
-                        no,
+                        no: refusal.no,
                         line: m.out_line,
-                        column,
+                        column: refusal.column,
                     };
                 }
             },

@@ -1,5 +1,5 @@
 -- When the state, the table of listed numbers and the keys stand for a place of the judge, and what judging a line tells.
-use Rattle.std.specs.Prelude.{ℕ, ◌*◌, ◌≤◌, ◌≡◌, List, Bool, true, length, take}
+use Rattle.std.specs.Prelude.{Result, Ok, Err, ℕ, ◌*◌, ◌≤◌, ◌≡◌, List, Bool, true, length, take}
 use Rattle.text.specs.Text.{Line}
 use Rattle.rules.specs.Forms.{Bond}
 use Rattle.rules.specs.Record.{Raw, limit}
@@ -13,7 +13,7 @@ use Rattle.reader_pairs.specs.Keys.{keys_of, AllSmall}
 use Rattle.reader_walk.specs.Stands.{place_of, bonds_in, Counted}
 use Rattle.mend_rules.specs.Mend.{some, went, fell, left}
 use Rattle.mend_judge.specs.declared.Judge.{Judge}
-use Rattle.mend_judge.specs.declared.Judged.{Judged}
+use Rattle.judge_line.specs.declared.Refusal.{Refusal}
 
 abbrev pub fresh : Bool → Judge
 fresh some = record { reader = begun true; bonds = 0; some = some }
@@ -50,11 +50,11 @@ pub record Placed (j : Judge) (t keys : List ℕ) : Type 0 where
   pub standing : Standing j t keys p xs
 
 -- what the answer tells of the line: where it leads, or its refusal
-abbrev pub Tells : J.Place → List Raw → Line → Judged → List ℕ → List ℕ → Type 0
-Tells p xs l (Judged.On j) t keys = (q : J.Place) × (ys : List Raw) × (left limit p xs l ≡ went q ys) × Standing j t keys q ys
-Tells p xs l (Judged.Refused e column) t keys = left limit p xs l ≡ fell e column
+abbrev pub Tells : J.Place → List Raw → Line → Result Judge Refusal → List ℕ → List ℕ → Type 0
+Tells p xs l (Ok j) t keys = (q : J.Place) × (ys : List Raw) × (left limit p xs l ≡ went q ys) × Standing j t keys q ys
+Tells p xs l (Err r) t keys = left limit p xs l ≡ fell r.no r.column
 
-pub record Judges (j : Judge) (t keys : List ℕ) (l : Line) (r : Judged) (t' keys' : List ℕ) : Type 0 where
+pub record Judges (j : Judge) (t keys : List ℕ) (l : Line) (r : Result Judge Refusal) (t' keys' : List ℕ) : Type 0 where
   pub tells : (p : J.Place) (xs : List Raw) → Standing j t keys p xs → Tells p xs l r t' keys'
   pub listed_size : length t' ≡ 3 * places
   pub key_room : length keys' ≡ limit

@@ -7,6 +7,7 @@ ghost use Rattle.judge_line.specs.Field.{elem};
 ghost use Rattle.mend_judge.specs.Standing.{fresh, after_blank, Placed, Judges};
 ghost use Rattle.mend_judge.specs.Bonds.{Bonding, BondJudged};
 
+use judge_line::Refusal;
 use line_counts_bonds::Bond;
 use reader_pairs::KEYS;
 use reader_places::Place;
@@ -19,13 +20,6 @@ pub struct Judge {
     pub reader: Reader,
     pub bonds: usize,
     pub some: bool,
-}
-
-// A line taken, or why it is refused.
-#[derive(Drop)]
-pub enum Judged {
-    On(Judge),
-    Refused { no: u8, column: usize },
 }
 
 impl Judge {
@@ -45,13 +39,7 @@ impl Judge {
     fn read(self, reader: Reader) -> Judge
         ensures { result ≡ record { reader = reader; bonds = self.bonds; some = self.some } }
     {
-        let bonds = self.bonds;
-        let some = self.some;
-        Judge {
-            reader,
-            bonds,
-            some,
-        }
+        Judge { reader, ..self }
     }
 
     // Where a value line or the blank line after the values must stand: after an empty line.
@@ -76,18 +64,17 @@ fn repeats(keys: &[u32; KEYS], count: usize, key: u32) -> bool
     requires keys_len { length keys.now ≡ limit }
     ensures { result ≡ elem key (take count keys.now) }
 {
-    let mut j = reader_pairs::near_key(keys, count, key);
-    while j < count {
-        if keys[j] == key {
-            return true;
-        }
-        j += 1;
-    }
-    false
+    let near = reader_pairs::near_key(keys, count, key);
+    keys[near..count].contains(&key)
 }
 
 // A bond line that is good but for its pair.
-fn judge_bond(judge: Judge, reader: Reader, b: Bond, keys: &mut [u32; KEYS]) -> Judged
+fn judge_bond(
+    judge: Judge,
+    reader: Reader,
+    b: Bond,
+    keys: &mut [u32; KEYS],
+) -> Result<Judge, Refusal>
     requires { Bonding judge reader b keys.old }
     ensures { BondJudged judge reader b keys.old result keys.new }
 {
@@ -95,10 +82,10 @@ fn judge_bond(judge: Judge, reader: Reader, b: Bond, keys: &mut [u32; KEYS]) -> 
     let some = judge.some;
     let key = reader_pairs::pair_key(b.first, b.second);
     if repeats(keys, count, key) {
-        return Judged::Refused { no: 11, column: 1 };
+        return Err(Refusal { no: 11, column: 1 });
     }
     keys[count] = key;
-    Judged::On(Judge {
+    Ok(Judge {
         reader,
         bonds: count + 1,
         some,
@@ -111,25 +98,24 @@ pub fn judge_line(
     line: &[u8],
     listed: &mut [u32; LISTED],
     keys: &mut [u32; KEYS],
-) -> Judged
+) -> Result<Judge, Refusal>
     requires { Placed judge listed.old keys.old }
     ensures { Judges judge listed.old keys.old line.now result listed.new keys.new }
 {
     let reader = judge.reader;
-    match reader.step(line, listed) {
-        Step::Next(r) => Judged::On(judge.read(r)),
-        Step::Headed(r) => Judged::On(judge.read(r)),
-        Step::Atom(r, _) => Judged::On(judge.read(r)),
+    match reader.step(line, listed)? {
+        Step::Next(r) => Ok(judge.read(r)),
+        Step::Headed(r) => Ok(judge.read(r)),
+        Step::Atom(r, _) => Ok(judge.read(r)),
         Step::Bond(r, b) => judge_bond(judge, r, b, keys),
-        Step::Ended(r) => Judged::On(judge.read(r)),
+        Step::Ended(r) => Ok(judge.read(r)),
         Step::Title {
             reader: r,
             from: _,
             to: _,
-        } => Judged::On(judge.read(r)),
-        Step::Value(r) => Judged::On(judge.read(r)),
-        Step::Blank(r) => Judged::On(judge.read(r)),
-        Step::Done => Judged::On(Judge::new(true)),
-        Step::Refused { no, column } => Judged::Refused { no, column },
+        } => Ok(judge.read(r)),
+        Step::Value(r) => Ok(judge.read(r)),
+        Step::Blank(r) => Ok(judge.read(r)),
+        Step::Done => Ok(Judge::new(true)),
     }
 }

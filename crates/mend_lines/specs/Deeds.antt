@@ -1,5 +1,5 @@
 -- What the code finds at a position, what it does there, and that this is the action of the definition.
-use Rattle.std.specs.Prelude.{ℕ, suc, ◌-◌, ◌≤◌, ◌<◌, ◌≡◌, List, ◌∷◌, map, Bool, cond, ◌&&◌, eqb, leb, length, get_or, take, drop}
+use Rattle.std.specs.Prelude.{is_ok, Result, Ok, Err, Option, Some, None, ℕ, suc, ◌-◌, ◌≤◌, ◌<◌, ◌≡◌, List, ◌∷◌, map, Bool, cond, ◌&&◌, eqb, leb, length, get_or, take, drop}
 use Rattle.std.proofs.Common.{arith, ap₂, ◌∙◌, eq-eqb, ne_eqb}
 use Rattle.std.proofs.Math.Path.{refl, sym, ap, subst}
 use Rattle.std.proofs.Math.Bool.{true, false}
@@ -10,17 +10,16 @@ use Rattle.text.specs.declared.LineAt.{LineAt}
 use Rattle.rules.specs.Record.{Raw, Molecule, Item}
 use Rattle.judge_line.specs.Got.{Got, got, bad, need}
 use Rattle.text.specs.Find.{bad_column}
-use Rattle.text.specs.declared.Found.{Found}
 use Rattle.judge_line.specs.Field.{within, none_found}
 use Rattle.judge_line.specs.Agree.{within_got, within_is}
 use Rattle.judge_line.specs.Judge.{item_of}
 use Rattle.line_text.specs.Answer.{item_got}
-use Rattle.line_text.specs.declared.ItemRead.{ItemRead}
+use Rattle.line_text.specs.declared.ItemLine.{ItemLine}
 use Rattle.judge_file.specs.Place as J
 use Rattle.judge_file.specs.Place.{first, second, third, counts, atoms, bonds, properties, over, items, values}
 use Rattle.reader_places.specs.declared.Place.{Place}
 use Rattle.reader_places.specs.declared.Place.TheVariants as P
-use Rattle.reader_places.specs.declared.LineJudged.{LineJudged}
+use Rattle.judge_line.specs.declared.Refusal.{Refusal}
 use Rattle.reader_places.specs.Places.{line_got}
 use Rattle.reader_walk.specs.Stands.{place_of}
 use Rattle.mend_rules.specs.Mend.{keep, put, lose, found, item_line, all_blank, some, action_at}
@@ -122,36 +121,42 @@ pub ruleset scan_laws = (scan_start, scan_end, scan_next, scan_stop, scan_less, 
 
 -- ---- A data header or a `$$$$` line
 
-module _ (l : Line) (x : ItemRead) (e : item_got l x ≡ item_of l) where
-  pub item_title : (from to : ℕ) → x ≡ ItemRead.Title from to → true ≡ found (item_of l)
+module _ (l : Line) (x : Result ItemLine Refusal) (e : item_got l x ≡ item_of l) where
+  pub item_title : (from to : ℕ) → x ≡ Ok (ItemLine.Title from to) → true ≡ found (item_of l)
   item_title from to h = ap found (ap (item_got l) (sym h) ∙ e)
 
-  pub item_close : x ≡ ItemRead.Close → true ≡ found (item_of l)
+  pub item_close : x ≡ Ok ItemLine.Close → true ≡ found (item_of l)
   item_close h = ap found (ap (item_got l) (sym h) ∙ e)
 
-  pub item_bad : (n c : ℕ) → x ≡ ItemRead.Bad n c → false ≡ found (item_of l)
-  item_bad n c h = ap found (ap (item_got l) (sym h) ∙ e)
+  pub item_bad : (r : Refusal) → x ≡ Err r → false ≡ found (item_of l)
+  item_bad r h = ap found (ap (item_got l) (sym h) ∙ e)
 
-pub ruleset item_laws = (item_title, item_close, item_bad)
+  pub item_ok : is_ok x ≡ found (item_of l)
+  item_ok = go x refl
+    where
+      go : (y : Result ItemLine Refusal) → x ≡ y → is_ok y ≡ found (item_of l)
+      go (Ok (ItemLine.Title from to)) h = item_title from to h
+      go (Ok ItemLine.Close) h = item_close h
+      go (Err r) h = item_bad r h
 
 -- what is refused by its length or bytes is so whatever it would stand for
 within_bad : {A B : Type 0} (longest : ℕ) (l : Line) (a : A) (y : Got B) (n c : ℕ) → within longest l (got a) ≡ bad n c → within longest l y ≡ bad n c
 unfolding within need
 within_bad {A} {B} longest l a y n c h = go (leb (length l) longest) (bad_column l) h
   where
-    go : (t : Bool) (f : Found) → need t 3 (suc longest) (none_found 4 f (got a)) ≡ bad n c → need t 3 (suc longest) (none_found 4 f y) ≡ bad n c
-    go true (Found.At k) h = cc
-    go true Found.Nothing h = absurd (let z : ◌≡◌ {A = ℕ} 0 1 = cc in omega arith)
+    go : (t : Bool) (f : Option ℕ) → need t 3 (suc longest) (none_found 4 f (got a)) ≡ bad n c → need t 3 (suc longest) (none_found 4 f y) ≡ bad n c
+    go true (Some k) h = cc
+    go true None h = absurd (let z : ◌≡◌ {A = ℕ} 0 1 = cc in omega arith)
     go false f h = cc
 
-module _ (l : Line) (x : LineJudged) (e : line_got l x ≡ within 80 l (got l)) where
-  pub line_good : (r : Bool) → x ≡ LineJudged.Good → r ≡ found (item_of l) → r ≡ item_line l
+module _ (l : Line) (x : Result (Unit {0}) Refusal) (e : line_got l x ≡ within 80 l (got l)) where
+  pub line_good : (r : Bool) → x ≡ Ok tt → r ≡ found (item_of l) → r ≡ item_line l
   unfolding item_line
   line_good r h q = q ∙ ap found (sym (within_is 80 l (item_of l) (within_got 80 l (got l) l (sym e ∙ ap (line_got l) h)).0))
 
-  pub line_bad : (n c : ℕ) → x ≡ LineJudged.Bad n c → false ≡ item_line l
+  pub line_bad : (r : Refusal) → x ≡ Err r → false ≡ item_line l
   unfolding item_line
-  line_bad n c h = sym (ap found (within_bad 80 l l (item_of l) n c (sym e ∙ ap (line_got l) h)))
+  line_bad r h = sym (ap found (within_bad 80 l l (item_of l) r.no r.column (sym e ∙ ap (line_got l) h)))
 
 pub ruleset line_laws = (line_good, line_bad)
 

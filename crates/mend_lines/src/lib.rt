@@ -8,9 +8,8 @@ ghost use Rattle.judge_line.specs.Judge.{item_of};
 ghost use Rattle.mend_rules.specs.Mend.{found, item_line};
 ghost use Rattle.mend_lines.specs.Deeds.{PieceAt, blank_from, deed_at, deed_in, at_header, at_items, at_values};
 
-use line_text::ItemRead;
 use mend_judge::Judge;
-use reader_places::{LineJudged, Place};
+use reader_places::Place;
 use text::LineAt;
 
 // A line as it came: it ends before `end`, and the next one starts at `next`. At the very end of the file its line end may be missing.
@@ -73,6 +72,7 @@ fn blank_from(s: &[u8], at: usize) -> bool
     ensures { result ≡ blank_from s.now at }
 {
     let mut i = at;
+    // The place jumps by lines of any length: a `for` would need an iterator over them, with a proof of its own.
     while i < s.len() {
         let p = piece_at(s, i);
         let end = p.end;
@@ -89,11 +89,7 @@ fn blank_from(s: &[u8], at: usize) -> bool
 fn is_good_item(line: &[u8]) -> bool
     ensures { result ≡ found (item_of line.now) }
 {
-    match line_text::item_line(line) {
-        ItemRead::Title { from: _, to: _ } => true,
-        ItemRead::Close => true,
-        ItemRead::Bad { no: _, column: _ } => false,
-    }
+    line_text::item_line(line).is_ok()
 }
 
 // A data header or a `$$$$` line.
@@ -101,8 +97,8 @@ fn is_item(line: &[u8]) -> bool
     ensures { result ≡ item_line line.now }
 {
     match reader_places::line_judged(line, 80) {
-        LineJudged::Good => is_good_item(line),
-        LineJudged::Bad { no: _, column: _ } => false,
+        Ok(()) => is_good_item(line),
+        Err(_) => false,
     }
 }
 

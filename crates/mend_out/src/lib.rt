@@ -99,14 +99,13 @@ fn store_number(list: &mut [u64], i: usize, n: u64)
 }
 
 // Bytes from a place on.
+#[tactic(auto, using(crate::specs::Out::lay_laws))]
 fn lay(room: &mut [u8], at: usize, bytes: &[u8])
     requires { at + length bytes.now < 2 ^ 64 }
     ensures { room.new ≡ sets room.old at bytes.now }
 {
-    let mut k: usize = 0;
-    while k < bytes.len() {
-        store_byte(room, at + k, bytes[k]);
-        k += 1;
+    for (k, b) in bytes.iter().enumerate() {
+        store_byte(room, at + k, *b);
     }
 }
 

@@ -1,5 +1,5 @@
 -- The lines of a text by positions, each as it came; what is unfinished is the last.
-use Rattle.std.specs.Prelude.{ℕ, suc, ◌+◌, ◌-◌, ◌≤◌, ◌<◌, ◌≡◌, refl, Bool, true, false, cond, ◌&&◌, length, get_or, take}
+use Rattle.std.specs.Prelude.{Option, Some, None, ℕ, suc, ◌+◌, ◌-◌, ◌≤◌, ◌<◌, ◌≡◌, refl, Bool, true, false, cond, ◌&&◌, length, get_or, take}
 use Rattle.std.proofs.Common.{arith, ◌∙◌, length-append, drop_of_length-le, get_or-drop, drop-drop, take_at, length-take-le, take-suc, take_all, eqb-true}
 use Rattle.std.proofs.Math.Path.{sym, ap}
 use mathlib.Core.List.{List, [], ◌∷◌, ◌++◌, append-nil, append_assoc}
@@ -12,8 +12,6 @@ use Rattle.text.specs.Text.{Bytes, Line, LF, CR, Without, Ended}
 use Rattle.text.specs.Find.{first_from, is_lf, line_to, line_at}
 use Rattle.text.specs.First.{each_as, first_within, first_passes, first_before}
 use Rattle.text.specs.Cut.{Cut, ended, ended_one, split, cut, cut_line, line_cut, line_within, split_rest, split_line, rest_clean}
-use Rattle.text.specs.declared.Found.{Found}
-use Rattle.text.specs.declared.Found.TheVariants.{At, Nothing}
 use Rattle.text.specs.declared.LineAt.{LineAt}
 use Rattle.mend_rules.specs.Named.{none}
 use Rattle.mend_rules.specs.Text.{tail_of, pieces, unfinished}
@@ -25,10 +23,10 @@ record Found-line (s : Bytes) (at n : ℕ) : Type 0 where
   is : drop at s ≡ raw ++ (LF ∷ drop n s)
   size : length raw + 1 ≡ n - at
 
-found_by_lem : (s : Bytes) (at e n : ℕ) (f : Found) → first_from is_lf at (drop at s) ≡ f → line_to s at f ≡ LineAt.Line e n → Found-line s at n
+found_by_lem : (s : Bytes) (at e n : ℕ) (f : Option ℕ) → first_from is_lf at (drop at s) ≡ f → line_to s at f ≡ LineAt.Line e n → Found-line s at n
 unfolding line_to
-found_by_lem s at e n Nothing found h = absurd (let z : ◌≡◌ {A = ℕ} 0 1 = cc in omega arith)
-found_by_lem s at e n (At k) found h =
+found_by_lem s at e n None found h = absurd (let z : ◌≡◌ {A = ℕ} 0 1 = cc in omega arith)
+found_by_lem s at e n (Some k) found h =
     let next : k + 1 ≡ n = cc in
     let w = first_within is_lf at k (drop at s) found in
     let inside : k < length s = omega (arith, length-drop at s) in
@@ -177,7 +175,7 @@ module _ (s : Bytes) (at : ℕ) (h : line_at s at ≡ LineAt.Unfinished) (some :
       (ended_one (Ended.lf (λ before e. not_cr (take (length s - 1 - at) (drop at s)) before (get_or s (length s - 1) 0) ne (sym (last_of s at some) ∙ e)))
       ∙ sym (take_all (length s - at) (drop at s) (omega (arith, length-drop at s))))
 
--- ---- At the end there is none, and at the start a line begins
+-- ---- Some the end there is none, and at the start a line begins
 
 pub no_piece : (s : Bytes) (at : ℕ) → length s ≤ at → pieces (drop at s) ≡ []
 no_piece s at h = rw (drop_of_length-le s {i = at} h) no_pieces

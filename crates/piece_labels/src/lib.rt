@@ -23,14 +23,13 @@ fn own_label(i: usize, n: usize) -> u32
 }
 
 // Gives each of n atoms its own number, and nothing behind them.
+#[tactic(auto, using(crate::proofs::Loops::numbering_laws))]
 fn number(labels: &mut [u32; LIMIT], n: usize)
     requires { (n ≤ limit) × (length labels.old ≡ limit) }
     ensures { (length labels.new ≡ limit) × Numbered n labels.new }
 {
-    let mut i: usize = 0;
-    while i < LIMIT {
+    for i in 0..LIMIT {
         labels[i] = own_label(i, n);
-        i += 1;
     }
 }
 
@@ -45,14 +44,13 @@ fn moved(label: u32, high: u32, low: u32) -> u32
 }
 
 // Makes every label `high` the label `low`.
+#[tactic(auto, using(crate::proofs::Loops::moving_laws))]
 fn relabel(labels: &mut [u32; LIMIT], n: usize, high: u32, low: u32)
     requires { (n ≤ limit) × (length labels.old ≡ limit) }
     ensures { (length labels.new ≡ limit) × Moved n high low labels.old labels.new }
 {
-    let mut i: usize = 0;
-    while i < n {
+    for i in 0..n {
         labels[i] = moved(labels[i], high, low);
-        i += 1;
     }
 }
 
@@ -99,12 +97,10 @@ fn join_all(labels: &mut [u32; LIMIT], n: usize, bonds: &[i32], m: usize)
     requires { BondTable n m bonds.now × (length labels.old ≡ limit) × Numbered n labels.old }
     ensures { (length labels.new ≡ limit) × Labels n (bonds_in bonds.now m) labels.new }
 {
-    let mut k: usize = 0;
-    while k < m {
+    for k in 0..m {
         let first = atom_at(bonds, n, BOND * k);
         let second = atom_at(bonds, n, BOND * k + 1);
         join(labels, n, first, second);
-        k += 1;
     }
 }
 

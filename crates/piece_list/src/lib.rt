@@ -17,12 +17,10 @@ fn size_of(labels: &[u32; LIMIT], n: usize, i: usize) -> u32
 {
     let head = i as u32 + 1;
     let mut atoms = [0u64; sets_words::WORDS];
-    let mut j = i;
-    while j < n {
+    for j in i..n {
         if labels[j] == head {
             sets_words::put(&mut atoms, j);
         }
-        j += 1;
     }
     sets_words::size(&atoms)
 }
@@ -59,10 +57,8 @@ fn list_pieces(
     ensures { Listed labels.now n heads.new sizes.new result }
 {
     let mut count: usize = 0;
-    let mut i: usize = 0;
-    while i < n {
+    for i in 0..n {
         count = list_atom(labels, n, heads, sizes, i, count);
-        i += 1;
     }
     count
 }

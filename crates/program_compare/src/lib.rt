@@ -9,11 +9,11 @@ ghost use Rattle.program_compare.specs.Fitting.{Fitting};
 
 use compare_record::Numbers;
 use compare_rules::Count;
-use program_compare_lines::{PATTERNS, ROOM, Row, Spot, Told, Way};
-use program_io::{Out, System, Target, Text};
+use program_compare_lines::{Part, ROOM, Row, Side, Spot, Told, Way};
+use program_io::{Out, System, Target, Text, Window};
 use program_json_rows::{ATOMS, BONDS};
 use program_verdict::Verdict;
-use source::{BUFFER, Met, Shape, Source};
+use source::{BUFFER, Shape};
 use std::fs::File;
 
 // So many differences are listed at a time: a pair of records that has more is compared again, and those written are passed over.
@@ -33,20 +33,19 @@ struct Sum {
 impl Sum {
     // One place more, with so many differences.
     fn with(self, out: Out, differences: u64) -> Sum {
-        let mut sum = self;
-        sum.out = out;
-        sum.differences = program_verdict::plus(self.differences, differences);
-        sum.records = program_verdict::plus(self.records, 1);
-        if 0 < differences {
-            sum.places = program_verdict::plus(self.places, 1);
+        Sum {
+            out,
+            differences: self.differences.saturating_add(differences),
+            places: self.places.saturating_add(u64::from(0 < differences)),
+            records: self.records.saturating_add(1),
         }
-        sum
     }
 }
 
 // ---- A pair of records
 
 // Whether a record's numbers are those of a reading, and its rows stand in tables of these lengths.
+#[tactic(auto, using(crate::specs::Fitting::not_fitting, crate::specs::Fitting::fitting))]
 fn is_fitting(x: Numbers, ta: usize, tb: usize) -> bool
     ensures { result ≡ true → Fitting x ta tb }
 {
@@ -69,6 +68,7 @@ fn is_fitting(x: Numbers, ta: usize, tb: usize) -> bool
 }
 
 // What differs between two records, so many passed over.
+#[tactic(auto, using(crate::specs::Fitting::fit_laws))]
 fn list_apart(
     list: &mut [i64],
     skip: usize,
@@ -88,69 +88,57 @@ fn list_apart(
     if 9223372036854775807 < position {
         return count;
     }
-    if is_fitting(a, ta.len(), tb.len()) {
-        if is_fitting(b, ua.len(), ub.len()) {
-            return compare_record::records_apart(
-                list,
-                count,
-                position,
-                headers,
-                a,
-                ta,
-                tb,
-                items,
-                new_headers,
-                b,
-                ua,
-                ub,
-                new_items,
-            );
-        }
+    if !is_fitting(a, ta.len(), tb.len()) || !is_fitting(b, ua.len(), ub.len()) {
+        return count;
     }
-    count
+    compare_record::records_apart(
+        list,
+        count,
+        position,
+        headers,
+        a,
+        ta,
+        tb,
+        items,
+        new_headers,
+        b,
+        ua,
+        ub,
+        new_items,
+    )
 }
 
 // How many differences of a pair are told, where there are so many.
 fn rows_of(way: Way, seen: usize) -> usize {
     if way.first {
-        if seen > 1 {
-            return 1;
-        }
+        return seen.min(1);
     }
     seen
 }
 
 // A record that one file alone has: the first, side 1, or the second, side 2.
-fn put_alone(
-    sum: Sum,
-    room: &mut [u8; ROOM],
-    patterns: &[u8],
-    json: bool,
-    side: u64,
-    headers: &[u8],
-) -> Sum {
+fn put_alone(sum: Sum, room: &mut [u8; ROOM], way: Way, side: Side, headers: &[u8]) -> Sum {
     let row = Row {
-        record: program_verdict::plus(sum.records, 1),
-        part: 10,
+        record: sum.records.saturating_add(1),
+        part: Part::Record,
         place: 0,
         field: 0,
-        side,
+        side: Some(side),
         left: 0,
         right: 0,
     };
     let begun = sum.out;
-    let out = program_compare_lines::put_plain(begun, room, patterns, json, row, headers);
+    let out = program_compare_lines::put_plain(begun, room, way, row, headers);
     sum.with(out, 1)
 }
 
-// The differences at a place of both files, window after window; one of them may have no record there. Turns are counted so that the loop ends, and no run
-// uses them up.
-fn put_place(
+// The differences of a pair of records, window after window. Turns are counted so that the loop ends, and no run uses
+// them up.
+fn put_pair(
     sum: Sum,
     room: &mut [u8; ROOM],
     list: &mut [i64; LIST],
     way: Way,
-    patterns: &[u8],
     s: &[u8],
     x: Shape,
     ta: &[i32; ATOMS],
@@ -160,15 +148,9 @@ fn put_place(
     ua: &[i32; ATOMS],
     ub: &[i32; BONDS],
 ) -> Sum {
-    let number = program_verdict::plus(sum.records, 1);
-    let headers = program_io::front(s, x.header_end);
-    let new_headers = program_io::front(u, y.header_end);
-    if x.length == 0 {
-        return put_alone(sum, room, patterns, way.json, 2, new_headers);
-    }
-    if y.length == 0 {
-        return put_alone(sum, room, patterns, way.json, 1, headers);
-    }
+    let number = sum.records.saturating_add(1);
+    let headers = source::headers_of(s, x);
+    let new_headers = source::headers_of(u, y);
     let begun = sum.out;
     let position = number as usize;
     let items = source::items_of(s, x);
@@ -179,8 +161,7 @@ fn put_place(
         new: Spot::new(),
     };
     let mut skip: usize = 0;
-    let mut turns = u64::MAX;
-    loop {
+    for _ in 0..u64::MAX {
         let count = list_apart(
             list,
             skip,
@@ -200,8 +181,7 @@ fn put_place(
         told = program_compare_lines::put_rows(
             told,
             room,
-            patterns,
-            way.json,
+            way,
             list,
             rows,
             headers,
@@ -210,67 +190,25 @@ fn put_place(
             new_items,
         );
         if rows <= WINDOW {
-            return sum.with(told.out, program_io::plus(skip, rows) as u64);
+            return sum.with(told.out, skip.saturating_add(rows) as u64);
         }
-        skip = program_io::plus(skip, WINDOW);
-        if turns < 1 {
-            return sum.with(told.out, skip as u64);
-        }
-        turns -= 1;
+        skip = skip.saturating_add(WINDOW);
     }
+    sum.with(told.out, skip as u64)
 }
 
 // ---- Two files
 
-// What stands at one place of both files: a record in one of them at least, or what ends the walk.
+// Which file could not be read to its end as it was judged, and why.
 #[derive(Drop)]
-enum Turn {
-    Place,
-    Over,
-    LeftFailed(Verdict),
-    RightFailed(Verdict),
-}
-
-// How the walk ended, and what was found.
-#[derive(Drop)]
-struct Held {
-    sum: Sum,
-    turn: Turn,
-}
-
-// By what was met in the second file, and what to do where that has no record.
-fn by_right(right: Met, end: Turn) -> Turn {
-    match right {
-        Met::Record => Turn::Place,
-        Met::End => end,
-        Met::Short => Turn::RightFailed(Verdict::Changed),
-        Met::Failed(v) => Turn::RightFailed(v),
-    }
-}
-
-fn turn_of(left: Met, right: Met) -> Turn {
-    match left {
-        Met::Record => by_right(right, Turn::Place),
-        Met::End => by_right(right, Turn::Over),
-        Met::Short => Turn::LeftFailed(Verdict::Changed),
-        Met::Failed(v) => Turn::LeftFailed(v),
-    }
-}
-
-fn begin() -> Source {
-    Source {
-        at: 0,
-        filled: 0,
-        ended: false,
-    }
+enum Failed {
+    First(Verdict),
+    Second(Verdict),
 }
 
 // Whether the walk need not go on, after so many places where the files differ.
 fn is_enough(way: Way, places: u64) -> bool {
-    if way.first {
-        return places > 0;
-    }
-    false
+    way.first && places > 0
 }
 
 // The second reading of both, from their starts. Turns are counted so that the loop ends, and no run uses them up.
@@ -279,58 +217,47 @@ fn hold(
     first: &File,
     second: &File,
     way: Way,
-    patterns: &[u8],
     left: &mut [u8; BUFFER],
     right: &mut [u8; BUFFER],
     room: &mut [u8; ROOM],
-) -> Held {
+) -> Result<Sum, Failed> {
     let mut list = [0i64; LIST];
     let mut ta = [0i32; ATOMS];
     let mut tb = [0i32; BONDS];
     let mut ua = [0i32; ATOMS];
     let mut ub = [0i32; BONDS];
-    let mut a = begin();
-    let mut b = begin();
+    let mut a = Window::new();
+    let mut b = Window::new();
     let mut sum = Sum {
         out: Out::new(system),
         differences: 0,
         places: 0,
         records: 0,
     };
-    let mut turns = u64::MAX;
-    loop {
-        let l = a.next(first, left, &mut ta, &mut tb);
-        let r = b.next(second, right, &mut ua, &mut ub);
-        a = l.source;
-        b = r.source;
-        let x = l.shape;
-        let y = r.shape;
-        let left_met = l.met;
-        let right_met = r.met;
-        let turn = turn_of(left_met, right_met);
-        let Turn::Place = turn else {
-            return Held { sum, turn };
+    for _ in 0..u64::MAX {
+        let l = source::next(&mut a, first, left, &mut ta, &mut tb).map_err(Failed::First)?;
+        let r = source::next(&mut b, second, right, &mut ua, &mut ub).map_err(Failed::Second)?;
+        sum = match (l, r) {
+            (None, None) => return Ok(sum),
+            (Some(x), None) => {
+                let s = source::bytes_of(left, x);
+                put_alone(sum, room, way, Side::Old, source::headers_of(s, x))
+            }
+            (None, Some(y)) => {
+                let u = source::bytes_of(right, y);
+                put_alone(sum, room, way, Side::New, source::headers_of(u, y))
+            }
+            (Some(x), Some(y)) => {
+                let s = source::bytes_of(left, x);
+                let u = source::bytes_of(right, y);
+                put_pair(sum, room, &mut list, way, s, x, &ta, &tb, u, y, &ua, &ub)
+            }
         };
-        let s = source::bytes_of(left, x);
-        let u = source::bytes_of(right, y);
-        sum = put_place(
-            sum, room, &mut list, way, patterns, s, x, &ta, &tb, u, y, &ua, &ub,
-        );
-        let is_unread = sum.out.is_cut();
-        if is_unread || is_enough(way, sum.places) {
-            return Held {
-                sum,
-                turn: Turn::Over,
-            };
+        if sum.out.is_cut() || is_enough(way, sum.places) {
+            return Ok(sum);
         }
-        if turns < 1 {
-            return Held {
-                sum,
-                turn: Turn::LeftFailed(Verdict::Endless),
-            };
-        }
-        turns -= 1;
     }
+    Err(Failed::First(Verdict::Endless))
 }
 
 // ---- What is said in the end
@@ -339,54 +266,47 @@ fn hold(
 fn summary(sum: Sum) -> Row {
     Row {
         record: sum.records,
-        part: by_count(sum.differences),
+        part: if sum.differences == 0 {
+            Part::Same
+        } else {
+            Part::Sums
+        },
         place: sum.places,
         field: sum.differences,
-        side: 0,
+        side: None,
         left: 0,
         right: 0,
     }
 }
 
-// The pattern that sums up.
-fn by_count(differences: u64) -> u64 {
-    if differences == 0 {
-        return 12;
-    }
-    13
-}
-
 // What programs read of it: the number of differences, or of the first record that differs.
 fn announced(sum: Sum, way: Way) -> Text {
     if sum.differences == 0 {
-        return Text::new().word(b"same\n");
+        return Text::new().print("same\n");
     }
-    let line = Text::new().word(b"differ ");
-    if way.first {
-        return line.number(sum.records).byte(b'\n');
-    }
-    line.number(sum.differences).byte(b'\n')
-}
-
-fn put_summary(sum: Sum, room: &mut [u8; ROOM], patterns: &[u8], way: Way) -> Out {
-    let out = sum.out;
-    if way.json {
-        return out;
-    }
-    if way.first {
-        return out;
-    }
-    let none = program_io::front(patterns, 0);
-    program_compare_lines::put_plain(out, room, patterns, false, summary(sum), none)
-}
-
-fn conclude(system: &System, sum: Sum, room: &mut [u8; ROOM], patterns: &[u8], way: Way) {
-    let told = put_summary(sum, room, patterns, way);
-    let out = told.flush(room);
-    if out.good {
-        let _ = announced(sum, way).write(system, Target::Channel);
+    let number = if way.first {
+        sum.records
     } else {
-        program_verdict::tell(system, b"", Verdict::Unwritten(out.why));
+        sum.differences
+    };
+    Text::new().print(format_args!("differ {number}\n"))
+}
+
+fn put_summary(sum: Sum, room: &mut [u8; ROOM], way: Way) -> Out {
+    let out = sum.out;
+    if way.json || way.first {
+        return out;
+    }
+    program_compare_lines::put_plain(out, room, way, summary(sum), b"")
+}
+
+fn conclude(system: &System, sum: Sum, room: &mut [u8; ROOM], way: Way) {
+    let told = put_summary(sum, room, way);
+    match told.flush(room).done {
+        Ok(()) => {
+            let _ = announced(sum, way).write(system, Target::Channel);
+        }
+        Err(why) => program_verdict::tell(system, b"", Verdict::Unwritten(why)),
     }
 }
 
@@ -395,10 +315,7 @@ fn conclude(system: &System, sum: Sum, room: &mut [u8; ROOM], patterns: &[u8], w
 // A file's verdict, told; whether it is accepted.
 fn is_accepted(system: &System, name: &[u8], v: Verdict) -> bool {
     program_verdict::tell(system, name, v);
-    match v {
-        Verdict::Accepted { records: _ } => true,
-        _ => false,
-    }
+    matches!(v, Verdict::Accepted { .. })
 }
 
 fn hold_accepted(
@@ -412,13 +329,10 @@ fn hold_accepted(
     right: &mut [u8; BUFFER],
 ) {
     let mut room = [0u8; ROOM];
-    let patterns = program_compare_lines::patterns_of(&PATTERNS, way);
-    let held = hold(system, old, new, way, patterns, left, right, &mut room);
-    let turn = held.turn;
-    match turn {
-        Turn::LeftFailed(v) => program_verdict::tell(system, first, v),
-        Turn::RightFailed(v) => program_verdict::tell(system, second, v),
-        _ => conclude(system, held.sum, &mut room, patterns, way),
+    match hold(system, old, new, way, left, right, &mut room) {
+        Ok(sum) => conclude(system, sum, &mut room, way),
+        Err(Failed::First(v)) => program_verdict::tell(system, first, v),
+        Err(Failed::Second(v)) => program_verdict::tell(system, second, v),
     }
 }
 

@@ -6,7 +6,7 @@ mod say;
 
 pub use lines::Spot;
 use program_io::{Out, Text};
-pub use say::Row;
+pub use say::{Part, Row, Side};
 
 // Output is gathered in room of so many bytes.
 pub const ROOM: usize = 65536;
@@ -30,11 +30,9 @@ pub struct Way {
 // ---- Where the texts stand
 
 // On to the line of a difference, where the items have one.
-fn sought(spot: Spot, row: Row, other: u64, items: &[u8]) -> Spot {
-    if row.part < 7 {
-        return spot;
-    }
-    if row.side == other {
+fn sought(spot: Spot, row: Row, other: Side, items: &[u8]) -> Spot {
+    let is_of_items = matches!(row.part, Part::Name | Part::Value | Part::Item);
+    if !is_of_items || row.side == Some(other) {
         return spot;
     }
     spot.seek(items, row.place as usize, row.field as usize)
@@ -42,147 +40,117 @@ fn sought(spot: Spot, row: Row, other: u64, items: &[u8]) -> Spot {
 
 // The text at the place of a difference.
 fn text_of<'a>(row: Row, headers: &'a [u8], items: &'a [u8], spot: Spot) -> &'a [u8] {
-    if row.part == 1 {
-        return lines::line_of(headers, row.place);
+    match row.part {
+        Part::Header => lines::line_of(headers, row.place),
+        Part::Name => spot.name_in(items),
+        _ => spot.text_in(items),
     }
-    if row.part == 7 {
-        return spot.name_in(items);
-    }
-    spot.text_in(items)
 }
 
 // ---- Patterns
 
-// Rows of so many bytes, each a text that ends in LF.
-const ROW: usize = 66;
+fn for_people(row: Row) -> &'static [u8] {
+    match row.part {
+        Part::Header => b"record RT, header line P: O -> W\n",
+        Part::Atoms => b"record RT, atoms: O -> W\n",
+        Part::Bonds => b"record RT, bonds: O -> W\n",
+        Part::Chiral => b"record RT, chiral: O -> W\n",
+        Part::Atom => b"record RT, atom P, F: O -> W\n",
+        Part::Bond => b"record RT, bond P, F: O -> W\n",
+        Part::Name => b"record RT, item P, name: O -> W\n",
+        Part::Value if row.side.is_some() =>
+            b"record RT, item P N, line L, only in the S file: V\n",
+        Part::Value => b"record RT, item P N, line L: O -> W\n",
+        Part::Item => b"record RT, item P N: only in the S file\n",
+        Part::Record => b"record RT: only in the S file\n",
+        Part::Same => b"no difference in R recordX\n",
+        Part::Sums => b"L differenceY in P of R recordX\n",
+    }
+}
 
-const NAME: usize = 16;
+// Nothing sums up for programs.
+fn for_programs(row: Row) -> &'static [u8] {
+    match row.part {
+        Part::Header => b"{\"record\":R,\"part\":\"header\",\"line\":P,\"old\":O,\"new\":W}\n",
+        Part::Atoms => b"{\"record\":R,\"part\":\"atoms\",\"old\":O,\"new\":W}\n",
+        Part::Bonds => b"{\"record\":R,\"part\":\"bonds\",\"old\":O,\"new\":W}\n",
+        Part::Chiral => b"{\"record\":R,\"part\":\"chiral\",\"old\":O,\"new\":W}\n",
+        Part::Atom =>
+            b"{\"record\":R,\"part\":\"atom\",\"number\":P,\"field\":\"F\",\"old\":O,\"new\":W}\n",
+        Part::Bond =>
+            b"{\"record\":R,\"part\":\"bond\",\"number\":P,\"field\":\"F\",\"old\":O,\"new\":W}\n",
+        Part::Name => b"{\"record\":R,\"part\":\"name\",\"item\":P,\"old\":O,\"new\":W}\n",
+        Part::Value =>
+            b"{\"record\":R,\"part\":\"value\",\"item\":P,\"line\":L,\"old\":O,\"new\":W}\n",
+        Part::Item => b"{\"record\":R,\"part\":\"item\",\"item\":P,\"only\":\"S\"}\n",
+        Part::Record => b"{\"record\":R,\"part\":\"record\",\"only\":\"S\"}\n",
+        Part::Same | Part::Sums => b"\n",
+    }
+}
 
-// For people, for programs, for the first record that differs: a pattern for each part, and one for a value line that stands on one side only; for people two
-// more that sum up.
-pub const PATTERNS: [u8; 2310] = *b"\
-    record RT, header line P: O -> W\n                                 \
-    record RT, atoms: O -> W\n                                         \
-    record RT, bonds: O -> W\n                                         \
-    record RT, chiral: O -> W\n                                        \
-    record RT, atom P, F: O -> W\n                                     \
-    record RT, bond P, F: O -> W\n                                     \
-    record RT, item P, name: O -> W\n                                  \
-    record RT, item P N, line L: O -> W\n                              \
-    record RT, item P N: only in the S file\n                          \
-    record RT: only in the S file\n                                    \
-    record RT, item P N, line L, only in the S file: V\n               \
-    no difference in R recordX\n                                       \
-    L differenceY in P of R recordX\n                                  \
-    {\"record\":R,\"part\":\"header\",\"line\":P,\"old\":O,\"new\":W}\n            \
-    {\"record\":R,\"part\":\"atoms\",\"old\":O,\"new\":W}\n                      \
-    {\"record\":R,\"part\":\"bonds\",\"old\":O,\"new\":W}\n                      \
-    {\"record\":R,\"part\":\"chiral\",\"old\":O,\"new\":W}\n                     \
-    {\"record\":R,\"part\":\"atom\",\"number\":P,\"field\":\"F\",\"old\":O,\"new\":W}\n\
-    {\"record\":R,\"part\":\"bond\",\"number\":P,\"field\":\"F\",\"old\":O,\"new\":W}\n\
-    {\"record\":R,\"part\":\"name\",\"item\":P,\"old\":O,\"new\":W}\n              \
-    {\"record\":R,\"part\":\"value\",\"item\":P,\"line\":L,\"old\":O,\"new\":W}\n    \
-    {\"record\":R,\"part\":\"item\",\"item\":P,\"only\":\"S\"}\n                   \
-    {\"record\":R,\"part\":\"record\",\"only\":\"S\"}\n                          \
-    {\"record\":R,\"part\":\"value\",\"item\":P,\"line\":L,\"old\":O,\"new\":W}\n    \
-    record RT differs\n                                                \
-    record RT differs\n                                                \
-    record RT differs\n                                                \
-    record RT differs\n                                                \
-    record RT differs\n                                                \
-    record RT differs\n                                                \
-    record RT differs\n                                                \
-    record RT differs\n                                                \
-    record RT differs\n                                                \
-    record RT is in the M file only\n                                  \
-    record RT differs\n                                                \
-";
+fn for_first(row: Row) -> &'static [u8] {
+    match row.part {
+        Part::Record => b"record RT is in the M file only\n",
+        _ => b"record RT differs\n",
+    }
+}
 
-// Names of an atom's numbers and of a bond's, and of the two files.
-const NAMES: [u8; 416] = *b"\
-    x\n              \
-    y\n              \
-    z\n              \
-    symbol\n         \
-    mass_difference\n\
-    charge\n         \
-    radical\n        \
-    isotope\n        \
-    parity\n         \
-    hydrogen_count\n \
-    care\n           \
-    valence\n        \
-    h0\n             \
-    map\n            \
-    inversion\n      \
-    exact\n          \
-    first\n          \
-    second\n         \
-    type\n           \
-    stereo\n         \
-    topology\n       \
-    centre\n         \
-    old\n            \
-    new\n            \
-    first\n          \
-    second\n         \
-";
-
-// The patterns that are asked for.
-pub fn patterns_of(table: &[u8], way: Way) -> &[u8] {
+// A text that ends in LF.
+fn pattern_of(way: Way, row: Row) -> &'static [u8] {
     if way.first {
-        return program_io::tail(table, 24 * ROW);
+        return for_first(row);
     }
     if way.json {
-        return program_io::tail(table, 13 * ROW);
+        return for_programs(row);
     }
-    table
+    for_people(row)
 }
 
-// The place of a difference's pattern.
-fn place_of(row: Row) -> usize {
-    if row.part == 8 {
-        if row.side > 0 {
-            return 10 * ROW;
-        }
-    }
-    if row.part == 0 {
-        return 0;
-    }
-    if row.part > 13 {
-        return 0;
-    }
-    ROW * (row.part - 1) as usize
-}
+// Names of an atom's numbers and of a bond's.
+const ATOM_FIELDS: [&str; 16] = [
+    "x",
+    "y",
+    "z",
+    "symbol",
+    "mass_difference",
+    "charge",
+    "radical",
+    "isotope",
+    "parity",
+    "hydrogen_count",
+    "care",
+    "valence",
+    "h0",
+    "map",
+    "inversion",
+    "exact",
+];
+
+const BOND_FIELDS: [&str; 6] = ["first", "second", "type", "stereo", "topology", "centre"];
 
 // The title of a record, which is its first header line, behind its number.
 fn put_title(out: Out, room: &mut [u8], headers: &[u8]) -> Out {
     let title = lines::line_of(headers, 1);
-    if title.len() == 0 {
+    if title.is_empty() {
         return out;
     }
     out.byte(room, b' ').bytes(room, title)
 }
 
 // What the old file has; where a text stands in the new one only, what that has.
-fn put_side(out: Out, room: &mut [u8], side: u64, old: &[u8], new: &[u8]) -> Out {
-    if side == 2 {
+fn put_side(out: Out, room: &mut [u8], side: Option<Side>, old: &[u8], new: &[u8]) -> Out {
+    if side == Some(Side::New) {
         return out.bytes(room, new);
     }
     out.bytes(room, old)
 }
 
 // Whether no text stands at the place of a difference: figures differ, or for programs the text stands on the other side only.
-fn is_short(json: bool, row: Row, other: u64) -> bool {
-    if row.part > 1 {
-        if row.part < 7 {
-            return true;
-        }
+fn is_short(json: bool, row: Row, other: Side) -> bool {
+    match row.part {
+        Part::Atoms | Part::Bonds | Part::Chiral | Part::Atom | Part::Bond => true,
+        _ => json && row.side == Some(other),
     }
-    if json {
-        return row.side == other;
-    }
-    false
 }
 
 // A figure, or a text.
@@ -192,7 +160,7 @@ fn put_value(
     json: bool,
     row: Row,
     v: i64,
-    other: u64,
+    other: Side,
     line: &[u8],
 ) -> Out {
     if is_short(json, row, other) {
@@ -204,37 +172,24 @@ fn put_value(
     out.bytes(room, line)
 }
 
-fn is_mark(b: u8) -> bool {
-    if b < b'A' {
-        return false;
+// The name of a number of an atom or a bond; they count from 1.
+fn field_name(row: Row) -> &'static str {
+    let names: &[&str] = match row.part {
+        Part::Atom => &ATOM_FIELDS,
+        _ => &BOND_FIELDS,
+    };
+    match row.field.checked_sub(1) {
+        Some(k) => names.get(k as usize).copied().unwrap_or(""),
+        None => "",
     }
-    b <= b'Z'
 }
 
-// Name k, from 1 on.
-fn word(k: usize) -> Text {
-    if k == 0 {
-        return Text::new();
+fn by_side(side: Option<Side>, old: &'static str, new: &'static str) -> &'static str {
+    match side {
+        Some(Side::Old) => old,
+        Some(Side::New) => new,
+        None => "",
     }
-    if k > 26 {
-        return Text::new();
-    }
-    let names = program_io::tail(&NAMES, NAME * (k - 1));
-    Text::new().word(lines::line_of(names, 1))
-}
-
-// The name that a letter stands for: of a number of an atom or a bond, or of a file.
-fn name_of(b: u8, row: Row) -> usize {
-    if b == b'F' {
-        if row.part == 5 {
-            return row.field as usize;
-        }
-        return program_io::plus(row.field as usize, 16);
-    }
-    if b == b'S' {
-        return program_io::plus(row.side as usize, 22);
-    }
-    program_io::plus(row.side as usize, 24)
 }
 
 fn plural(n: u64) -> Text {
@@ -252,7 +207,9 @@ fn short(b: u8, row: Row) -> Text {
         b'L' => Text::new().number(row.field),
         b'X' => plural(row.record),
         b'Y' => plural(row.field),
-        _ => word(name_of(b, row)),
+        b'F' => Text::new().print(field_name(row)),
+        b'S' => Text::new().print(by_side(row.side, "old", "new")),
+        _ => Text::new().print(by_side(row.side, "first", "second")),
     }
 }
 
@@ -273,8 +230,8 @@ fn put_piece(
         b'T' => put_title(out, room, headers),
         b'N' => put_side(out, room, row.side, name, new_name),
         b'V' => put_side(out, room, row.side, old, new),
-        b'O' => put_value(out, room, json, row, row.left, 2, old),
-        b'W' => put_value(out, room, json, row, row.right, 1, new),
+        b'O' => put_value(out, room, json, row, row.left, Side::New, old),
+        b'W' => put_value(out, room, json, row, row.right, Side::Old, new),
         _ => out.text(room, short(b, row)),
     }
 }
@@ -283,8 +240,7 @@ fn put_piece(
 fn put_line(
     out: Out,
     room: &mut [u8; ROOM],
-    patterns: &[u8],
-    json: bool,
+    way: Way,
     row: Row,
     headers: &[u8],
     name: &[u8],
@@ -292,37 +248,23 @@ fn put_line(
     old: &[u8],
     new: &[u8],
 ) -> Out {
-    let pattern = program_io::tail(patterns, place_of(row));
     let mut next = out;
-    let mut i: usize = 0;
-    while i < pattern.len() {
-        let b = pattern[i];
-        if is_mark(b) {
-            next = put_piece(next, room, b, json, row, headers, name, new_name, old, new);
+    for &b in pattern_of(way, row) {
+        if b.is_ascii_uppercase() {
+            next = put_piece(
+                next, room, b, way.json, row, headers, name, new_name, old, new,
+            );
         } else {
             next = next.byte(room, b);
         }
-        if b == b'\n' {
-            return next;
-        }
-        i += 1;
     }
     next
 }
 
 // A line that needs no texts but the record's header lines.
-pub fn put_plain(
-    out: Out,
-    room: &mut [u8; ROOM],
-    patterns: &[u8],
-    json: bool,
-    row: Row,
-    headers: &[u8],
-) -> Out {
+pub fn put_plain(out: Out, room: &mut [u8; ROOM], way: Way, row: Row, headers: &[u8]) -> Out {
     let none = program_io::front(headers, 0);
-    put_line(
-        out, room, patterns, json, row, headers, none, none, none, none,
-    )
+    put_line(out, room, way, row, headers, none, none, none, none)
 }
 
 // ---- Differences
@@ -331,8 +273,7 @@ pub fn put_plain(
 fn put_row<'a, 'b>(
     told: Told,
     room: &mut [u8; ROOM],
-    patterns: &[u8],
-    json: bool,
+    way: Way,
     row: Row,
     headers: &'a [u8],
     items: &'a [u8],
@@ -340,16 +281,15 @@ fn put_row<'a, 'b>(
     new_items: &'b [u8],
 ) -> Told {
     let out = told.out;
-    let old = sought(told.old, row, 2, items);
-    let new = sought(told.new, row, 1, new_items);
+    let old = sought(told.old, row, Side::New, items);
+    let new = sought(told.new, row, Side::Old, new_items);
     let left = text_of(row, headers, items, old);
     let right = text_of(row, new_headers, new_items, new);
     Told {
         out: put_line(
             out,
             room,
-            patterns,
-            json,
+            way,
             row,
             headers,
             old.name_in(items),
@@ -366,8 +306,7 @@ fn put_row<'a, 'b>(
 pub fn put_rows<'a, 'b>(
     told: Told,
     room: &mut [u8; ROOM],
-    patterns: &[u8],
-    json: bool,
+    way: Way,
     list: &[i64],
     count: usize,
     headers: &'a [u8],
@@ -376,25 +315,18 @@ pub fn put_rows<'a, 'b>(
     new_items: &'b [u8],
 ) -> Told {
     let mut next = told;
-    let mut left = count;
-    let mut at: usize = 0;
-    while left > 0 {
-        if list.len() <= at {
-            return next;
-        }
+    let (rows, _) = list.as_chunks::<7>();
+    for numbers in rows.iter().take(count) {
         next = put_row(
             next,
             room,
-            patterns,
-            json,
-            say::row_at(list, at),
+            way,
+            say::row_of(numbers),
             headers,
             items,
             new_headers,
             new_items,
         );
-        at = program_io::plus(at, 7);
-        left -= 1;
     }
     next
 }

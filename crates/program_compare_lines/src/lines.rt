@@ -1,20 +1,18 @@
 // Lines found by their numbers. Differences come in order, so the walk over a record's items only goes on.
-use line_text::ItemRead;
+use line_text::ItemLine;
 use text::LineAt;
 
 // Line k of a text; an empty one where there is none.
 pub fn line_of(s: &[u8], k: u64) -> &[u8] {
     let mut at: usize = 0;
-    let mut left = k;
-    while left > 0 {
+    for before in 0..k {
         let LineAt::Line { end, next } = text::line_at(s, at) else {
             return program_io::front(s, 0);
         };
-        if left == 1 {
+        if before + 1 == k {
             return program_json::part(s, at, end);
         }
         at = next;
-        left -= 1;
     }
     program_io::front(s, 0)
 }
@@ -42,7 +40,7 @@ struct Span {
 
 fn span_of(line: &[u8]) -> Span {
     match line_text::item_line(line) {
-        ItemRead::Title { from, to } => Span { from, to },
+        Ok(ItemLine::Title { from, to }) => Span { from, to },
         _ => Span { from: 0, to: 0 },
     }
 }
@@ -77,16 +75,16 @@ impl Spot {
             if text::is_blank(line) {
                 spot.inside = false;
             } else {
-                spot.line = program_io::plus(self.line, 1);
+                spot.line = self.line.saturating_add(1);
             }
             return spot;
         }
         let name = span_of(line);
-        spot.item = program_io::plus(self.item, 1);
+        spot.item = self.item.saturating_add(1);
         spot.line = 0;
         spot.inside = true;
-        spot.name_from = program_io::plus(self.next, name.from);
-        spot.name_to = program_io::plus(self.next, name.to);
+        spot.name_from = self.next.saturating_add(name.from);
+        spot.name_to = self.next.saturating_add(name.to);
         spot
     }
 
@@ -101,13 +99,11 @@ impl Spot {
     // On to a line of an item. A line has at least one byte, so the bytes are more turns than are needed.
     pub fn seek(self, s: &[u8], item: usize, line: usize) -> Spot {
         let mut spot = self;
-        let mut turns = s.len();
-        while turns > 0 {
+        for _ in 0..s.len() {
             if spot.is_at(item, line) {
                 return spot;
             }
             spot = spot.step(s);
-            turns -= 1;
         }
         spot
     }

@@ -1,92 +1,108 @@
 // A difference as it stands in the list, and its figures in words.
 use program_io::Text;
 
+// What differs. The last two sum up.
+#[derive(Clone, Copy, PartialEq, Eq)]
+pub enum Part {
+    Header,
+    Atoms,
+    Bonds,
+    Chiral,
+    Atom,
+    Bond,
+    Name,
+    Value,
+    Item,
+    Record,
+    Same,
+    Sums,
+}
+
+impl From<u64> for Part {
+    // By its number in the list, which C reads, too.
+    fn from(number: u64) -> Part {
+        match number {
+            1 => Part::Header,
+            2 => Part::Atoms,
+            3 => Part::Bonds,
+            4 => Part::Chiral,
+            5 => Part::Atom,
+            6 => Part::Bond,
+            7 => Part::Name,
+            8 => Part::Value,
+            9 => Part::Item,
+            _ => Part::Record,
+        }
+    }
+}
+
+// A file, where only one has what is told.
+#[derive(Clone, Copy, PartialEq, Eq)]
+pub enum Side {
+    Old,
+    New,
+}
+
+// By its number in the list; 0 where both have it.
+fn side_of(number: u64) -> Option<Side> {
+    match number {
+        1 => Some(Side::Old),
+        2 => Some(Side::New),
+        _ => None,
+    }
+}
+
 // One difference, as it stands in the list.
 #[derive(Clone, Copy)]
 pub struct Row {
     pub record: u64,
-    pub part: u64,
+    pub part: Part,
     pub place: u64,
     pub field: u64,
-    pub side: u64,
+    pub side: Option<Side>,
     pub left: i64,
     pub right: i64,
 }
 
-// A number of the list; 0 where it has none there.
-fn number_at(list: &[i64], at: usize, k: usize) -> i64 {
-    if at < list.len() {
-        if k < list.len() - at {
-            return list[at + k];
-        }
-    }
-    0
-}
-
-// The row at a place of the list.
-pub fn row_at(list: &[i64], at: usize) -> Row {
+// A difference from its seven numbers.
+pub fn row_of(numbers: &[i64; 7]) -> Row {
+    let [record, part, place, field, side, left, right] = *numbers;
     Row {
-        record: size_of(number_at(list, at, 0)),
-        part: size_of(number_at(list, at, 1)),
-        place: size_of(number_at(list, at, 2)),
-        field: size_of(number_at(list, at, 3)),
-        side: size_of(number_at(list, at, 4)),
-        left: number_at(list, at, 5),
-        right: number_at(list, at, 6),
+        record: record.unsigned_abs(),
+        part: Part::from(part.unsigned_abs()),
+        place: place.unsigned_abs(),
+        field: field.unsigned_abs(),
+        side: side_of(side.unsigned_abs()),
+        left,
+        right,
     }
-}
-
-// A number without its sign.
-fn size_of(v: i64) -> u64 {
-    if v < 0 {
-        return (-1 - v) as u64 + 1;
-    }
-    v as u64
-}
-
-fn sign(v: i64) -> Text {
-    if v < 0 {
-        return Text::new().byte(b'-');
-    }
-    Text::new()
-}
-
-fn digit(n: u64) -> u8 {
-    48 + (n % 10) as u8
 }
 
 // Ten-thousandths as a decimal number with four decimals.
 fn decimal(v: i64) -> Text {
-    let size = size_of(v);
-    let whole = sign(v).number(size / 10000).byte(b'.');
-    let two = whole.byte(digit(size / 1000)).byte(digit(size / 100));
-    two.byte(digit(size / 10)).byte(digit(size))
+    let sign = if v < 0 { "-" } else { "" };
+    let size = v.unsigned_abs();
+    let whole = size / 10000;
+    let rest = size % 10000;
+    Text::new().print(format_args!("{sign}{whole}.{rest:04}"))
 }
 
-fn integer(v: i64) -> Text {
-    sign(v).number(size_of(v))
+// The symbol of an atom; in JSON a string.
+fn symbol(json: bool, v: i64) -> Text {
+    if json {
+        return program_formula::symbol(Text::new().byte(b'"'), v.unsigned_abs()).byte(b'"');
+    }
+    program_formula::symbol(Text::new(), v.unsigned_abs())
 }
 
 // A figure as people read it, or as JSON, where coordinates are whole numbers of ten-thousandths, and null stands for a text that is not there.
 pub fn figure(row: Row, json: bool, v: i64) -> Text {
-    if row.part > 6 {
-        return Text::new().word(b"null");
-    }
-    if row.part != 5 {
-        return integer(v);
-    }
-    if row.field == 4 {
-        if json {
-            let quoted = program_formula::symbol(Text::new().byte(b'"'), size_of(v));
-            return quoted.byte(b'"');
+    match (row.part, row.field) {
+        (Part::Atom, 4) => symbol(json, v),
+        (Part::Atom, ..=3) if !json => decimal(v),
+        (Part::Header | Part::Atoms | Part::Bonds | Part::Chiral | Part::Atom | Part::Bond, _) => {
+            Text::new().print(v)
         }
-        return program_formula::symbol(Text::new(), size_of(v));
+        _ => Text::new().word(b"null"),
     }
-    if row.field < 4 {
-        if json {
-            return integer(v);
-        }
-        return decimal(v);
-    }
-    integer(v)
 }

@@ -5,46 +5,30 @@ use text::LineAt;
 // Bytes of a line that are quoted; no column that a refusal names lies beyond.
 const QUOTED: usize = 250;
 
-fn digit(k: u8) -> u8 {
-    let d = k % 16;
-    if d < 10 {
-        return b'0' + d;
-    }
-    87 + d
-}
-
 fn put_hex(out: Out, room: &mut [u8], b: u8) -> Out {
-    let text = Text::new().word(b"\\x").byte(digit(b / 16)).byte(digit(b));
-    out.text(room, text)
+    out.text(room, Text::new().word(b"\\x").hex(b))
 }
 
 pub fn put_byte(out: Out, room: &mut [u8], b: u8) -> Out {
-    if b < 32 {
-        return put_hex(out, room, b);
+    match b {
+        b'\\' | ..=31 | 127.. => put_hex(out, room, b),
+        _ => out.byte(room, b),
     }
-    if b == b'\\' {
-        return put_hex(out, room, b);
-    }
-    if 126 < b {
-        return put_hex(out, room, b);
-    }
-    out.byte(room, b)
 }
 
 // Quoted text, and the end of the fact.
 pub fn put_quoted(out: Out, room: &mut [u8], s: &[u8]) -> Out {
     let mut o = out;
-    let mut i: usize = 0;
-    while i < s.len() {
-        o = put_byte(o, room, s[i]);
-        i += 1;
+    for b in s {
+        o = put_byte(o, room, *b);
     }
     o.byte(room, b'\n')
 }
 
 // A line behind its length, cut where it is long.
-fn put_line(out: Out, room: &mut [u8], word: &[u8], line: &[u8]) -> Out {
-    let text = Text::new().word(word).number(line.len() as u64).byte(b' ');
+fn put_line(out: Out, room: &mut [u8], word: &str, line: &[u8]) -> Out {
+    let length = line.len();
+    let text = Text::new().print(format_args!("{word}{length} "));
     put_quoted(out.text(room, text), room, program_io::front(line, QUOTED))
 }
 
@@ -52,25 +36,22 @@ fn put_line(out: Out, room: &mut [u8], word: &[u8], line: &[u8]) -> Out {
 pub fn put_lines(out: Out, room: &mut [u8], s: &[u8], count: usize) -> Out {
     let mut o = out;
     let mut at: usize = 0;
-    let mut left = count;
-    while 0 < left {
+    for _ in 0..count {
         match text::line_at(s, at) {
             LineAt::Line { end, next } => {
                 let line = program_io::tail(program_io::front(s, end), at);
-                o = put_line(o, room, b"line ", line);
+                o = put_line(o, room, "line ", line);
                 at = next;
             }
             LineAt::Unfinished => {
-                return put_line(o, room, b"rest ", program_io::tail(s, at));
+                return put_line(o, room, "rest ", program_io::tail(s, at));
             }
         }
-        left -= 1;
     }
     o
 }
 
 // A fact of two numbers, before its text.
-pub fn begin(word: &[u8], a: usize, b: usize) -> Text {
-    let first = Text::new().word(word).number(a as u64);
-    first.byte(b' ').number(b as u64).byte(b' ')
+pub fn begin(word: &str, a: usize, b: usize) -> Text {
+    Text::new().print(format_args!("{word}{a} {b} "))
 }

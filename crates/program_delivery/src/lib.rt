@@ -8,13 +8,14 @@ ghost use Rattle.std.specs.Prelude.{◌≡◌, ◌*◌, length};
 ghost use Rattle.rules.specs.Record.{limit, atom_places, bond_places};
 ghost use Rattle.line_property.specs.Listed.{places};
 
-use items::{Looked, Names, TABLE};
-use program_io::{Filled, Input, Out, Reason, System, Text};
+use items::{Looked, Names};
+use program_io::{Input, Out, Reason, System, Text};
 use program_verdict::Verdict;
 use reader_feed::Counter;
 use reader_pairs::KEYS;
 use reader_resume::{Asked, Heard, Passed, Passing};
 use rules::{ATOMS, BONDS, LISTED};
+use std::ops::ControlFlow;
 
 // How files are judged: up to the first refused record, or to the end.
 #[derive(Clone, Copy)]
@@ -24,36 +25,28 @@ pub struct Way {
     pub all: bool,
 }
 
-// The bytes from `at` to before `filled` stand in the buffer, after so many records and lines, and after `done` bytes.
-// In a refused record `behind` is said, and `left` and `seen` as in `Passing`. `no`, `line` and `column` are of the first refusal, `why` of a failed read.
+// What is left of a refused record, as in `Passing`.
+#[derive(Clone, Copy)]
+struct Rest {
+    left: usize,
+    seen: usize,
+}
+
+// The bytes from `at` to before `filled` stand in the buffer, after `done` bytes and what is counted; so many records
+// were refused, and what was wrong first.
 #[derive(Clone, Copy)]
 struct Place {
-    sd: bool,
-    progress: bool,
-    all: bool,
+    way: Way,
     at: usize,
     filled: usize,
     done: u64,
-    records: usize,
-    lines: usize,
-    behind: bool,
-    left: usize,
-    seen: usize,
+    counter: Counter,
+    // Said in a refused record.
+    rest: Option<Rest>,
     refused: usize,
-    no: u8,
-    line: usize,
-    column: usize,
-    why: Reason,
-    names: Names,
+    wrong: Option<Verdict>,
     out: Out,
 }
-
-// Numbers of a file's verdict beside those of a refusal: none yet, a record too long, not readable.
-const GOOD: u8 = 0;
-
-const LONG: u8 = 254;
-
-const UNREAD: u8 = 255;
 
 // What is met at the place.
 #[derive(Drop)]
@@ -63,47 +56,16 @@ enum Met {
     Nothing,
 }
 
-#[derive(Drop)]
-enum Did {
-    Next(Place),
-    End(Place),
-}
-
-// A sum that stays at the largest number.
-fn plus(a: usize, b: usize) -> usize {
-    if usize::MAX - a < b {
-        return usize::MAX;
-    }
-    a + b
-}
-
-fn least(a: usize, b: usize) -> usize {
-    if a < b {
-        return a;
-    }
-    b
-}
-
 fn begin(way: Way, out: Out) -> Place {
-    let names = Names::new();
     Place {
-        sd: way.sd,
-        progress: way.progress,
-        all: way.all,
+        way,
         at: 0,
         filled: 0,
         done: 0,
-        records: 0,
-        lines: 0,
-        behind: false,
-        left: 0,
-        seen: 0,
+        counter: Counter::new(),
+        rest: None,
         refused: 0,
-        no: GOOD,
-        line: 0,
-        column: 0,
-        why: Reason::none(),
-        names,
+        wrong: None,
         out,
     }
 }
@@ -116,103 +78,76 @@ impl Place {
 
     // Behind so many bytes.
     fn past(self, used: usize) -> Place {
-        let mut next = self;
-        next.at = plus(self.at, used);
-        next
+        Place {
+            at: self.at.saturating_add(used),
+            ..self
+        }
     }
 
     // With so many bytes in the buffer.
     fn refilled(self, done: u64, n: usize) -> Place {
-        let mut next = self;
-        next.at = 0;
-        next.filled = n;
-        next.done = done;
-        next
+        Place {
+            at: 0,
+            filled: n,
+            done,
+            ..self
+        }
     }
 
     // What is wrong first is the verdict on the file.
-    fn judged(self, no: u8, line: usize, column: usize) -> Place {
-        let mut next = self;
-        next.refused = plus(self.refused, 1);
-        if self.no == GOOD {
-            next.no = no;
-            next.line = line;
-            next.column = column;
+    fn judged(self, verdict: Verdict) -> Place {
+        Place {
+            refused: self.refused.saturating_add(1),
+            wrong: self.wrong.or(Some(verdict)),
+            ..self
         }
-        next
-    }
-
-    // Where a read failed.
-    fn unread(self, why: Reason) -> Place {
-        let mut next = self.judged(UNREAD, 0, 0);
-        if self.no == GOOD {
-            next.why = why;
-        }
-        next
     }
 
     // In a refused record.
     fn within(self, passing: Passing) -> Place {
-        let counter = passing.counter;
-        let mut next = self;
-        next.records = counter.records;
-        next.lines = counter.lines;
-        next.left = passing.left;
-        next.seen = passing.seen;
-        next.behind = true;
-        next
+        Place {
+            counter: passing.counter,
+            rest: Some(Rest {
+                left: passing.left,
+                seen: passing.seen,
+            }),
+            ..self
+        }
     }
 
     // At a record's start.
     fn before(self, counter: Counter) -> Place {
-        let mut next = self;
-        next.records = counter.records;
-        next.lines = counter.lines;
-        next.behind = false;
-        next
+        Place {
+            counter,
+            rest: None,
+            ..self
+        }
     }
 
     // Behind an accepted record of so many bytes. A molfile ends with it.
-    fn accepted(self, length: usize, room: usize) -> Did {
-        if self.sd {
-            return Did::Next(self.past(length));
+    fn accepted(self, length: usize, room: usize) -> ControlFlow<Place, Place> {
+        if self.way.sd {
+            return ControlFlow::Continue(self.past(length));
         }
         if self.ended(room) {
-            return Did::End(self);
+            return ControlFlow::Break(self);
         }
-        Did::End(self.judged(LONG, 1, 0))
+        ControlFlow::Break(self.judged(Verdict::TooLong { record: 1 }))
     }
 
     // Judging goes on behind a refused record if that is asked for, and if more than one record may stand in the file.
-    fn on(self) -> Did {
-        if self.all {
-            if self.sd {
-                return Did::Next(self);
-            }
+    fn on(self) -> ControlFlow<Place, Place> {
+        if self.way.all && self.way.sd {
+            return ControlFlow::Continue(self);
         }
-        Did::End(self)
+        ControlFlow::Break(self)
     }
 }
 
 // What stands in the buffer from the place on, and is judged.
 fn part(place: Place, buf: &[u8]) -> &[u8] {
-    let room = least(place.filled, less(buf.len()));
+    let room = place.filled.min(buf.len().saturating_sub(1));
     program_io::tail(program_io::front(buf, room), place.at)
-}
-
-fn less(n: usize) -> usize {
-    if n == 0 {
-        return 0;
-    }
-    n - 1
-}
-
-// An SDfile may end where a record may begin.
-fn is_over(sd: bool, left: usize) -> bool {
-    if sd {
-        return left == 0;
-    }
-    false
 }
 
 fn look(
@@ -227,25 +162,23 @@ fn look(
     ensures { (length atoms.new ≡ atom_places) × (length bonds.new ≡ bond_places) × (length listed.new ≡ 3 * places) × (length keys.new ≡ limit) }
 {
     let s = part(place, buf);
-    let counter = Counter {
-        records: place.records,
-        lines: place.lines,
-    };
-    if place.behind {
+    let counter = place.counter;
+    if let Some(rest) = place.rest {
         let passing = Passing {
             counter,
-            left: place.left,
-            seen: place.seen,
+            left: rest.left,
+            seen: rest.seen,
         };
         return Met::Behind(passing.pass(s));
     }
-    if is_over(place.sd, s.len()) {
+    // An SDfile may end where a record may begin.
+    if place.way.sd && s.is_empty() {
         return Met::Nothing;
     }
-    let room = less(buf.len());
+    let room = buf.len().saturating_sub(1);
     let asked = Asked {
         counter,
-        sd: place.sd,
+        sd: place.way.sd,
         ended: place.ended(room),
         room,
     };
@@ -253,31 +186,47 @@ fn look(
 }
 
 // The rest moved to the front, and more read behind it.
-fn refill(system: &System, place: Place, input: Input<'_>, buf: &mut [u8]) -> Did {
+fn refill(
+    system: &System,
+    place: Place,
+    input: Input<'_>,
+    buf: &mut [u8],
+) -> ControlFlow<Place, Place> {
     let kept = program_io::keep(buf, place.at, place.filled);
-    let done = program_verdict::plus(place.done, least(place.at, place.filled) as u64);
+    let done = place.done.saturating_add(place.at.min(place.filled) as u64);
     match program_io::fill(input, buf, kept) {
-        Filled::Bytes(n) => {
-            let before = program_verdict::plus(done, kept as u64);
-            let after = program_verdict::plus(done, n as u64);
-            program_verdict::note_passed(system, place.progress, before, after);
-            Did::Next(place.refilled(done, n))
+        Ok(n) => {
+            let before = done.saturating_add(kept as u64);
+            let after = done.saturating_add(n as u64);
+            program_verdict::note_passed(system, place.way.progress, before, after);
+            ControlFlow::Continue(place.refilled(done, n))
         }
-        Filled::Failed(why) => Did::End(place.unread(why)),
+        Err(why) => ControlFlow::Break(place.judged(Verdict::Unreadable(why))),
     }
 }
 
 // More is read where there is more.
-fn read_on(system: &System, place: Place, input: Input<'_>, buf: &mut [u8]) -> Did {
-    if place.ended(less(buf.len())) {
-        return Did::End(place);
+fn read_on(
+    system: &System,
+    place: Place,
+    input: Input<'_>,
+    buf: &mut [u8],
+) -> ControlFlow<Place, Place> {
+    if place.ended(buf.len().saturating_sub(1)) {
+        return ControlFlow::Break(place);
     }
     refill(system, place, input, buf)
 }
 
-fn after_behind(system: &System, place: Place, p: Passed, input: Input<'_>, buf: &mut [u8]) -> Did {
+fn after_behind(
+    system: &System,
+    place: Place,
+    p: Passed,
+    input: Input<'_>,
+    buf: &mut [u8],
+) -> ControlFlow<Place, Place> {
     match p {
-        Passed::Behind { counter, used } => Did::Next(place.past(used).before(counter)),
+        Passed::Behind { counter, used } => ControlFlow::Continue(place.past(used).before(counter)),
         Passed::On(passing) => {
             let all = place.past(part(place, buf).len());
             read_on(system, all.within(passing), input, buf)
@@ -291,42 +240,35 @@ fn accept(
     s: &[u8],
     counter: Counter,
     from: usize,
-    table: &mut [u64; TABLE],
+    names: &mut Names,
     room: &mut [u8],
 ) -> Place {
-    let names = place.names;
-    let out = place.out;
     let looked = Looked {
         record: counter.records,
-        lines: place.lines,
-        names,
-        out,
+        lines: place.counter.lines,
+        out: place.out,
     };
-    let done = items::look_over(looked, s, from, table, room);
-    let names = done.names;
-    let out = done.out;
-    let mut next = place.before(counter);
-    next.names = names;
-    next.out = out;
-    next
+    let done = items::look_over(looked, s, from, names, room);
+    Place {
+        out: done.out,
+        ..place.before(counter)
+    }
 }
 
 // A refused record: its numbers, and its lines up to the refused one.
 fn refuse(place: Place, s: &[u8], passing: Passing, numbers: Text, room: &mut [u8]) -> Place {
     let counter = passing.counter;
-    let out = place.out;
-    let text = facts::begin(b"record ", counter.records, plus(counter.lines, 1));
-    let first = out.text(room, text).text(room, numbers.byte(b'\n'));
-    let told = facts::put_lines(first, room, s, passing.left);
-    let mut next = place.within(passing);
-    next.out = told;
-    next
+    let text = facts::begin("record ", counter.records, counter.lines.saturating_add(1));
+    let first = place.out.text(room, text).text(room, numbers.byte(b'\n'));
+    let out = facts::put_lines(first, room, s, passing.left);
+    Place {
+        out,
+        ..place.within(passing)
+    }
 }
 
 fn numbers(no: u8, line: usize, column: usize) -> Text {
-    let first = Text::new().word(b"refused ").number(no as u64);
-    let second = first.byte(b' ').number(line as u64);
-    second.byte(b' ').number(column as u64)
+    Text::new().print(format_args!("refused {no} {line} {column}"))
 }
 
 fn after_record(
@@ -335,9 +277,9 @@ fn after_record(
     heard: Heard,
     input: Input<'_>,
     buf: &mut [u8],
-    table: &mut [u64; TABLE],
+    names: &mut Names,
     room: &mut [u8],
-) -> Did {
+) -> ControlFlow<Place, Place> {
     match heard {
         Heard::Good {
             counter,
@@ -346,8 +288,8 @@ fn after_record(
             items_end,
         } => {
             let s = program_io::front(part(place, buf), items_end);
-            let next = accept(place, s, counter, items_start, table, room);
-            next.accepted(length, less(buf.len()))
+            let next = accept(place, s, counter, items_start, names, room);
+            next.accepted(length, buf.len().saturating_sub(1))
         }
         Heard::Bad {
             passing,
@@ -357,13 +299,14 @@ fn after_record(
         } => {
             let s = part(place, buf);
             let told = refuse(place, s, passing, numbers(no, line, column), room);
-            told.judged(no, line, column).on()
+            told.judged(Verdict::Refused { no, line, column }).on()
         }
         Heard::TooLong { passing } => {
             let counter = passing.counter;
             let s = program_io::front(part(place, buf), 1000);
             let told = refuse(place, s, passing, Text::new().word(b"long"), room);
-            told.judged(LONG, counter.records, 0).on()
+            let record = counter.records;
+            told.judged(Verdict::TooLong { record }).on()
         }
         Heard::More => read_on(system, place, input, buf),
     }
@@ -375,11 +318,11 @@ fn act(
     met: Met,
     input: Input<'_>,
     buf: &mut [u8],
-    table: &mut [u64; TABLE],
+    names: &mut Names,
     room: &mut [u8],
-) -> Did {
+) -> ControlFlow<Place, Place> {
     match met {
-        Met::Record(heard) => after_record(system, place, heard, input, buf, table, room),
+        Met::Record(heard) => after_record(system, place, heard, input, buf, names, room),
         Met::Behind(p) => after_behind(system, place, p, input, buf),
         Met::Nothing => read_on(system, place, input, buf),
     }
@@ -391,7 +334,7 @@ fn judge_records(
     begun: Place,
     input: Input<'_>,
     buf: &mut [u8],
-    table: &mut [u64; TABLE],
+    names: &mut Names,
     room: &mut [u8],
 ) -> Place {
     let mut atoms = [0i32; ATOMS];
@@ -399,21 +342,17 @@ fn judge_records(
     let mut listed = [0u32; LISTED];
     let mut keys = [0u32; KEYS];
     let mut place = begun;
-    let mut turns = u64::MAX;
-    while turns > 0 {
+    for _ in 0..u64::MAX {
         let met = look(place, buf, &mut atoms, &mut bonds, &mut listed, &mut keys);
-        match act(system, place, met, input, buf, table, room) {
-            Did::Next(p) => {
-                if p.out.is_cut() {
-                    return p;
+        match act(system, place, met, input, buf, names, room) {
+            ControlFlow::Continue(next) => {
+                if next.out.is_cut() {
+                    return next;
                 }
-                place = p;
+                place = next;
             }
-            Did::End(p) => {
-                return p;
-            }
+            ControlFlow::Break(last) => return last,
         }
-        turns -= 1;
     }
     place
 }
@@ -423,59 +362,36 @@ fn judge_open(
     begun: Place,
     input: Input<'_>,
     buf: &mut [u8],
-    table: &mut [u64; TABLE],
+    names: &mut Names,
     room: &mut [u8],
 ) -> Place {
     match refill(system, begun, input, buf) {
-        Did::Next(p) => judge_records(system, p, input, buf, table, room),
-        Did::End(p) => p,
+        ControlFlow::Continue(p) => judge_records(system, p, input, buf, names, room),
+        ControlFlow::Break(p) => p,
     }
 }
 
 fn verdict_of(place: Place) -> Verdict {
-    if place.no == GOOD {
-        return Verdict::Accepted {
-            records: place.records,
-        };
-    }
-    if place.no == LONG {
-        return Verdict::TooLong { record: place.line };
-    }
-    if place.no == UNREAD {
-        return Verdict::Unreadable(place.why);
-    }
-    Verdict::Refused {
-        no: place.no,
-        line: place.line,
-        column: place.column,
-    }
-}
-
-fn minus(a: usize, b: usize) -> usize {
-    if a < b {
-        return 0;
-    }
-    a - b
+    let records = place.counter.records;
+    place.wrong.unwrap_or(Verdict::Accepted { records })
 }
 
 // How many records were accepted and refused; of a file that was not read to a verdict, that alone.
 fn ending(place: Place) -> Text {
-    if place.no == UNREAD {
+    if let Some(Verdict::Unreadable(_)) = place.wrong {
         return Text::new().word(b"unread");
     }
-    let accepted = minus(place.records, place.refused);
-    facts::begin(b"end ", accepted, place.refused)
+    let accepted = place.counter.records.saturating_sub(place.refused);
+    facts::begin("end ", accepted, place.refused)
 }
 
 // The names of the items, and the end. What cannot be written is the verdict then.
-fn finish(place: Place, table: &[u64; TABLE], room: &mut [u8]) -> Verdict {
-    let out = place.out;
-    let named = items::put_names(out, room, table, place.names);
-    let done = named.text(room, ending(place).byte(b'\n')).flush(room);
-    if done.good {
-        return verdict_of(place);
+fn finish(place: Place, names: &Names, room: &mut [u8]) -> Verdict {
+    let named = items::put_names(place.out, room, names);
+    match named.text(room, ending(place).byte(b'\n')).flush(room).done {
+        Ok(()) => verdict_of(place),
+        Err(why) => Verdict::Unwritten(why),
     }
-    Verdict::Unwritten(done.why)
 }
 
 // The buffer's last byte stands beside it: it tells whether input follows a full one.
@@ -489,11 +405,11 @@ fn judge_within(
     buf: &mut [u8],
     room: &mut [u8],
 ) -> Verdict {
-    let mut table = [0u64; TABLE];
+    let mut names = Names::new();
     let out = Out::new(system).text(room, Text::new().word(b"file "));
     let begun = begin(way, facts::put_quoted(out, room, name));
-    let place = judge_open(system, begun, input, buf, &mut table, room);
-    finish(place, &table, room)
+    let place = judge_open(system, begun, input, buf, &mut names, room);
+    finish(place, &names, room)
 }
 
 // An open file: facts on standard output, the verdict on its channel.
@@ -509,6 +425,8 @@ pub fn cannot_open(system: &System, name: &[u8], why: Reason) {
     let mut room = io::large_buffer();
     let out = Out::new(system).text(&mut room, Text::new().word(b"file "));
     let named = facts::put_quoted(out, &mut room, name);
-    let done = named.text(&mut room, Text::new().word(b"unread\n"));
-    system.note(done.flush(&room).why);
+    let told = named.text(&mut room, Text::new().word(b"unread\n"));
+    if let Err(why) = told.flush(&room).done {
+        system.note(why);
+    }
 }

@@ -5,21 +5,10 @@ use field_symbols::SYMBOLS;
 use formula_drawn::FOUND;
 use program_io::{Out, Text};
 
-// The beginning of a record's line.
-fn of_record(record: usize, word: &[u8]) -> Text {
-    Text::new()
-        .word(b"{\"record\":")
-        .number(record as u64)
-        .word(word)
-}
-
 // The symbol of this number behind a text; nothing where no symbol has it.
 pub fn symbol(text: Text, k: u64) -> Text {
     let mut letters = [b' '; 3];
-    if k == 0 {
-        return text;
-    }
-    if k > SYMBOLS as u64 {
+    if k == 0 || k > SYMBOLS as u64 {
         return text;
     }
     field_symbols_put::put_symbol(&mut letters, 0, k as u32);
@@ -32,19 +21,10 @@ pub fn symbol(text: Text, k: u64) -> Text {
 
 // An element that differs: its number, its symbol, how many are written, how many are drawn; a comma before it but for the first.
 fn difference(first: bool, element: u32, written: u32, drawn: u32) -> Text {
-    let start = if first {
-        Text::new()
-    } else {
-        Text::new().byte(b',')
-    };
-    let numbered = start.byte(b'[').number(element as u64);
-    symbol(numbered.byte(b',').byte(b'"'), element as u64)
-        .byte(b'"')
-        .byte(b',')
-        .number(written as u64)
-        .byte(b',')
-        .number(drawn as u64)
-        .byte(b']')
+    let comma = if first { "" } else { "," };
+    let begun = Text::new().print(format_args!("{comma}[{element},\""));
+    let named = symbol(begun, u64::from(element));
+    named.print(format_args!("\",{written},{drawn}]"))
 }
 
 // The differences of a record, so many.
@@ -55,29 +35,17 @@ pub fn put_differences(
     count: usize,
     found: &[u32; FOUND],
 ) -> Out {
-    let mut o = out.text(room, of_record(record, b",\"differs\":["));
-    let mut i: usize = 0;
-    let mut k: usize = 0;
-    while i + 3 <= FOUND {
-        if k >= count {
-            return o.text(room, Text::new().word(b"]}\n"));
-        }
-        o = o.text(
-            room,
-            difference(k == 0, found[i], found[i + 1], found[i + 2]),
-        );
-        i += 3;
-        k += 1;
+    let begun = Text::new().print(format_args!("{{\"record\":{record},\"differs\":["));
+    let mut o = out.text(room, begun);
+    let (differences, _) = found.as_chunks::<3>();
+    for (k, [element, written, drawn]) in differences.iter().take(count).enumerate() {
+        o = o.text(room, difference(k == 0, *element, *written, *drawn));
     }
-    o.text(room, Text::new().word(b"]}\n"))
+    o.bytes(room, b"]}\n")
 }
 
 // A record that is not compared.
 pub fn put_refused(out: Out, room: &mut [u8], record: usize, no: u8) -> Out {
-    out.text(
-        room,
-        of_record(record, b",\"refused\":")
-            .number(no as u64)
-            .word(b"}\n"),
-    )
+    let line = Text::new().print(format_args!("{{\"record\":{record},\"refused\":{no}}}\n"));
+    out.text(room, line)
 }

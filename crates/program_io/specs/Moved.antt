@@ -1,9 +1,10 @@
 -- Bytes of a buffer moved to its front.
-use Rattle.std.specs.Prelude.{ℕ, suc, ◌+◌, ◌<◌, ◌≤◌, ◌≡◌, refl}
-use Rattle.std.proofs.Common.{add-one, ◌∙◌, length-take, take-suc, drop-cons, get_or-append-add, get_or-drop}
+use Rattle.std.specs.Prelude.{ℕ, suc, ◌+◌, ◌-◌, ◌<◌, ◌≡◌, refl}
+use Rattle.std.specs.List.{copy_within}
+use Rattle.std.proofs.Common.{add-one, zero-add, ◌∙◌, length-take, take-suc, drop-cons, get_or-append-add, get_or-drop}
 use native.Mathlib.Omega.{arith}
 use Rattle.std.proofs.Math.Path.{sym, ap}
-use mathlib.Core.List.{List, [], ◌∷◌, ◌++◌}
+use mathlib.Core.List.{List, ◌∷◌, ◌++◌}
 use Rattle.std.proofs.Math.ListN.{length, take, drop, get_or, set, length-drop}
 use Rattle.std.proofs.Math.Seq.{append_snoc, set_at}
 
@@ -14,6 +15,11 @@ moved b from i = take i (drop from b) ++ drop i b
 pub moved_none : (b : List ℕ) (from : ℕ) → b ≡ moved b from 0
 unfolding moved
 moved_none b from = refl
+
+-- all of them at once
+pub moved_whole : (b : List ℕ) (from to : ℕ) → copy_within b from to 0 ≡ moved b from (to - from)
+unfolding moved
+moved_whole b from to = ap (λ (k : ℕ). take (to - from) (drop from b) ++ drop k b) (zero-add (to - from))
 
 module _ (b : List ℕ) (from i : ℕ) (h : from + i < length b) where
   front_length : length (take i (drop from b)) ≡ i

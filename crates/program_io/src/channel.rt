@@ -16,10 +16,7 @@ pub enum Channel {
 
 // Whether a byte is an octal digit of an open file's access that has writing in it.
 fn has_writing(b: u8) -> bool {
-    if b < b'0' {
-        return false;
-    }
-    b % 4 != 0
+    b'0' <= b && b % 4 != 0
 }
 
 // The last digit behind the word `flags:`; 0 where there is none.
@@ -30,10 +27,8 @@ fn access(text: &[u8]) -> u8 {
         if *b == b'f' {
             in_flags = true;
         }
-        if *b == b'\n' {
-            if in_flags {
-                return last;
-            }
+        if *b == b'\n' && in_flags {
+            return last;
         }
         last = *b;
     }
@@ -65,10 +60,8 @@ fn is_one(rt: &HostRuntime, a: &str, b: &str) -> bool {
 
 // Whether it is a pipe.
 fn is_pipe(rt: &HostRuntime) -> bool {
-    match rt.metadata("/proc/self/fd/3") {
-        Ok(m) => m.file_type().is_fifo(),
-        Err(_) => false,
-    }
+    rt.metadata("/proc/self/fd/3")
+        .is_ok_and(|m| m.file_type().is_fifo())
 }
 
 // Every line goes to the end of a file, where the descriptor stands, too.

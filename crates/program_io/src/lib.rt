@@ -4,142 +4,134 @@
 mod channel;
 mod system;
 
-ghost use Rattle.std.specs.Prelude.{◌≡◌, true, ◌+◌, ◌-◌, ◌<◌, ◌≤◌, length};
+ghost use Rattle.std.specs.Prelude.{◌≡◌, true, false, ◌+◌, ◌-◌, ◌<◌, ◌≤◌, ◌^◌, ◌⊎◌, nat_lt, length, take, drop, IfOk};
+ghost use Rattle.std.specs.Fmt.{WritesText};
 ghost use Rattle.program_io.specs.Moved.{moved};
+ghost use Rattle.program_io.specs.Said.{said, said_byte};
 
+use std::fmt;
+use std::fmt::Write;
 use std::io::Stdout;
 pub use system::{Input, Reason, System, Target, go_back, has_place};
 
-// What a filling brought. Fewer bytes than the buffer holds: the input has ended.
-#[derive(Clone, Copy)]
-pub enum Filled {
-    Bytes(usize),
-    Failed(Reason),
-}
-
-// What one read brought: the buffer is filled up to the number given.
-#[derive(Clone, Copy)]
-enum Got {
-    UpTo(usize),
-    End,
-    Interrupted,
-    Failed(Reason),
-}
-
 // The first n bytes of a buffer; all of it where n is more.
-pub fn front(buf: &[u8], n: usize) -> &[u8] {
-    if n < buf.len() {
-        return &buf[0..n];
-    }
-    buf
+#[tactic(auto, using(std::proofs::lemmas::List::take_min))]
+pub fn front(buf: &[u8], n: usize) -> &[u8]
+    ensures { result.now ≡ take n buf.now }
+{
+    &buf[..n.min(buf.len())]
 }
 
 // What stands from `from` on; nothing where that lies past the end.
-pub fn tail(buf: &[u8], from: usize) -> &[u8] {
-    if from < buf.len() {
-        return &buf[from..];
-    }
-    &buf[..0]
-}
-
-// A sum that stays at the largest number.
-pub fn plus(a: usize, b: usize) -> usize {
-    if usize::MAX - a < b {
-        return usize::MAX;
-    }
-    a + b
-}
-
-pub fn least(a: usize, b: usize) -> usize {
-    if a < b {
-        return a;
-    }
-    b
-}
-
-// A failed read, told from one that a signal interrupted.
-fn why_failed(why: Reason) -> Got {
-    if why.is_interrupted() {
-        return Got::Interrupted;
-    }
-    Got::Failed(why)
-}
-
-// One read into what remains of the buffer.
-fn read_on(input: Input<'_>, buf: &mut [u8], at: usize) -> Got
-    requires { at < length buf.old }
+#[tactic(auto, using(std::proofs::lemmas::List::drop_min))]
+pub fn tail(buf: &[u8], from: usize) -> &[u8]
+    ensures { result.now ≡ drop from buf.now }
 {
-    let rest = &mut buf[at..];
-    match input.read(rest) {
-        Ok(n) => { if n == 0 { Got::End } else { Got::UpTo(at + n) } }
-        Err(why) => why_failed(why),
-    }
+    &buf[from.min(buf.len())..]
 }
 
-// Reads until the buffer is full, the input ends or a read fails; the first `from` bytes stand there already.
+// Reads until the buffer is full, the input ends or a read fails; the first `from` bytes stand there already. Answers
+// how many stand there then: fewer than the buffer holds once the input has ended.
 // A read that a signal interrupts is made again; turns are counted so that the loop ends, and no run uses them up.
-pub fn fill(input: Input<'_>, buf: &mut [u8], from: usize) -> Filled {
-    let mut at = from;
-    let mut turns = u64::MAX;
-    while turns > 0 {
-        if buf.len() <= at {
-            return Filled::Bytes(buf.len());
-        }
-        match read_on(input, buf, at) {
-            Got::UpTo(n) => {
-                at = n;
-            }
-            Got::End => {
-                return Filled::Bytes(at);
-            }
-            Got::Interrupted => {}
-            Got::Failed(why) => {
-                return Filled::Failed(why);
-            }
-        }
-        turns -= 1;
-    }
-    Filled::Failed(Reason::interrupted())
-}
-
-// The bytes from `from` to before `to`, moved to the front; answers how many they are.
-fn move_front(buf: &mut [u8], from: usize, to: usize) -> usize
-    requires { to ≤ length buf.old }
-    ensures value { result ≡ to - from }
-    ensures buf_after { buf.new ≡ moved buf.old from result }
+pub fn fill(input: Input<'_>, buf: &mut [u8], from: usize) -> Result<usize, Reason>
+    ensures { IfOk result (λ n. n ≤ length buf.new) }
 {
-    let mut i: usize = 0;
-    let mut j = from;
-    while j < to {
-        buf[i] = buf[j];
-        i += 1;
-        j += 1;
+    let mut at = from;
+    for _ in 0..u64::MAX {
+        if buf.len() <= at {
+            return Ok(buf.len());
+        }
+        match input.read(&mut buf[at..]) {
+            Ok(0) => return Ok(at),
+            Ok(n) => at += n,
+            Err(why) => {
+                if !why.is_interrupted() {
+                    return Err(why);
+                }
+            }
+        }
     }
-    i
+    Err(Reason::interrupted())
 }
 
 // Keeps what stands from `from` to before `to`, at the front, and answers how many bytes that is.
+#[tactic(auto, using(crate::specs::Moved::moved_none, crate::specs::Moved::moved_whole))]
 pub fn keep(buf: &mut [u8], from: usize, to: usize) -> usize
     ensures value { to ≤ length buf.old → result ≡ to - from }
     ensures buf_after { buf.new ≡ moved buf.old from result }
 {
-    if to <= buf.len() {
-        return move_front(buf, from, to);
+    let end = to.min(buf.len());
+    if end <= from {
+        return 0;
     }
-    move_front(buf, from, buf.len())
+    buf.copy_within(from..end, 0);
+    end - from
+}
+
+// What stands of an input in a buffer and is not read yet, from `at` to before `filled`; whether nothing follows it.
+#[derive(Clone, Copy)]
+pub struct Window {
+    pub at: usize,
+    filled: usize,
+    pub ended: bool,
+}
+
+impl Window {
+    // Before anything is read.
+    pub fn new() -> Window
+        ensures { (result.at ≡ 0) × (result.filled ≡ 0) × (result.ended ≡ false) }
+    {
+        Window {
+            at: 0,
+            filled: 0,
+            ended: false,
+        }
+    }
+
+    pub fn of(self, buf: &[u8]) -> &[u8]
+        ensures { result.now ≡ drop self.at (take self.filled buf.now) }
+    {
+        tail(front(buf, self.filled), self.at)
+    }
+
+    // Behind so many bytes of it.
+    pub fn past(self, n: usize) -> Window
+        ensures at_after { self.at + n < 2 ^ 64 → result.at ≡ self.at + n }
+        ensures rest { (result.filled ≡ self.filled) × (result.ended ≡ self.ended) }
+    {
+        Window {
+            at: self.at.saturating_add(n),
+            ..self
+        }
+    }
+
+    // Whether the buffer has no room for more of the input, even if what was read is given up.
+    pub fn is_full(self, buf: &[u8]) -> bool
+        ensures full { result ≡ true → (self.at ≡ 0) × (length buf.now ≤ self.filled) }
+        ensures room { result ≡ false → self.at ≡ 0 → self.filled < length buf.now }
+    {
+        self.at == 0 && buf.len() <= self.filled
+    }
+
+    // What is not read yet moved to the front, and more of the input behind it.
+    pub fn refill(self, input: Input<'_>, buf: &mut [u8]) -> Result<Window, Reason>
+        ensures { IfOk result (λ w. (w.at ≡ 0) × (w.filled ≤ length buf.new) × (w.ended ≡ nat_lt w.filled (length buf.new))) }
+    {
+        let kept = keep(buf, self.at, self.filled);
+        let filled = fill(input, buf, kept)?;
+        Ok(Window {
+            at: 0,
+            filled,
+            ended: filled < buf.len(),
+        })
+    }
 }
 
 // Whether n more stand from `at` on, in so many.
 pub fn has_more(length: usize, at: usize, n: usize) -> bool
     ensures { result ≡ true → at + n ≤ length }
 {
-    if length < n {
-        return false;
-    }
-    if length - n < at {
-        return false;
-    }
-    true
+    n <= length && at <= length - n
 }
 
 // Bytes of a short text.
@@ -160,7 +152,10 @@ impl Text {
         }
     }
 
-    pub fn byte(mut self, b: u8) -> Text {
+    #[tactic(auto, using(crate::specs::Said::said_room, crate::specs::Said::said_full))]
+    pub fn byte(mut self, b: u8) -> Text
+        ensures { result ≡ said_byte self b }
+    {
         let at = self.used;
         if at < SHORT {
             self.bytes[at] = b;
@@ -169,17 +164,30 @@ impl Text {
         self
     }
 
-    pub fn word(mut self, word: &[u8]) -> Text {
-        let mut i: usize = 0;
-        while i < word.len() {
-            let at = self.used;
+    #[tactic(auto, using(crate::specs::Said::said_none, crate::specs::Said::room_next, crate::specs::Said::full_next))]
+    pub fn word(self, word: &[u8]) -> Text
+        ensures { result ≡ said self word.now }
+    {
+        let mut text = self;
+        for b in word {
+            let at = text.used;
             if at < SHORT {
-                self.bytes[at] = word[i];
-                self.used = at + 1;
+                text.bytes[at] = *b;
+                text.used = at + 1;
             }
-            i += 1;
         }
-        self
+        text
+    }
+
+    // What a value shows, or several in a format; what cannot be shown says nothing.
+    pub fn print<D: fmt::Display + Drop>(self, what: D) -> Text
+        ensures { (result ≡ self) ⊎ WritesText (λ t s u. u ≡ said t s) self (D.output what) result }
+    {
+        let mut text = self;
+        match fmt::Write::write(&mut text, what) {
+            Ok(()) => text,
+            Err(_) => self,
+        }
     }
 
     // A number in decimal digits.
@@ -202,13 +210,21 @@ impl Text {
     }
 }
 
+impl fmt::Write for Text {
+    ghost write_str_gives = { λ t s u. u ≡ said t s };
+
+    fn write_str(&mut self, s: &str) -> fmt::Result {
+        *self = self.word(s.as_bytes());
+        Ok(())
+    }
+}
+
 // Text gathered in a lent room for standard output: how much of the room is filled, and whether all went well so far, or why a write failed.
 #[derive(Clone, Copy)]
 pub struct Out {
     stdout: Stdout,
     pub used: usize,
-    pub good: bool,
-    pub why: Reason,
+    pub done: Result<(), Reason>,
 }
 
 impl Out {
@@ -216,39 +232,20 @@ impl Out {
         Out {
             stdout: system.stdout(),
             used: 0,
-            good: true,
-            why: Reason::none(),
+            done: Ok(()),
         }
     }
 
-    // The room is empty after a write.
-    fn written(self, put: Result<(), Reason>) -> Out {
-        match put {
-            Ok(()) => Out {
-                stdout: self.stdout,
-                used: 0,
-                good: true,
-                why: self.why,
-            },
-            Err(why) => Out {
-                stdout: self.stdout,
-                used: 0,
-                good: false,
-                why,
-            },
-        }
-    }
-
-    // What is gathered is written, unless a write has failed before.
+    // What is gathered is written, unless a write has failed before; the room is empty then.
     pub fn flush(self, room: &[u8]) -> Out {
-        if self.good {
-            return self.written(system::put_all(self.stdout, front(room, self.used)));
-        }
+        let done = match self.done {
+            Ok(()) => system::put_all(self.stdout, front(room, self.used)),
+            failed => failed,
+        };
         Out {
-            stdout: self.stdout,
             used: 0,
-            good: false,
-            why: self.why,
+            done,
+            ..self
         }
     }
 
@@ -262,48 +259,33 @@ impl Out {
 
     // The room is filled up to this place.
     pub fn to(self, used: usize) -> Out {
-        Out {
-            stdout: self.stdout,
-            used,
-            good: self.good,
-            why: self.why,
-        }
+        Out { used, ..self }
     }
 
     // Whether nobody reads any more what is written.
     pub fn is_cut(self) -> bool {
-        if self.good {
-            return false;
+        match self.done {
+            Ok(()) => false,
+            Err(why) => why.is_closed(),
         }
-        self.why.is_closed()
     }
 
+    // It cannot go on, for no reason of the system's unless a write has failed before.
     pub fn failed(self) -> Out {
         Out {
-            stdout: self.stdout,
             used: 0,
-            good: false,
-            why: self.why,
+            done: self.done.and(Err(Reason::none())),
+            ..self
         }
     }
 
     // A byte at the front of an empty room.
     fn first(self, room: &mut [u8], b: u8) -> Out {
-        if 0 < room.len() {
-            room[0] = b;
-            return Out {
-                stdout: self.stdout,
-                used: 1,
-                good: self.good,
-                why: self.why,
-            };
+        if room.is_empty() {
+            return self.failed();
         }
-        Out {
-            stdout: self.stdout,
-            used: 0,
-            good: false,
-            why: self.why,
-        }
+        room[0] = b;
+        self.to(1)
     }
 
     // One byte more; a full room is written first.
@@ -311,45 +293,25 @@ impl Out {
         let at = self.used;
         if at < room.len() {
             room[at] = b;
-            return Out {
-                stdout: self.stdout,
-                used: at + 1,
-                good: self.good,
-                why: self.why,
-            };
+            return self.to(at + 1);
         }
         self.flush(room).first(room, b)
     }
 
     pub fn bytes(self, room: &mut [u8], text: &[u8]) -> Out {
         let mut out = self;
-        let mut i: usize = 0;
-        while i < text.len() {
-            out = out.byte(room, text[i]);
-            i += 1;
+        for b in text {
+            out = out.byte(room, *b);
         }
         out
     }
 
     // So many bytes more stand in the room already.
     pub fn more(self, room: &[u8], n: usize) -> Out {
-        let at = self.used;
-        if at <= room.len() {
-            if n <= room.len() - at {
-                return Out {
-                    stdout: self.stdout,
-                    used: at + n,
-                    good: self.good,
-                    why: self.why,
-                };
-            }
+        if has_more(room.len(), n, self.used) {
+            return self.to(self.used + n);
         }
-        Out {
-            stdout: self.stdout,
-            used: at,
-            good: false,
-            why: self.why,
-        }
+        self.failed().to(self.used)
     }
 
     pub fn text(self, room: &mut [u8], text: Text) -> Out {
@@ -361,7 +323,7 @@ impl Out {
 pub fn is_argument(system: &System, i: usize, word: &[u8]) -> bool {
     let mut text = [0u8; 64];
     match system.argument(i, &mut text) {
-        Ok(n) => check::same(&text[..n], word),
+        Ok(n) => &text[..n] == word,
         Err(_) => false,
     }
 }

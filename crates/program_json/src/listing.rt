@@ -1,7 +1,7 @@
 // Items as JSON: name and value lines of each.
 use crate::strings::put_string;
 use crate::{part, put_comma};
-use line_text::{ItemRead, ValueRead};
+use line_text::{ItemLine, ValueKind};
 use program_io::Out;
 use text::LineAt;
 
@@ -52,17 +52,17 @@ enum Line {
 
 fn title_line(line: &[u8]) -> Line {
     match line_text::item_line(line) {
-        ItemRead::Title { from, to } => Line::Name { from, to },
-        ItemRead::Close => Line::Other,
-        ItemRead::Bad { no: _, column: _ } => Line::Other,
+        Ok(ItemLine::Title { from, to }) => Line::Name { from, to },
+        Ok(ItemLine::Close) => Line::Other,
+        Err(_) => Line::Other,
     }
 }
 
 fn inner_line(line: &[u8]) -> Line {
     match line_text::value_line(line) {
-        ValueRead::Value => Line::Value,
-        ValueRead::Blank => Line::Blank,
-        ValueRead::Bad { no: _, column: _ } => Line::Other,
+        Ok(ValueKind::Value) => Line::Value,
+        Ok(ValueKind::Blank) => Line::Blank,
+        Err(_) => Line::Other,
     }
 }
 
@@ -86,14 +86,12 @@ fn put_line(list: Listed, room: &mut [u8], line: &[u8]) -> Listed {
 fn list_items(list: Listed, room: &mut [u8], s: &[u8]) -> Listed {
     let mut listed = list;
     let mut at: usize = 0;
-    let mut turns = s.len();
-    while turns > 0 {
+    for _ in 0..s.len() {
         let LineAt::Line { end, next } = text::line_at(s, at) else {
             return listed;
         };
         listed = put_line(listed, room, part(s, at, end));
         at = next;
-        turns -= 1;
     }
     listed
 }
@@ -104,6 +102,5 @@ pub fn put_items(out: Out, room: &mut [u8], s: &[u8]) -> Out {
         inside: false,
         first: true,
     };
-    let done = list_items(list, room, s);
-    done.out
+    list_items(list, room, s).out
 }

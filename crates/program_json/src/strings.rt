@@ -9,10 +9,7 @@ const LINE: usize = 200;
 const QUOTED: usize = 402;
 
 fn is_special(b: u8) -> bool {
-    if b == b'"' {
-        return true;
-    }
-    b == b'\\'
+    matches!(b, b'"' | b'\\')
 }
 
 // One byte of a string, with room for two.
@@ -32,10 +29,8 @@ fn put_all_inner(room: &mut [u8], at: usize, s: &[u8]) -> usize
     ensures { result ≤ at + 2 * length s.now }
 {
     let mut a = at;
-    let mut i: usize = 0;
-    while i < s.len() {
-        a = put_inner(room, a, s[i]);
-        i += 1;
+    for b in s {
+        a = put_inner(room, a, *b);
     }
     a
 }
@@ -54,10 +49,8 @@ fn put_quoted(room: &mut [u8], at: usize, s: &[u8]) -> usize
 pub fn put_string(out: Out, room: &mut [u8], s: &[u8]) -> Out {
     let ready = out.clear(room, QUOTED);
     let at = ready.used;
-    if program_io::has_more(room.len(), at, QUOTED) {
-        if s.len() <= LINE {
-            return ready.to(put_quoted(room, at, s));
-        }
+    if program_io::has_more(room.len(), at, QUOTED) && s.len() <= LINE {
+        return ready.to(put_quoted(room, at, s));
     }
     ready.failed()
 }

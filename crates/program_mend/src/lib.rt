@@ -4,41 +4,32 @@
 mod cut;
 mod list;
 
-use cut::{LIST, ROOM, Tried};
+use cut::{LIST, ROOM};
+use list::Repair;
 use mend_file::Mended;
-use program_io::{Filled, Input, System, Target};
+use program_io::{Input, System, Target, Window};
 use program_verdict::Verdict;
 use std::fs::File;
+use std::ops::ControlFlow;
 
 // Bytes of a record, or of the blank lines at the end of a file.
 const BUFFER: usize = 1048577;
 
-// A reading: the bytes from `at` to before `filled` stand in the buffer, and nothing follows them once it has ended; records, lines of the file and
-// lines of the mended text so far.
+// A reading, the first or the one that writes: records, lines of the file and lines of the mended text so far.
 #[derive(Clone, Copy)]
 struct Pass {
     writing: bool,
-    at: usize,
-    filled: usize,
-    ended: bool,
+    window: Window,
     records: usize,
     lines: u64,
     out_lines: u64,
-}
-
-#[derive(Drop)]
-enum Turn {
-    Next(Pass),
-    End(Verdict),
 }
 
 impl Pass {
     fn new(writing: bool) -> Pass {
         Pass {
             writing,
-            at: 0,
-            filled: 0,
-            ended: false,
+            window: Window::new(),
             records: 0,
             lines: 0,
             out_lines: 0,
@@ -46,39 +37,17 @@ impl Pass {
     }
 
     fn count(self) -> usize {
-        if self.records == usize::MAX {
-            return usize::MAX;
-        }
-        self.records + 1
-    }
-
-    // The rest of the buffer stands at its front, with more behind it.
-    fn refilled(self, filled: usize) -> Pass {
-        Pass {
-            writing: self.writing,
-            at: 0,
-            filled,
-            ended: filled < BUFFER,
-            records: self.records,
-            lines: self.lines,
-            out_lines: self.out_lines,
-        }
+        self.records.saturating_add(1)
     }
 
     // Behind a record of these bytes and this text.
     fn past(self, came: &[u8], text: &[u8]) -> Pass {
-        let mut at = self.filled;
-        if self.at <= usize::MAX - came.len() {
-            at = self.at + came.len();
-        }
         Pass {
-            writing: self.writing,
-            at,
-            filled: self.filled,
-            ended: self.ended,
+            window: self.window.past(came.len()),
             records: self.count(),
-            lines: list::plus(self.lines, list::lines_in(came)),
-            out_lines: list::plus(self.out_lines, list::ends_in(text)),
+            lines: self.lines.saturating_add(list::lines_in(came)),
+            out_lines: self.out_lines.saturating_add(list::ends_in(text)),
+            ..self
         }
     }
 
@@ -87,7 +56,7 @@ impl Pass {
         if line == 0 {
             return Verdict::Refused { no, line, column };
         }
-        let whole = list::plus(self.out_lines, line as u64);
+        let whole = self.out_lines.saturating_add(line as u64);
         Verdict::Refused {
             no,
             line: whole as usize,
@@ -105,32 +74,59 @@ fn emit(
     text: &[u8],
     repairs: &[u64; LIST],
     count: usize,
-) -> Turn {
+) -> ControlFlow<Verdict, Pass> {
     if pass.writing {
         list::say_all(system, name, pass.lines, repairs, count);
-        return match system.write(Target::Output, text) {
-            Ok(()) => Turn::Next(pass.past(came, text)),
-            Err(why) => Turn::End(Verdict::Unwritten(why)),
-        };
+        if let Err(why) = system.write(Target::Output, text) {
+            return ControlFlow::Break(Verdict::Unwritten(why));
+        }
     }
-    Turn::Next(pass.past(came, text))
+    ControlFlow::Continue(pass.past(came, text))
+}
+
+// What mending the record of these bytes came to; its text stands in the room.
+fn take_mended(
+    system: &System,
+    name: &[u8],
+    pass: Pass,
+    came: &[u8],
+    room: &[u8; ROOM],
+    repairs: &[u64; LIST],
+    mended: Mended,
+) -> ControlFlow<Verdict, Pass> {
+    match mended {
+        Mended::Done {
+            length,
+            repairs: count,
+        } => emit(
+            system,
+            name,
+            pass,
+            came,
+            program_io::front(room, length),
+            repairs,
+            count,
+        ),
+        Mended::Refused { no, line, column } => ControlFlow::Break(pass.refuse(no, line, column)),
+    }
 }
 
 // More is read behind what there is of the record.
-fn refill(file: &File, buf: &mut [u8; BUFFER], pass: Pass) -> Turn {
-    let kept = program_io::keep(buf, pass.at, pass.filled);
-    if kept == BUFFER {
-        return Turn::End(Verdict::TooLong {
+fn refill(file: &File, buf: &mut [u8; BUFFER], pass: Pass) -> ControlFlow<Verdict, Pass> {
+    if pass.window.is_full(buf) {
+        return ControlFlow::Break(Verdict::TooLong {
             record: pass.count(),
         });
     }
-    match program_io::fill(Input::Opened(file), buf, kept) {
-        Filled::Bytes(n) => Turn::Next(pass.refilled(n)),
-        Filled::Failed(why) => Turn::End(Verdict::Unreadable(why)),
+    match pass.window.refill(Input::Opened(file), buf) {
+        Ok(window) => ControlFlow::Continue(Pass { window, ..pass }),
+        Err(why) => ControlFlow::Break(Verdict::Unreadable(why)),
     }
 }
 
 // Whether only blank lines are left, none of them whole perhaps. A line has at least one byte, so the bytes are more turns than are needed.
+// A `while`, since it goes by pieces: a `for` would count turns that nothing needs.
+#[tactic(auto, using(mend_lines::specs::Deeds::scan_less))]
 fn is_blank(s: &[u8]) -> bool {
     let mut at: usize = 0;
     while at < s.len() {
@@ -146,10 +142,8 @@ fn is_blank(s: &[u8]) -> bool {
 
 // So many blank lines at the end of the file are dropped.
 fn drop_lines(system: &System, name: &[u8], before: u64, count: u64) {
-    let mut k: u64 = 0;
-    while k < count {
-        k += 1;
-        list::say(system, name, list::plus(before, k), 2);
+    for k in 0..count {
+        list::say(system, name, before.saturating_add(k + 1), Repair::Dropped);
     }
 }
 
@@ -171,22 +165,9 @@ fn take_last(
     s: &[u8],
     room: &mut [u8; ROOM],
     repairs: &mut [u64; LIST],
-) -> Turn {
-    match cut::try_last(s, room, repairs) {
-        Mended::Done {
-            length,
-            repairs: count,
-        } => emit(
-            system,
-            name,
-            pass,
-            s,
-            program_io::front(room, length),
-            repairs,
-            count,
-        ),
-        Mended::Refused { no, line, column } => Turn::End(pass.refuse(no, line, column)),
-    }
+) -> ControlFlow<Verdict, Pass> {
+    let mended = mend_file::mend_file(s, room, repairs);
+    take_mended(system, name, pass, s, room, repairs, mended)
 }
 
 fn take_rest(
@@ -196,9 +177,9 @@ fn take_rest(
     s: &[u8],
     room: &mut [u8; ROOM],
     repairs: &mut [u64; LIST],
-) -> Turn {
-    if s.len() == 0 {
-        return Turn::End(Verdict::Accepted {
+) -> ControlFlow<Verdict, Pass> {
+    if s.is_empty() {
+        return ControlFlow::Break(Verdict::Accepted {
             records: pass.records,
         });
     }
@@ -206,7 +187,7 @@ fn take_rest(
         return take_last(system, name, pass, s, room, repairs);
     }
     if is_blank(s) {
-        return Turn::End(drop_tail(system, name, pass, s));
+        return ControlFlow::Break(drop_tail(system, name, pass, s));
     }
     take_last(system, name, pass, s, room, repairs)
 }
@@ -220,9 +201,9 @@ fn take_short(
     room: &mut [u8; ROOM],
     repairs: &mut [u64; LIST],
     pass: Pass,
-) -> Turn {
-    if pass.ended {
-        let s = program_json::part(buf, pass.at, pass.filled);
+) -> ControlFlow<Verdict, Pass> {
+    if pass.window.ended {
+        let s = pass.window.of(buf);
         return take_rest(system, name, pass, s, room, repairs);
     }
     refill(file, buf, pass)
@@ -237,24 +218,14 @@ fn take_turn(
     room: &mut [u8; ROOM],
     repairs: &mut [u64; LIST],
     pass: Pass,
-) -> Turn {
-    let s = program_json::part(buf, pass.at, pass.filled);
+) -> ControlFlow<Verdict, Pass> {
+    let s = pass.window.of(buf);
     match cut::try_record(s, room, repairs) {
-        Tried::Record {
-            end,
-            length,
-            repairs: count,
-        } => emit(
-            system,
-            name,
-            pass,
-            program_io::front(s, end),
-            program_io::front(room, length),
-            repairs,
-            count,
-        ),
-        Tried::Refused { no, line, column } => Turn::End(pass.refuse(no, line, column)),
-        Tried::Short => take_short(system, name, file, buf, room, repairs, pass),
+        Some((end, mended)) => {
+            let came = program_io::front(s, end);
+            take_mended(system, name, pass, came, room, repairs, mended)
+        }
+        None => take_short(system, name, file, buf, room, repairs, pass),
     }
 }
 
@@ -269,17 +240,11 @@ fn read_through(
     begun: Pass,
 ) -> Verdict {
     let mut pass = begun;
-    let mut turns = u64::MAX;
-    while turns > 0 {
+    for _ in 0..u64::MAX {
         match take_turn(system, name, file, buf, room, repairs, pass) {
-            Turn::Next(p) => {
-                pass = p;
-            }
-            Turn::End(v) => {
-                return v;
-            }
+            ControlFlow::Continue(next) => pass = next,
+            ControlFlow::Break(v) => return v,
         }
-        turns -= 1;
     }
     Verdict::Endless
 }
@@ -287,12 +252,7 @@ fn read_through(
 // What was accepted at the first reading and is not at the second has changed.
 fn settled(v: Verdict) -> Verdict {
     match v {
-        Verdict::Refused {
-            no: _,
-            line: _,
-            column: _,
-        } => Verdict::Changed,
-        Verdict::TooLong { record: _ } => Verdict::Changed,
+        Verdict::Refused { .. } | Verdict::TooLong { .. } => Verdict::Changed,
         _ => v,
     }
 }
@@ -316,7 +276,7 @@ fn mend_open(system: &System, name: &[u8], file: &File) -> Verdict {
         return Verdict::Once;
     }
     match first {
-        Verdict::Accepted { records: _ } => settled(read_whole(system, name, file, true)),
+        Verdict::Accepted { .. } => settled(read_whole(system, name, file, true)),
         _ => first,
     }
 }

@@ -2,59 +2,47 @@
 use crate::cut::LIST;
 use program_io::{System, Target, Text};
 
-// A sum that stays at the largest number.
-pub fn plus(a: u64, b: u64) -> u64 {
-    if u64::MAX - a < b {
-        return u64::MAX;
-    }
-    a + b
-}
-
 // Line ends among some bytes.
 pub fn ends_in(s: &[u8]) -> u64 {
-    let mut count: u64 = 0;
-    let mut i: usize = 0;
-    while i < s.len() {
-        if s[i] == b'\n' {
-            count = plus(count, 1);
-        }
-        i += 1;
-    }
-    count
+    s.iter().filter(|b| **b == b'\n').count() as u64
 }
 
 // Lines of some bytes; what is unfinished is one, too.
 pub fn lines_in(s: &[u8]) -> u64 {
-    let n = s.len();
-    if n == 0 {
-        return 0;
-    }
-    if s[n - 1] == b'\n' {
-        return ends_in(s);
-    }
-    plus(ends_in(s), 1)
+    let is_unfinished = s.last().is_some_and(|b| *b != b'\n');
+    ends_in(s).saturating_add(u64::from(is_unfinished))
 }
 
-fn number_at(list: &[u64; LIST], i: usize) -> u64 {
-    if i < LIST {
-        return list[i];
-    }
-    0
+// What was done at a line.
+#[derive(Clone, Copy)]
+pub enum Repair {
+    Put,
+    Dropped,
+    Ended,
 }
 
-fn words(what: u64) -> Text {
+impl From<u64> for Repair {
+    // By its number in the list.
+    fn from(what: u64) -> Repair {
+        match what {
+            1 => Repair::Put,
+            2 => Repair::Dropped,
+            _ => Repair::Ended,
+        }
+    }
+}
+
+fn words(what: Repair) -> Text {
     let text = Text::new();
-    if what == 1 {
-        return text.word(b": an empty line put before this line\n");
+    match what {
+        Repair::Put => text.word(b": an empty line put before this line\n"),
+        Repair::Dropped => text.word(b": blank line dropped\n"),
+        Repair::Ended => text.word(b": line end added\n"),
     }
-    if what == 2 {
-        return text.word(b": blank line dropped\n");
-    }
-    text.word(b": line end added\n")
 }
 
 // One repair at a line of the file.
-pub fn say(system: &System, name: &[u8], line: u64, what: u64) {
+pub fn say(system: &System, name: &[u8], line: u64, what: Repair) {
     let _ = system.write(Target::Errors, name);
     let _ = Text::new()
         .byte(b':')
@@ -65,19 +53,13 @@ pub fn say(system: &System, name: &[u8], line: u64, what: u64) {
 
 // The repairs of a record, before which so many lines stand.
 pub fn say_all(system: &System, name: &[u8], before: u64, list: &[u64; LIST], repairs: usize) {
-    let mut i: usize = 0;
-    let mut k: usize = 0;
-    while k < repairs {
-        if LIST - 1 <= i {
-            return;
-        }
+    let (pairs, _) = list.as_chunks::<2>();
+    for [line, what] in pairs.iter().take(repairs) {
         say(
             system,
             name,
-            plus(before, number_at(list, i)),
-            number_at(list, i + 1),
+            before.saturating_add(*line),
+            Repair::from(*what),
         );
-        i += 2;
-        k += 1;
     }
 }

@@ -1,21 +1,8 @@
 // The pieces of a record as a line of JSON: the pieces first, then each atom's lowest.
 #![tactic(auto)]
 
-ghost use Rattle.std.specs.Prelude.{◌≤◌};
-ghost use Rattle.rules.specs.Record.{limit};
-
 use program_io::{Out, Text};
 use rules::LIMIT;
-
-// So many numbers of a list, or all that it has.
-fn at_most(n: usize) -> usize
-    ensures { result ≤ limit }
-{
-    if n < LIMIT {
-        return n;
-    }
-    LIMIT
-}
 
 // What stands before all but the first of a list.
 fn comma(i: usize) -> Text {
@@ -27,17 +14,15 @@ fn comma(i: usize) -> Text {
 
 // A piece: its lowest atom and its size.
 fn piece(i: usize, head: u32, size: u32) -> Text {
-    let headed = comma(i).byte(b'[').number(head as u64);
-    headed.byte(b',').number(size as u64).byte(b']')
+    comma(i).print(format_args!("[{head},{size}]"))
 }
 
 fn label(i: usize, lowest: u32) -> Text {
-    comma(i).number(lowest as u64)
+    comma(i).print(lowest)
 }
 
 fn opening(record: usize) -> Text {
-    let numbered = Text::new().word(b"{\"record\":").number(record as u64);
-    numbered.word(b",\"pieces\":[")
+    Text::new().print(format_args!("{{\"record\":{record},\"pieces\":["))
 }
 
 // The line up to its pieces.
@@ -50,11 +35,8 @@ pub fn put_pieces(
     count: usize,
 ) -> Out {
     let mut next = out.text(room, opening(record));
-    let last = at_most(count);
-    let mut i: usize = 0;
-    while i < last {
-        next = next.text(room, piece(i, heads[i], sizes[i]));
-        i += 1;
+    for (i, (head, size)) in heads.iter().zip(sizes).take(count).enumerate() {
+        next = next.text(room, piece(i, *head, *size));
     }
     next
 }
@@ -62,11 +44,8 @@ pub fn put_pieces(
 // The rest of it: the labels of n atoms.
 pub fn put_labels(out: Out, room: &mut [u8], labels: &[u32; LIMIT], n: u32) -> Out {
     let mut next = out.bytes(room, b"],\"atoms\":[");
-    let last = at_most(n as usize);
-    let mut i: usize = 0;
-    while i < last {
-        next = next.text(room, label(i, labels[i]));
-        i += 1;
+    for (i, lowest) in labels.iter().take(n as usize).enumerate() {
+        next = next.text(room, label(i, *lowest));
     }
     next.bytes(room, b"]}\n")
 }

@@ -3,12 +3,13 @@
 
 mod record;
 
-use program_io::{Filled, Input, Out, System};
+use program_io::{Input, Out, System, Window};
 use program_json_rows::{ATOMS, BONDS};
 use program_verdict::Verdict;
 use std::fs::File;
 
-// Every record as JSON; the item of a name; the canonical text; the pieces; the formula against the atoms.
+// Every record as JSON; the item of a name; the canonical text; the pieces; the formula against the atoms. No closure says
+// which: the walk would be made once for each, and the reader's step have more than one caller (docs/SPEED.md).
 #[derive(Clone, Copy)]
 pub enum Task {
     Readings,
@@ -26,14 +27,11 @@ struct Way {
     progress: bool,
 }
 
-// The second reading: the bytes from `at` to before `filled` stand in the buffer, after so many records and lines; the output so far.
+// The second reading, after so many records and lines; the output so far.
 #[derive(Clone, Copy)]
 struct Pass {
-    task: Task,
-    sd: bool,
-    at: usize,
-    filled: usize,
-    ended: bool,
+    way: Way,
+    window: Window,
     records: usize,
     lines: usize,
     // Records whose formula does not agree.
@@ -41,13 +39,13 @@ struct Pass {
     out: Out,
 }
 
+// What a turn came to, where nothing failed.
 #[derive(Drop)]
 enum Stepped {
     Next(Pass),
     Done,
-    // The record at `at` is not wholly in the buffer.
+    // The record at the front of what is not read yet is not wholly in the buffer.
     Short,
-    Failed(Verdict),
 }
 
 // The last byte of the buffer stands beside it: it tells whether input follows a full one.
@@ -56,44 +54,16 @@ const BUFFER: usize = 1048577;
 // The canonical text of any record that fits the buffer fits this room.
 const ROOM: usize = 1310720;
 
-// The rest moved to the front, and more read behind it.
-fn refill(file: &File, buf: &mut [u8], pass: Pass) -> Stepped {
-    let kept = program_io::keep(buf, pass.at, pass.filled);
-    match program_io::fill(Input::Opened(file), buf, kept) {
-        Filled::Bytes(n) => {
-            let mut next = pass;
-            next.at = 0;
-            next.filled = n;
-            next.ended = n < buf.len();
-            Stepped::Next(next)
-        }
-        Filled::Failed(why) => Stepped::Failed(Verdict::Unreadable(why)),
+// More is read for a record that is not wholly there. One that ends neither in a full buffer nor in the file has changed.
+fn read_on(file: &File, buf: &mut [u8], pass: Pass) -> Result<Pass, Verdict> {
+    if pass.window.ended || pass.window.is_full(buf) {
+        return Err(Verdict::Changed);
     }
-}
-
-// A record that ends neither in a full buffer nor in the file has changed.
-fn has_changed(pass: Pass, room: usize) -> bool {
-    if pass.ended {
-        return true;
-    }
-    if pass.at == 0 {
-        return room <= pass.filled;
-    }
-    false
-}
-
-// More is read for a record that is not wholly there.
-fn read_on(file: &File, buf: &mut [u8], pass: Pass, stepped: Stepped) -> Stepped {
-    match stepped {
-        Stepped::Short => {
-            if has_changed(pass, buf.len()) {
-                Stepped::Failed(Verdict::Changed)
-            } else {
-                refill(file, buf, pass)
-            }
-        }
-        _ => stepped,
-    }
+    let window = pass
+        .window
+        .refill(Input::Opened(file), buf)
+        .map_err(Verdict::Unreadable)?;
+    Ok(Pass { window, ..pass })
 }
 
 // Of an accepted file; number 0 says how many records do not agree with their formula.
@@ -112,24 +82,17 @@ fn agreement(pass: Pass) -> Verdict {
 
 // The end of the second reading: what is gathered is written, and the first reading found as many records.
 fn finish(pass: Pass, room: &[u8], records: usize) -> Verdict {
-    let done = pass.out.flush(room);
-    if done.good {
-        if pass.records == records {
-            return agreement(pass);
-        }
-        return Verdict::Changed;
+    match pass.out.flush(room).done {
+        Ok(()) if pass.records == records => agreement(pass),
+        Ok(()) => Verdict::Changed,
+        Err(why) => Verdict::Unwritten(why),
     }
-    Verdict::Unwritten(done.why)
 }
 
 fn begin(system: &System, way: Way) -> Pass {
-    let task = way.task;
     Pass {
-        task,
-        sd: way.sd,
-        at: 0,
-        filled: 0,
-        ended: false,
+        way,
+        window: Window::new(),
         records: 0,
         lines: 0,
         apart: 0,
@@ -137,7 +100,29 @@ fn begin(system: &System, way: Way) -> Pass {
     }
 }
 
-// The second reading. Turns are counted so that the loop ends, and no run uses them up.
+// The second reading, to the file's end. Turns are counted so that the loop ends, and no run uses them up.
+fn write_all(
+    system: &System,
+    way: Way,
+    item: &[u8],
+    file: &File,
+    buf: &mut [u8],
+    room: &mut [u8],
+) -> Result<Pass, Verdict> {
+    let mut atoms = [0i32; ATOMS];
+    let mut bonds = [0i32; BONDS];
+    let mut pass = begin(system, way);
+    for _ in 0..u64::MAX {
+        let s = pass.window.of(buf);
+        match record::put_next(pass, item, s, room, &mut atoms, &mut bonds)? {
+            Stepped::Next(next) => pass = next,
+            Stepped::Done => return Ok(pass),
+            Stepped::Short => pass = read_on(file, buf, pass)?,
+        }
+    }
+    Err(Verdict::Endless)
+}
+
 fn write_records(
     system: &System,
     way: Way,
@@ -147,30 +132,10 @@ fn write_records(
     room: &mut [u8],
     records: usize,
 ) -> Verdict {
-    let mut atoms = [0i32; ATOMS];
-    let mut bonds = [0i32; BONDS];
-    let mut pass = begin(system, way);
-    let mut turns = u64::MAX;
-    while turns > 0 {
-        let s = program_json::part(buf, pass.at, pass.filled);
-        let stepped = record::put_next(pass, item, s, room, &mut atoms, &mut bonds);
-        match read_on(file, buf, pass, stepped) {
-            Stepped::Next(p) => {
-                pass = p;
-            }
-            Stepped::Done => {
-                return finish(pass, room, records);
-            }
-            Stepped::Short => {
-                return Verdict::Changed;
-            }
-            Stepped::Failed(v) => {
-                return v;
-            }
-        }
-        turns -= 1;
+    match write_all(system, way, item, file, buf, room) {
+        Ok(pass) => finish(pass, room, records),
+        Err(v) => v,
     }
-    Verdict::Endless
 }
 
 // Lines of JSON leave the room in pieces.
@@ -220,8 +185,7 @@ fn write_judged(
     let Verdict::Accepted { records } = v else {
         return v;
     };
-    let task = way.task;
-    match task {
+    match way.task {
         Task::Canon => write_canon(system, way, file, buf, records),
         _ => write_lines(system, way, item, file, buf, records),
     }
@@ -252,10 +216,8 @@ fn write_argument(system: &System, way: Way, item: &[u8], i: usize) {
 
 fn write_arguments(system: &System, way: Way, item: &[u8], from: usize) {
     let count = system.argument_count();
-    let mut i = from;
-    while i < count {
+    for i in from..count {
         write_argument(system, way, item, i);
-        i += 1;
     }
 }
 
@@ -264,7 +226,7 @@ pub fn run(system: &System, task: Task, sd: bool, item: &[u8], from: usize) {
     let progress = program_io::is_argument(system, from, b"--progress");
     let way = Way { task, sd, progress };
     if progress {
-        write_arguments(system, way, item, program_io::plus(from, 1));
+        write_arguments(system, way, item, from.saturating_add(1));
     } else {
         write_arguments(system, way, item, from);
     }

@@ -4,50 +4,43 @@ use formula_drawn::FOUND;
 use formula_record::Compared;
 use piece_record::RecordSplit;
 use program_io::Out;
-use program_json::{Ends, Place, Reading};
+use program_json::{End, Place, Reading};
 use program_json_rows::{ATOMS, BONDS};
-use program_verdict::Verdict;
+use program_verdict::{CUT_SHORT, NO_SUCH_ITEM, SHORT_ROOM, Verdict};
 use reader_look::Looked;
 use reader_record::RecordRead;
 use rules::LIMIT;
 use writer_copy::Copied;
 
 // The pass behind a record of so many bytes and lines, with its output.
-fn behind(pass: Pass, length: usize, lines: usize, out: Out) -> Stepped {
-    if out.good {
-        let mut next = pass;
-        next.at = program_io::plus(pass.at, length);
-        next.records = program_io::plus(pass.records, 1);
-        next.lines = program_io::plus(pass.lines, lines);
-        next.out = out;
-        return Stepped::Next(next);
-    }
-    Stepped::Failed(Verdict::Unwritten(out.why))
+fn behind(pass: Pass, length: usize, lines: usize, out: Out) -> Result<Stepped, Verdict> {
+    out.done.map_err(Verdict::Unwritten)?;
+    Ok(Stepped::Next(Pass {
+        window: pass.window.past(length),
+        records: pass.records.saturating_add(1),
+        lines: pass.lines.saturating_add(lines),
+        out,
+        ..pass
+    }))
 }
 
 // What was accepted at the first reading is only cut short by the buffer.
-fn refused(no: u8) -> Stepped {
-    if no == 19 {
-        return Stepped::Short;
+fn refused(no: u8) -> Result<Stepped, Verdict> {
+    if no == CUT_SHORT {
+        return Ok(Stepped::Short);
     }
-    Stepped::Failed(Verdict::Changed)
+    Err(Verdict::Changed)
 }
 
 fn place_of(pass: Pass) -> Place {
     Place {
-        record: program_io::plus(pass.records, 1),
-        line: program_io::plus(pass.lines, 1),
+        record: pass.records.saturating_add(1),
+        line: pass.lines.saturating_add(1),
     }
 }
 
 // A record that was read, and its lines, or the number of its refusal.
-#[derive(Drop)]
-enum Front {
-    Whole { r: Reading, lines: usize },
-    No(u8),
-}
-
-fn front_of(place: Place, got: RecordRead) -> Front {
+fn front_of(place: Place, got: RecordRead) -> Result<(Reading, usize), u8> {
     match got {
         RecordRead::Read {
             n,
@@ -58,8 +51,8 @@ fn front_of(place: Place, got: RecordRead) -> Front {
             header_end,
             items_start,
             items_end,
-        } => Front::Whole {
-            r: Reading {
+        } => {
+            let reading = Reading {
                 place,
                 length,
                 n,
@@ -68,14 +61,14 @@ fn front_of(place: Place, got: RecordRead) -> Front {
                 header_end,
                 items_start,
                 items_end,
-            },
-            lines,
-        },
+            };
+            Ok((reading, lines))
+        }
         RecordRead::Refused {
             no,
             line: _,
             column: _,
-        } => Front::No(no),
+        } => Err(no),
     }
 }
 
@@ -86,19 +79,19 @@ fn put_reading(
     room: &mut [u8],
     atoms: &mut [i32; ATOMS],
     bonds: &mut [i32; BONDS],
-) -> Stepped {
-    let got = reader_record::read_rows(pass.sd, s, atoms, bonds);
+) -> Result<Stepped, Verdict> {
+    let got = reader_record::read_rows(pass.way.sd, s, atoms, bonds);
     match front_of(place_of(pass), got) {
-        Front::Whole { r, lines } => {
+        Ok((r, lines)) => {
             let out = program_json::put_record(pass.out, room, s, r, atoms, bonds);
             behind(pass, r.length, lines, out)
         }
-        Front::No(no) => refused(no),
+        Err(no) => refused(no),
     }
 }
 
 // The item of the record at the front of s. The record was judged at the first reading, so that it is only looked through.
-fn put_item(pass: Pass, item: &[u8], s: &[u8], room: &mut [u8]) -> Stepped {
+fn put_item(pass: Pass, item: &[u8], s: &[u8], room: &mut [u8]) -> Result<Stepped, Verdict> {
     let place = place_of(pass);
     match reader_look::look(s, item) {
         Looked::Item {
@@ -114,24 +107,20 @@ fn put_item(pass: Pass, item: &[u8], s: &[u8], room: &mut [u8]) -> Stepped {
             let out = program_json::put_missing(pass.out, room, place);
             behind(pass, length, lines, out)
         }
-        Looked::Beyond => Stepped::Short,
-        Looked::Other => Stepped::Failed(Verdict::Changed),
+        Looked::Beyond => Ok(Stepped::Short),
+        Looked::Other => Err(Verdict::Changed),
     }
-}
-
-fn kind_of(sd: bool) -> u8 {
-    if sd { 1 } else { 0 }
 }
 
 // Where the record at the front of s ends: a molfile's is all of s.
-fn record_end(sd: bool, s: &[u8]) -> Ends {
+fn record_end(sd: bool, s: &[u8]) -> Option<End> {
     if sd {
         return program_json::first_end(s);
     }
-    Ends::At {
+    Some(End {
         length: s.len(),
         lines: 0,
-    }
+    })
 }
 
 // The record at the front of s, split into its pieces.
@@ -141,16 +130,16 @@ fn put_split(
     room: &mut [u8],
     atoms: &mut [i32; ATOMS],
     bonds: &mut [i32; BONDS],
-) -> Stepped {
-    let Ends::At { length, lines } = record_end(pass.sd, s) else {
-        return Stepped::Short;
+) -> Result<Stepped, Verdict> {
+    let Some(End { length, lines }) = record_end(pass.way.sd, s) else {
+        return Ok(Stepped::Short);
     };
     let record = program_io::front(s, length);
     let mut labels = [0u32; LIMIT];
     let mut heads = [0u32; LIMIT];
     let mut sizes = [0u32; LIMIT];
     match piece_record::split_record(
-        kind_of(pass.sd),
+        u8::from(pass.way.sd),
         record,
         atoms,
         bonds,
@@ -159,7 +148,7 @@ fn put_split(
         &mut sizes,
     ) {
         RecordSplit::Pieces { atoms: n, count } => {
-            let number = program_io::plus(pass.records, 1);
+            let number = pass.records.saturating_add(1);
             let begun = program_pieces::put_pieces(pass.out, room, number, &heads, &sizes, count);
             let out = program_pieces::put_labels(begun, room, &labels, n);
             behind(pass, length, lines, out)
@@ -173,20 +162,16 @@ fn put_split(
 }
 
 // Where what remains of the room does not suffice, it is written out, and the record tried again in all of it.
-fn make_room(pass: Pass, room: &[u8]) -> Stepped {
+fn make_room(pass: Pass, room: &[u8]) -> Result<Stepped, Verdict> {
     if pass.out.used == 0 {
-        return Stepped::Failed(Verdict::NoRoom);
+        return Err(Verdict::NoRoom);
     }
     let out = pass.out.flush(room);
-    if out.good {
-        let mut next = pass;
-        next.out = out;
-        return Stepped::Next(next);
-    }
-    Stepped::Failed(Verdict::Unwritten(out.why))
+    out.done.map_err(Verdict::Unwritten)?;
+    Ok(Stepped::Next(Pass { out, ..pass }))
 }
 
-fn after_copy(pass: Pass, room: &[u8], copied: Copied) -> Stepped {
+fn after_copy(pass: Pass, room: &[u8], copied: Copied) -> Result<Stepped, Verdict> {
     match copied {
         Copied::Done {
             taken,
@@ -198,7 +183,7 @@ fn after_copy(pass: Pass, room: &[u8], copied: Copied) -> Stepped {
             line: _,
             column: _,
         } => {
-            if no == 20 {
+            if no == SHORT_ROOM {
                 make_room(pass, room)
             } else {
                 refused(no)
@@ -214,12 +199,12 @@ fn put_copy(
     room: &mut [u8],
     atoms: &mut [i32; ATOMS],
     bonds: &mut [i32; BONDS],
-) -> Stepped {
+) -> Result<Stepped, Verdict> {
     let used = pass.out.used;
     if room.len() < used {
         return make_room(pass, room);
     }
-    let copied = writer_copy::copy_rows(pass.sd, s, atoms, bonds, &mut room[used..]);
+    let copied = writer_copy::copy_rows(pass.way.sd, s, atoms, bonds, &mut room[used..]);
     after_copy(pass, room, copied)
 }
 
@@ -228,9 +213,10 @@ fn told_apart(pass: Pass, agrees: bool) -> Pass {
     if agrees {
         return pass;
     }
-    let mut next = pass;
-    next.apart = program_io::plus(pass.apart, 1);
-    next
+    Pass {
+        apart: pass.apart.saturating_add(1),
+        ..pass
+    }
 }
 
 // The formula of the record at the front of s. It was accepted, so what is refused is the formula.
@@ -240,13 +226,13 @@ fn put_formula(
     room: &mut [u8],
     atoms: &mut [i32; ATOMS],
     bonds: &mut [i32; BONDS],
-) -> Stepped {
-    let Ends::At { length, lines } = program_json::first_end(s) else {
-        return Stepped::Short;
+) -> Result<Stepped, Verdict> {
+    let Some(End { length, lines }) = program_json::first_end(s) else {
+        return Ok(Stepped::Short);
     };
     let record = program_io::front(s, length);
     let mut found = [0u32; FOUND];
-    let number = program_io::plus(pass.records, 1);
+    let number = pass.records.saturating_add(1);
     match formula_record::compare_formula(record, atoms, bonds, &mut found) {
         Compared::Differ { count } => {
             let out = program_formula::put_differences(pass.out, room, number, count, &found);
@@ -257,8 +243,8 @@ fn put_formula(
             line: _,
             column: _,
         } => {
-            if no < 22 {
-                Stepped::Failed(Verdict::Changed)
+            if no < NO_SUCH_ITEM {
+                Err(Verdict::Changed)
             } else {
                 let out = program_formula::put_refused(pass.out, room, number, no);
                 behind(told_apart(pass, false), length, lines, out)
@@ -275,18 +261,15 @@ pub fn put_next(
     room: &mut [u8],
     atoms: &mut [i32; ATOMS],
     bonds: &mut [i32; BONDS],
-) -> Stepped {
-    if pass.ended {
-        if s.len() == 0 {
-            return Stepped::Done;
+) -> Result<Stepped, Verdict> {
+    if pass.window.ended {
+        if s.is_empty() {
+            return Ok(Stepped::Done);
         }
-    } else {
-        if !pass.sd {
-            return Stepped::Short;
-        }
+    } else if !pass.way.sd {
+        return Ok(Stepped::Short);
     }
-    let task = pass.task;
-    match task {
+    match pass.way.task {
         Task::Readings => put_reading(pass, s, room, atoms, bonds),
         Task::Item => put_item(pass, item, s, room),
         Task::Canon => put_copy(pass, s, room, atoms, bonds),

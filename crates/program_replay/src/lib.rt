@@ -23,27 +23,24 @@ struct Pass {
 
 impl Pass {
     fn past(self, next: Replay, received: u16, issued: u16) -> Pass {
-        let reading = self.reading;
-        let mut pass = self;
-        pass.reading = reading.past(next);
-        pass.received = program_verdict::plus(self.received, received as u64);
-        pass.issued = program_verdict::plus(self.issued, issued as u64);
-        pass
+        Pass {
+            reading: self.reading.past(next),
+            received: self.received.saturating_add(u64::from(received)),
+            issued: self.issued.saturating_add(u64::from(issued)),
+            ..self
+        }
     }
 
     fn wrote(self, next: Replay, out: Out) -> Pass {
-        let reading = self.reading;
-        let mut pass = self;
-        pass.reading = reading.past(next);
-        pass.out = out;
-        pass
+        Pass {
+            reading: self.reading.past(next),
+            out,
+            ..self
+        }
     }
 
-    fn over(self, no: u8, event: usize) -> Pass {
-        let reading = self.reading;
-        let mut pass = self;
-        pass.reading = reading.over(no, event);
-        pass
+    fn at(self, reading: Reading) -> Pass {
+        Pass { reading, ..self }
     }
 }
 
@@ -81,8 +78,8 @@ fn take_event(
             let key = key_at(log, state.at);
             pass.wrote(next, put_skip(pass.out, room, event, key, no))
         }
-        Step::Refused { no, event } => pass.over(no, event),
-        Step::End => pass.over(0, 0),
+        Step::Refused { no, event } => pass.at(reading.refused(no, event)),
+        Step::End => pass.at(reading.done()),
     }
 }
 
@@ -99,9 +96,7 @@ fn take_turn(
     if reading.has_event() {
         return take_event(reading.log(buf), room, keys, papers, pass);
     }
-    let mut next = pass;
-    next.reading = reading.refill(input, buf);
-    next
+    pass.at(reading.refill(input, buf))
 }
 
 // The end of a replay: lots and sums, and all that is gathered is written; or why not all went well.
@@ -111,15 +106,10 @@ fn finish(
     papers: &[u32; LOTS],
     pass: Pass,
 ) -> Result<(), Reason> {
-    let reading = pass.reading;
-    let state = reading.state;
+    let state = pass.reading.state;
     let listed = put_lots(pass.out, room, keys, papers, state.lots);
     let summed = put_sums(listed, room, papers, state, pass.received, pass.issued);
-    let done = summed.flush(room);
-    if done.good {
-        return Ok(());
-    }
-    Err(done.why)
+    summed.flush(room).done
 }
 
 // An open log. Turns are counted so that the loop ends, and no run uses them up.
@@ -137,24 +127,23 @@ fn replay(
         issued: 0,
         out: Out::new(system),
     };
-    let mut turns = u64::MAX;
-    while turns > 0 {
+    for _ in 0..u64::MAX {
         pass = take_turn(input, buf, room, keys, papers, pass);
-        let out = pass.out;
-        if out.is_cut() {
-            return Verdict::Unwritten(out.why);
+        if let Err(why) = pass.out.done
+            && why.is_closed()
+        {
+            return Verdict::Unwritten(why);
         }
-        let reading = pass.reading;
-        if !reading.on {
-            if reading.failed {
-                return Verdict::Unreadable(reading.why);
+        match pass.reading.over {
+            None => {}
+            Some(Verdict::Unreadable(why)) => return Verdict::Unreadable(why),
+            Some(verdict) => {
+                return match finish(room, keys, papers, pass) {
+                    Ok(()) => verdict,
+                    Err(why) => Verdict::Unwritten(why),
+                };
             }
-            return match finish(room, keys, papers, pass) {
-                Ok(()) => reading.verdict(),
-                Err(why) => Verdict::Unwritten(why),
-            };
         }
-        turns -= 1;
     }
     Verdict::Endless
 }
@@ -168,7 +157,7 @@ fn replay_open(system: &System, input: Input<'_>) -> Verdict {
 }
 
 fn replay_file(system: &System, name: &[u8]) {
-    if check::same(name, b"-") {
+    if name == b"-".as_slice() {
         let verdict = replay_open(system, system.stdin());
         program_verdict::tell(system, name, verdict);
         return;

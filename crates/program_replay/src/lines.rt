@@ -1,7 +1,5 @@
 // The lines of a replay, as JSON. A line is put at a plain place of the room once the room has enough left for any line;
 // the functions that put its parts answer the place behind them.
-ghost use Rattle.std.specs.Prelude.{◌<◌};
-
 use crate::SIZE;
 use program_io::Out;
 use store_lots::{KEYS, LOTS};
@@ -12,36 +10,23 @@ const LINE: usize = 256;
 
 // A byte that stands in a string as it is.
 fn is_plain(b: u8) -> bool {
-    if b == b'"' {
-        return false;
+    match b {
+        b'"' | b'\\' => false,
+        _ => matches!(b, 32..=126),
     }
-    if b == b'\\' {
-        return false;
-    }
-    if b < 32 {
-        return false;
-    }
-    b < 127
 }
 
 fn put_byte(room: &mut [u8; SIZE], at: usize, b: u8) -> usize {
-    if at < SIZE {
-        room[at] = b;
-        return at + 1;
-    }
-    at
+    put_bytes(room, at, &[b])
 }
 
 fn put_bytes(room: &mut [u8; SIZE], at: usize, text: &[u8]) -> usize {
-    if program_io::has_more(SIZE, at, text.len()) {
-        let mut i: usize = 0;
-        while i < text.len() {
-            room[at + i] = text[i];
-            i += 1;
-        }
-        return at + i;
+    if !program_io::has_more(SIZE, at, text.len()) {
+        return at;
     }
-    at
+    let end = at + text.len();
+    room[at..end].copy_from_slice(text);
+    end
 }
 
 // A name, and a number after it.
@@ -66,10 +51,8 @@ fn put_inner(room: &mut [u8; SIZE], at: usize, b: u8) -> usize {
 // A name, and the bytes of a string after it.
 fn put_text(room: &mut [u8; SIZE], at: usize, name: &[u8], text: &[u8]) -> usize {
     let mut a = put_bytes(room, at, name);
-    let mut i: usize = 0;
-    while i < text.len() {
-        a = put_inner(room, a, text[i]);
-        i += 1;
+    for b in text {
+        a = put_inner(room, a, *b);
     }
     a
 }
@@ -128,26 +111,13 @@ pub fn put_skip(out: Out, room: &mut [u8; SIZE], event: usize, key: &[u8], no: u
     begun.to(put_bytes(room, keyed, b"}\n"))
 }
 
-fn low(w: u32) -> u8 {
-    (w % 256) as u8
-}
-
 // The twelve bytes of a key from its three words, the low one of each first.
 pub fn key_of(a: u32, b: u32, c: u32) -> [u8; 12] {
-    [
-        low(a),
-        low(a / 256),
-        low(a / 65536),
-        low(a / 16777216),
-        low(b),
-        low(b / 256),
-        low(b / 65536),
-        low(b / 16777216),
-        low(c),
-        low(c / 256),
-        low(c / 65536),
-        low(c / 16777216),
-    ]
+    let mut key = [0u8; 12];
+    key[..4].copy_from_slice(&a.to_le_bytes());
+    key[4..8].copy_from_slice(&b.to_le_bytes());
+    key[8..].copy_from_slice(&c.to_le_bytes());
+    key
 }
 
 fn put_lot(out: Out, room: &mut [u8; SIZE], key: &[u8; 12], paper: u32) -> Out {
@@ -157,7 +127,7 @@ fn put_lot(out: Out, room: &mut [u8; SIZE], key: &[u8; 12], paper: u32) -> Out {
     begun.to(put_bytes(room, papered, b"}\n"))
 }
 
-// The lots in order of their first receipts.
+// The lots in order of their first receipts. A key stands in three columns, as `store_lots` fills them.
 pub fn put_lots(
     out: Out,
     room: &mut [u8; SIZE],
@@ -166,36 +136,19 @@ pub fn put_lots(
     lots: usize,
 ) -> Out {
     let mut next = out;
-    let mut i: usize = 0;
-    while i < LOTS {
-        if lots <= i {
-            return next;
-        }
+    for i in 0..lots.min(LOTS) {
         let key = key_of(keys[i], keys[512 + i], keys[1024 + i]);
         next = put_lot(next, room, &key, papers[i]);
-        i += 1;
     }
     next
 }
 
-fn wide(n: u32) -> u64
-    ensures { result < 4294967296 }
-{
-    n as u64
-}
-
 // The papers of so many lots.
 fn sum(papers: &[u32; LOTS], lots: usize) -> u64 {
-    let mut total: u64 = 0;
-    let mut i: usize = 0;
-    while i < LOTS {
-        if lots <= i {
-            return total;
-        }
-        total += wide(papers[i]);
-        i += 1;
-    }
-    total
+    papers.iter().take(lots).fold(
+        0,
+        |total: u64, paper| total.saturating_add(u64::from(*paper)),
+    )
 }
 
 fn put_quantities(

@@ -1,5 +1,7 @@
 // A log that is read through one buffer: where the replay stands in it, and how it ends.
-use program_io::{Filled, Input, Reason};
+ghost use Rattle.std.specs.Prelude.{◌≡◌};
+
+use program_io::Input;
 use program_verdict::Verdict;
 use store_replay::Replay;
 
@@ -9,18 +11,14 @@ pub const SIZE: usize = 65536;
 // No event has more bytes.
 const LONGEST: usize = 15;
 
-// The replay stands at a place of the buffer, of which so many bytes are filled; whether nothing follows them. Whether the replay goes on; and where it does
-// not, whether a read failed, and why, or the number of a refusal and of its event, 0 at the log's end.
+// The replay stands at a place of the buffer, of which so many bytes are filled; whether nothing follows them; and the
+// verdict, where the replay goes on no more.
 #[derive(Clone, Copy)]
 pub struct Reading {
     pub state: Replay,
     filled: usize,
     ended: bool,
-    pub on: bool,
-    pub failed: bool,
-    pub why: Reason,
-    no: u8,
-    event: usize,
+    pub over: Option<Verdict>,
 }
 
 impl Reading {
@@ -29,21 +27,13 @@ impl Reading {
             state: Replay::new(),
             filled: 0,
             ended: false,
-            on: true,
-            failed: false,
-            why: Reason::none(),
-            no: 0,
-            event: 0,
+            over: None,
         }
     }
 
     // The whole of the next event is in the buffer, or all that there is of it.
     pub fn has_event(self) -> bool {
-        if self.ended {
-            return true;
-        }
-        let state = self.state;
-        program_io::has_more(self.filled, state.at, LONGEST)
+        self.ended || program_io::has_more(self.filled, self.state.at, LONGEST)
     }
 
     // What stands in the buffer.
@@ -53,60 +43,63 @@ impl Reading {
 
     // Behind an event.
     pub fn past(self, next: Replay) -> Reading {
-        let mut reading = self;
-        reading.state = next;
-        reading
+        Reading {
+            state: next,
+            ..self
+        }
     }
 
-    // At a refused event, or behind the last one.
-    pub fn over(self, no: u8, event: usize) -> Reading {
-        let mut reading = self;
-        reading.on = false;
-        reading.no = no;
-        reading.event = event;
-        reading
+    // At a refused event: the verdict's line is its number, and its column 0.
+    pub fn refused(self, no: u8, event: usize) -> Reading
+        ensures over { result.over ≡ Some (Verdict.Refused no event 0) }
+        ensures state { result.state ≡ self.state }
+    {
+        let verdict = Verdict::Refused {
+            no,
+            line: event,
+            column: 0,
+        };
+        Reading {
+            over: Some(verdict),
+            ..self
+        }
+    }
+
+    // Behind the last event.
+    pub fn done(self) -> Reading
+        ensures over { result.over ≡ Some (Verdict.Accepted self.state.events) }
+        ensures state { result.state ≡ self.state }
+    {
+        let records = self.state.events;
+        Reading {
+            over: Some(Verdict::Accepted { records }),
+            ..self
+        }
     }
 
     // The rest moved to the front, and more read behind it.
     pub fn refill(self, input: Input<'_>, buf: &mut [u8; SIZE]) -> Reading {
         let mut state = self.state;
-        let mut reading = self;
         let kept = program_io::keep(buf, state.at, self.filled);
         match program_io::fill(input, buf, kept) {
-            Filled::Bytes(n) => {
+            Ok(filled) => {
                 state.at = 0;
-                reading.state = state;
-                reading.filled = n;
-                reading.ended = n < SIZE;
-                reading
+                Reading {
+                    state,
+                    filled,
+                    ended: filled < SIZE,
+                    ..self
+                }
             }
-            Filled::Failed(why) => {
-                reading.on = false;
-                reading.failed = true;
-                reading.why = why;
-                reading
-            }
+            Err(why) => Reading {
+                over: Some(Verdict::Unreadable(why)),
+                ..self
+            },
         }
     }
 
-    // The verdict; of a refusal its line is the event's number, and its column 0. What still goes on used up its turns.
+    // The verdict; what still goes on used up its turns.
     pub fn verdict(self) -> Verdict {
-        if self.on {
-            return Verdict::Endless;
-        }
-        if self.failed {
-            return Verdict::Unreadable(self.why);
-        }
-        let state = self.state;
-        if self.no == 0 {
-            return Verdict::Accepted {
-                records: state.events,
-            };
-        }
-        Verdict::Refused {
-            no: self.no,
-            line: self.event,
-            column: 0,
-        }
+        self.over.unwrap_or(Verdict::Endless)
     }
 }

@@ -7,13 +7,13 @@ mod log;
 mod walk;
 
 use lines::{ROOM, Way};
-use program_io::{Out, Reason, System, Target, Text};
+use program_io::{Out, System, Target, Text, Window};
 use program_verdict::Verdict;
 use std::fs::File;
 use stock_counts::COUNTS;
 use stock_join::{Join, MARKS};
 use store_lots::{KEYS, LOTS};
-use walk::{BUFFER, Pass, Task};
+use walk::{BUFFER, Pass, State, Task};
 
 // The arguments: what is written, the two names, the pad byte as a number, the log; then each file, and its name as it was typed.
 const MODE: usize = 2;
@@ -40,11 +40,8 @@ fn begin(way: Way, task: Task, lots: usize, out: Out) -> Pass {
         lots,
         join: Join::new(),
         out,
-        at: 0,
-        filled: 0,
-        ended: false,
-        state: 0,
-        why: Reason::none(),
+        window: Window::new(),
+        state: State::On,
     }
 }
 
@@ -52,18 +49,8 @@ fn begin(way: Way, task: Task, lots: usize, out: Out) -> Pass {
 
 // What is said of a file once: with the reading that counts its records; a later one says what failed.
 fn tell(system: &System, task: Task, path: &[u8], verdict: Verdict) {
-    match task {
-        Task::Count => program_verdict::tell(system, path, verdict),
-        _ => match verdict {
-            Verdict::Accepted { records: _ } => {}
-            Verdict::Refused {
-                no: _,
-                line: _,
-                column: _,
-            } => {}
-            Verdict::TooLong { record: _ } => {}
-            _ => program_verdict::tell(system, path, verdict),
-        },
+    if matches!(task, Task::Count) || !program_verdict::is_judged(verdict) {
+        program_verdict::tell(system, path, verdict);
     }
 }
 
@@ -99,9 +86,10 @@ fn walk_argument(
     marks: &mut [u64; MARKS],
     room: &mut [u8; ROOM],
 ) -> Pass {
-    let join = before.join;
-    let mut pass = before;
-    pass.join = join.file();
+    let pass = Pass {
+        join: before.join.file(),
+        ..before
+    };
     let task = pass.task;
     let mut path = io::buffer();
     match system.argument(i, &mut path) {
@@ -132,14 +120,12 @@ fn all_files(
 ) -> Pass {
     let count = system.argument_count();
     let mut pass = start;
-    let mut file: u64 = 1;
-    while file < MANY {
+    for file in 1..MANY {
         let i = path_argument(file);
         if count <= i {
             return pass;
         }
         pass = walk_argument(system, i, pass, buf, keys, marks, room);
-        file += 1;
     }
     pass
 }
@@ -168,18 +154,11 @@ fn put_lots(
     let mut out = lines::put_heading(pass.out, room, way.json);
     let mut paper: u64 = 0;
     let mut apart = false;
-    let mut i: usize = 0;
-    while i < LOTS {
-        if pass.lots <= i {
-            return Written { out, paper, apart };
-        }
+    for i in 0..pass.lots.min(LOTS) {
         let row = lines::row_of(i, keys, papers, counts, marks);
         out = lines::put_row(system, out, room, way, row);
-        if row.line > 0 {
-            apart = true;
-        }
-        paper = program_verdict::plus(paper, row.paper());
-        i += 1;
+        apart |= row.is_apart();
+        paper = paper.saturating_add(row.paper());
     }
     Written { out, paper, apart }
 }
@@ -206,11 +185,11 @@ fn list(
 
 // Lots and their paper, records, those received, never received and without a key.
 fn totals_of(lots: usize, paper: u64, join: Join) -> [u64; 6] {
-    let listed = program_verdict::plus(join.never, join.keyless);
+    let listed = join.never.saturating_add(join.keyless);
     [
         lots as u64,
         paper,
-        program_verdict::plus(join.received, listed),
+        join.received.saturating_add(listed),
         join.received,
         join.never,
         join.keyless,
@@ -218,27 +197,17 @@ fn totals_of(lots: usize, paper: u64, join: Join) -> [u64; 6] {
 }
 
 fn is_settled(apart: bool, join: Join) -> bool {
-    if apart {
-        return false;
-    }
-    if join.never > 0 {
-        return false;
-    }
-    join.keyless == 0
+    !apart && join.never == 0 && join.keyless == 0
 }
 
 // The last line on the channel.
 fn announce(system: &System, done: Out, settled: bool) {
-    if !done.good {
-        program_verdict::tell(system, b"standard output", Verdict::Unwritten(done.why));
+    if let Err(why) = done.done {
+        program_verdict::tell(system, b"standard output", Verdict::Unwritten(why));
         return;
     }
-    let line = Text::new();
-    if settled {
-        let _ = line.word(b"settled\n").write(system, Target::Channel);
-    } else {
-        let _ = line.word(b"unsettled\n").write(system, Target::Channel);
-    }
+    let line = if settled { "settled\n" } else { "unsettled\n" };
+    let _ = Text::new().print(line).write(system, Target::Channel);
 }
 
 // The totals last, and all that is gathered is written.
@@ -330,53 +299,36 @@ fn join_named(system: &System, way: Way) {
     }
 }
 
-// A number below 1,000; 1,000 for anything else.
-fn number_of(text: &[u8]) -> u32 {
-    let mut n: u32 = 0;
-    let mut i: usize = 0;
-    if text.len() == 0 {
-        return 1000;
+// A number below 256, in digits alone.
+fn number_of(text: &[u8]) -> Option<u8> {
+    if !text.iter().all(|b| b.is_ascii_digit()) {
+        return None;
     }
-    while i < text.len() {
-        if n > 99 {
-            return 1000;
-        }
-        let b = text[i];
-        if b < b'0' {
-            return 1000;
-        }
-        if b > b'9' {
-            return 1000;
-        }
-        n = 10 * n + (b - b'0') as u32;
-        i += 1;
-    }
-    n
+    str::from_utf8(text).ok()?.parse::<u8>().ok()
 }
 
-fn pad_asked(system: &System) -> u32 {
+fn pad_asked(system: &System) -> Option<u8> {
     let mut text = [0u8; 64];
     match system.argument(PAD, &mut text) {
         Ok(n) => number_of(&text[..n]),
-        Err(_) => 1000,
+        Err(_) => None,
     }
 }
 
 // `json` or `table`, the names of the two items, the pad byte as a number, the log, and then each file with the name to show for it.
 pub fn run(system: &System) {
-    let pad = pad_asked(system);
-    if pad > 255 {
+    let Some(pad) = pad_asked(system) else {
         let _ = system.write(
             Target::Errors,
             b"records: the pad byte is no number from 0 to 255\n",
         );
         return;
-    }
+    };
     join_named(
         system,
         Way {
             json: program_io::is_argument(system, MODE, b"json"),
-            pad: pad as u8,
+            pad,
         },
     );
 }

@@ -3,6 +3,7 @@
 ghost use Rattle.std.specs.Prelude.{◌<◌};
 
 use program_io::{Out, System, Text};
+use std::fmt;
 use stock_counts::COUNTS;
 use stock_join::{Join, MARKS};
 use stock_key::{Fault, KeyRead};
@@ -18,39 +19,70 @@ pub struct Way {
     pub pad: u8,
 }
 
-// What a line is made of, and by which pattern. A lot: its key, the shelf's figure and one at its last count with the paper then, its first record, and as
-// numbers its paper and its records. A record: its place, and its key. The totals: six numbers.
+// What a line says. A lot: all is as it should be, it has no record, its last count differs from paper, or both. A
+// record: its lot was never received, or what is wrong with the text that makes its key. The totals.
 #[derive(Clone, Copy)]
-pub struct Row {
-    pub line: usize,
-    key: [u8; 12],
-    counted: u32,
-    then: u32,
+pub enum Line {
+    Settled,
+    NoRecord,
+    Differs,
+    DiffersNoRecord,
+    Never,
+    NoSupplier(Fault),
+    NoLot(Fault),
+    Totals,
+}
+
+// The shelf's figure at a lot's last count, and paper then.
+#[derive(Clone, Copy)]
+struct Counted {
+    shelf: u32,
+    paper: u32,
+}
+
+// The place of a record: the number of its file, and its own in that.
+#[derive(Clone, Copy)]
+struct Spot {
     file: u64,
     number: u64,
+}
+
+// What a line is made of. A lot: its key, its last count if it has one, its first record if it has one, and as numbers
+// its paper and its records. A record: its place, and its key. The totals: six numbers.
+#[derive(Clone, Copy)]
+pub struct Row {
+    pub line: Line,
+    key: [u8; 12],
+    counted: Option<Counted>,
+    spot: Option<Spot>,
     numbers: [u64; 6],
 }
 
-fn wide(n: u32) -> u64 {
-    n as u64
+// A last count as it was noted: 0 for none, or else one more than the shelf's figure.
+fn last_count(noted: u32, paper: u32) -> Option<Counted> {
+    let shelf = noted.checked_sub(1)?;
+    Some(Counted { shelf, paper })
 }
 
-// The pattern of a lot: 0 where it is as it should be, or else by whether its last count differs from paper, and whether it has no record.
-fn lot_line(counted: u32, then: u32, records: u64) -> usize {
-    if counted > 0 {
-        if counted - 1 != then {
-            if records == 0 {
-                return 3;
-            }
-            return 2;
-        }
+// The place of a file's record; files count from 1, and 0 is none.
+fn place_at(file: u64, number: u64) -> Option<Spot> {
+    if file == 0 {
+        return None;
     }
-    if records == 0 {
-        return 1;
-    }
-    0
+    Some(Spot { file, number })
 }
 
+fn lot_line(counted: Option<Counted>, records: u64) -> Line {
+    let differs = counted.is_some_and(|c| c.shelf != c.paper);
+    match (differs, records) {
+        (false, 0) => Line::NoRecord,
+        (false, _) => Line::Settled,
+        (true, 0) => Line::DiffersNoRecord,
+        (true, _) => Line::Differs,
+    }
+}
+
+// The tables have their columns one behind the other, as `store_lots`, `stock_counts` and `stock_join` fill them.
 pub fn row_of(
     i: usize,
     keys: &[u32; KEYS],
@@ -60,17 +92,14 @@ pub fn row_of(
 ) -> Row
     requires { i < 512 }
 {
-    let counted = counts[i];
-    let then = counts[512 + i];
+    let counted = last_count(counts[i], counts[512 + i]);
     let records = marks[i];
     Row {
-        line: lot_line(counted, then, records),
+        line: lot_line(counted, records),
         key: program_replay::key_of(keys[i], keys[512 + i], keys[1024 + i]),
         counted,
-        then,
-        file: marks[512 + i],
-        number: marks[1024 + i],
-        numbers: [wide(papers[i]), records, 0, 0, 0, 0],
+        spot: place_at(marks[512 + i], marks[1024 + i]),
+        numbers: [u64::from(papers[i]), records, 0, 0, 0, 0],
     }
 }
 
@@ -78,27 +107,20 @@ impl Row {
     pub fn paper(self) -> u64 {
         self.numbers[0]
     }
-}
 
-fn record_at(place: Join, line: usize, key: [u8; 12]) -> Row {
-    Row {
-        line,
-        key,
-        counted: 0,
-        then: 0,
-        file: place.file,
-        number: place.number,
-        numbers: [0; 6],
+    // Whether a lot is not as it should be.
+    pub fn is_apart(self) -> bool {
+        !matches!(self.line, Line::Settled)
     }
 }
 
-fn reason_of(why: Fault) -> usize
-    ensures { result < 3 }
-{
-    match why {
-        Fault::Missing => 0,
-        Fault::TooLong => 1,
-        Fault::Padded => 2,
+fn record_at(place: Join, line: Line, key: [u8; 12]) -> Row {
+    Row {
+        line,
+        key,
+        counted: None,
+        spot: place_at(place.file, place.number),
+        numbers: [0; 6],
     }
 }
 
@@ -108,85 +130,68 @@ pub fn listed(place: Join, read: KeyRead) -> Row {
     match read {
         KeyRead::Key { key } => {
             let bytes = program_replay::key_of(key.supplier, key.first, key.second);
-            record_at(place, NEVER, bytes)
+            record_at(place, Line::Never, bytes)
         }
-        KeyRead::NoSupplier { why } => record_at(place, KEYLESS + reason_of(why), none),
-        KeyRead::NoLot { why } => record_at(place, KEYLESS + 3 + reason_of(why), none),
-        _ => record_at(place, KEYLESS, none),
+        KeyRead::NoSupplier { why } => record_at(place, Line::NoSupplier(why), none),
+        KeyRead::NoLot { why } => record_at(place, Line::NoLot(why), none),
+        _ => record_at(place, Line::NoSupplier(Fault::Missing), none),
     }
 }
 
 // The last line: lots and their paper, records, those received, never received and without a key.
 pub fn totals(numbers: [u64; 6]) -> Row {
     Row {
-        line: TOTALS,
+        line: Line::Totals,
         key: [0; 12],
-        counted: 0,
-        then: 0,
-        file: 0,
-        number: 0,
+        counted: None,
+        spot: None,
         numbers,
     }
 }
 
 // ---- Patterns
 
-// Behind the four lines of a lot: a record whose lot was never received; the totals; a record without a key, by the six reasons why it has none.
-const NEVER: usize = 4;
-
-const TOTALS: usize = 5;
-
-const KEYLESS: usize = 6;
-
-// Rows of so many bytes, each a text that ends in LF: first for people, then for programs, where there is one line of a lot.
-const WIDTH: usize = 98;
-
-const PATTERNS: [u8; 2058] = *b"\
-    S     LPCDR\n                                                                                      \
-    S     LPCDR  no record\n                                                                           \
-    S     LPCDR  count differs\n                                                                       \
-    S     LPCDR  count differs, no record\n                                                            \
-    F, record N: S L was never received\n                                                              \
-    lots: 0; paper: 1; records: 2, received: 3, never received: 4, without a key: 5\n                  \
-    F, record N: no key: supplier missing\n                                                            \
-    F, record N: no key: supplier too long\n                                                           \
-    F, record N: no key: supplier ends in the pad byte\n                                               \
-    F, record N: no key: lot missing\n                                                                 \
-    F, record N: no key: lot too long\n                                                                \
-    F, record N: no key: lot ends in the pad byte\n                                                    \
-    {\"supplier\":\"S\",\"lot\":\"L\",\"paper\":0,\"counted\":I,\"difference\":J,\"records\":1,\"file\":QFQ,\"record\":N}\n\
-    {\"file\":QFQ,\"record\":N,\"supplier\":\"S\",\"lot\":\"L\",\"never_received\":true}\n                           \
-    {\"lots\":0,\"paper\":1,\"records\":2,\"received\":3,\"never_received\":4,\"no_key\":5}\n                      \
-    {\"file\":QFQ,\"record\":N,\"no_key\":\"supplier missing\"}\n                                              \
-    {\"file\":QFQ,\"record\":N,\"no_key\":\"supplier too long\"}\n                                             \
-    {\"file\":QFQ,\"record\":N,\"no_key\":\"supplier ends in the pad byte\"}\n                                 \
-    {\"file\":QFQ,\"record\":N,\"no_key\":\"lot missing\"}\n                                                   \
-    {\"file\":QFQ,\"record\":N,\"no_key\":\"lot too long\"}\n                                                  \
-    {\"file\":QFQ,\"record\":N,\"no_key\":\"lot ends in the pad byte\"}\n                                      \
-";
-
-// Where a line's pattern begins.
-fn place_of(json: bool, line: usize) -> usize {
-    if 11 < line {
-        return 0;
+fn for_people(line: Line) -> &'static [u8] {
+    match line {
+        Line::Settled => b"S     LPCDR\n",
+        Line::NoRecord => b"S     LPCDR  no record\n",
+        Line::Differs => b"S     LPCDR  count differs\n",
+        Line::DiffersNoRecord => b"S     LPCDR  count differs, no record\n",
+        Line::Never => b"F, record N: S L was never received\n",
+        Line::Totals =>
+            b"lots: 0; paper: 1; records: 2, received: 3, never received: 4, without a key: 5\n",
+        Line::NoSupplier(Fault::Missing) => b"F, record N: no key: supplier missing\n",
+        Line::NoSupplier(Fault::TooLong) => b"F, record N: no key: supplier too long\n",
+        Line::NoSupplier(Fault::Padded) => b"F, record N: no key: supplier ends in the pad byte\n",
+        Line::NoLot(Fault::Missing) => b"F, record N: no key: lot missing\n",
+        Line::NoLot(Fault::TooLong) => b"F, record N: no key: lot too long\n",
+        Line::NoLot(Fault::Padded) => b"F, record N: no key: lot ends in the pad byte\n",
     }
-    if json {
-        if line < NEVER {
-            return 12 * WIDTH;
-        }
-        return WIDTH * (line + 9);
+}
+
+fn for_programs(line: Line) -> &'static [u8] {
+    match line {
+        Line::Settled | Line::NoRecord | Line::Differs | Line::DiffersNoRecord =>
+            b"{\"supplier\":\"S\",\"lot\":\"L\",\"paper\":0,\"counted\":I,\"difference\":J,\"records\":1,\"file\":QFQ,\"record\":N}\n",
+        Line::Never =>
+            b"{\"file\":QFQ,\"record\":N,\"supplier\":\"S\",\"lot\":\"L\",\"never_received\":true}\n",
+        Line::Totals =>
+            b"{\"lots\":0,\"paper\":1,\"records\":2,\"received\":3,\"never_received\":4,\"no_key\":5}\n",
+        Line::NoSupplier(Fault::Missing) =>
+            b"{\"file\":QFQ,\"record\":N,\"no_key\":\"supplier missing\"}\n",
+        Line::NoSupplier(Fault::TooLong) =>
+            b"{\"file\":QFQ,\"record\":N,\"no_key\":\"supplier too long\"}\n",
+        Line::NoSupplier(Fault::Padded) =>
+            b"{\"file\":QFQ,\"record\":N,\"no_key\":\"supplier ends in the pad byte\"}\n",
+        Line::NoLot(Fault::Missing) => b"{\"file\":QFQ,\"record\":N,\"no_key\":\"lot missing\"}\n",
+        Line::NoLot(Fault::TooLong) => b"{\"file\":QFQ,\"record\":N,\"no_key\":\"lot too long\"}\n",
+        Line::NoLot(Fault::Padded) =>
+            b"{\"file\":QFQ,\"record\":N,\"no_key\":\"lot ends in the pad byte\"}\n",
     }
-    WIDTH * line
 }
 
 fn is_mark(b: u8) -> bool {
-    if b < b'A' {
-        if b < b'0' {
-            return false;
-        }
-        return b <= b'9';
-    }
-    b <= b'Z'
+    b.is_ascii_digit() || b.is_ascii_uppercase()
 }
 
 // ---- Keys
@@ -201,48 +206,32 @@ fn numbered(text: Text, json: bool, b: u8) -> Text {
 
 // One byte more of a text, in JSON of a string.
 fn with_byte(text: Text, json: bool, b: u8) -> Text {
-    if b < 32 {
-        return numbered(text, json, b);
+    match b {
+        ..=31 | 127.. => numbered(text, json, b),
+        b'"' | b'\\' if json => text.byte(b'\\').byte(b),
+        _ => text.byte(b),
     }
-    if 126 < b {
-        return numbered(text, json, b);
-    }
-    if json {
-        if b == b'"' {
-            return text.byte(b'\\').byte(b);
-        }
-        if b == b'\\' {
-            return text.byte(b'\\').byte(b);
-        }
-    }
-    text.byte(b)
 }
 
 fn shown(json: bool, s: &[u8]) -> Text {
     let mut text = Text::new();
-    let mut i: usize = 0;
-    while i < s.len() {
-        text = with_byte(text, json, s[i]);
-        i += 1;
+    for b in s {
+        text = with_byte(text, json, *b);
     }
     text
 }
 
 // How many bytes of a part of a key are its text: those before the pad bytes at its end.
 fn text_length(part: &[u8], pad: u8) -> usize {
-    let mut n = part.len();
-    while n > 0 {
-        if part[n - 1] != pad {
-            return n;
-        }
-        n -= 1;
+    match part.iter().rposition(|b| *b != pad) {
+        Some(last) => last.saturating_add(1),
+        None => 0,
     }
-    n
 }
 
 // Supplier or lot: of a lot in the store all bytes, of a record the text.
-fn key_part(way: Way, line: usize, part: &[u8]) -> Text {
-    if line == NEVER {
+fn key_part(way: Way, line: Line, part: &[u8]) -> Text {
+    if let Line::Never = line {
         return shown(
             way.json,
             program_io::front(part, text_length(part, way.pad)),
@@ -253,25 +242,9 @@ fn key_part(way: Way, line: usize, part: &[u8]) -> Text {
 
 // ---- Figures
 
-// What stands before a word of so many bytes that ends in this column.
-fn spaces(size: usize, width: usize) -> Text {
-    let mut text = Text::new();
-    let mut at = size;
-    while at < width {
-        text = text.byte(b' ');
-        at += 1;
-    }
-    text
-}
-
-fn cell(minus: bool, n: u64, width: usize) -> Text {
-    let mut digits = [0u8; 20];
-    let k = io::decimal(n, &mut digits);
-    if minus {
-        let before = spaces(program_io::plus(k, 1), width);
-        return before.byte(b'-').word(&digits[..k]);
-    }
-    spaces(k, width).word(&digits[..k])
+// A figure that ends in this column.
+fn cell(figure: impl fmt::Display + Drop, width: usize) -> Text {
+    Text::new().print(format_args!("{figure:>width$}"))
 }
 
 // What stands for a figure where there is none: in JSON, where columns have no width, null.
@@ -279,43 +252,36 @@ fn no_figure(width: usize) -> Text {
     if width == 0 {
         return Text::new().word(b"null");
     }
-    spaces(1, width).byte(b'-')
+    cell("-", width)
 }
 
 // The shelf's figure at the last count.
 fn count(row: Row, width: usize) -> Text {
-    if row.counted == 0 {
-        return no_figure(width);
+    match row.counted {
+        Some(counted) => cell(counted.shelf, width),
+        None => no_figure(width),
     }
-    cell(false, wide(row.counted - 1), width)
 }
 
 // Paper minus shelf at the last count.
 fn difference(row: Row, width: usize) -> Text {
-    if row.counted == 0 {
-        return no_figure(width);
+    match row.counted {
+        Some(counted) => cell(i64::from(counted.paper) - i64::from(counted.shelf), width),
+        None => no_figure(width),
     }
-    let shelf = row.counted - 1;
-    if row.then < shelf {
-        return cell(true, wide(shelf - row.then), width);
-    }
-    cell(false, wide(row.then - shelf), width)
 }
 
 // One of the six numbers, by its digit.
 fn number_at(row: Row, digit: u8) -> u64 {
     let k = (digit % 8) as usize;
-    if k < 6 {
-        return row.numbers[k];
-    }
-    0
+    row.numbers.get(k).copied().unwrap_or(0)
 }
 
 // A figure, in a column of the table or without one; a digit stands for one of the numbers.
 fn figure(b: u8, row: Row) -> Text {
     match b {
-        b'P' => cell(false, row.numbers[0], 9),
-        b'R' => cell(false, row.numbers[1], 8),
+        b'P' => cell(row.numbers[0], 9),
+        b'R' => cell(row.numbers[1], 8),
         b'C' => count(row, 8),
         b'D' => difference(row, 11),
         b'I' => count(row, 0),
@@ -328,18 +294,18 @@ fn figure(b: u8, row: Row) -> Text {
 
 // The number of a record, or null where there is none.
 fn record_number(row: Row) -> Text {
-    if row.file == 0 {
-        return Text::new().word(b"null");
+    match row.spot {
+        Some(spot) => Text::new().number(spot.number),
+        None => Text::new().word(b"null"),
     }
-    Text::new().number(row.number)
 }
 
 // What stands before and behind the name of a file in JSON.
-fn quote(file: u64) -> Text {
-    if file == 0 {
-        return Text::new();
+fn quote(row: Row) -> Text {
+    match row.spot {
+        Some(_) => Text::new().byte(b'"'),
+        None => Text::new(),
     }
-    Text::new().byte(b'"')
 }
 
 // What stands for a mark: supplier and lot; the number of a record; a quote; a figure.
@@ -349,7 +315,7 @@ fn piece(b: u8, way: Way, row: Row) -> Text {
         b'S' => key_part(way, row.line, program_io::front(&key, 4)),
         b'L' => key_part(way, row.line, program_io::tail(&key, 4)),
         b'N' => record_number(row),
-        b'Q' => quote(row.file),
+        b'Q' => quote(row),
         _ => figure(b, row),
     }
 }
@@ -364,60 +330,43 @@ fn named(json: bool, b: u8) -> Text {
 
 fn put_name(out: Out, room: &mut [u8; ROOM], json: bool, name: &[u8]) -> Out {
     let mut next = out;
-    let mut i: usize = 0;
-    while i < name.len() {
-        next = next.text(room, named(json, name[i]));
-        i += 1;
+    for b in name {
+        next = next.text(room, named(json, *b));
     }
     next
 }
 
 // The name of a file, or null where there is none.
-fn put_file(system: &System, out: Out, room: &mut [u8; ROOM], json: bool, file: u64) -> Out {
-    if file == 0 {
+fn put_file(system: &System, out: Out, room: &mut [u8; ROOM], json: bool, row: Row) -> Out {
+    let Some(spot) = row.spot else {
         return out.bytes(room, b"null");
-    }
+    };
     let mut name = io::buffer();
-    let place = program_io::plus(crate::path_argument(file), 1);
+    let place = crate::path_argument(spot.file).saturating_add(1);
     match system.argument(place, &mut name) {
         Ok(n) => put_name(out, room, json, program_io::front(&name, n)),
         Err(_) => out,
     }
 }
 
-fn put_line(
-    system: &System,
-    out: Out,
-    room: &mut [u8; ROOM],
-    pattern: &[u8],
-    way: Way,
-    row: Row,
-) -> Out {
-    let mut next = out;
-    let mut i: usize = 0;
-    while i < pattern.len() {
-        let b = pattern[i];
-        if b == b'F' {
-            next = put_file(system, next, room, way.json, row.file);
-        } else {
-            if is_mark(b) {
-                next = next.text(room, piece(b, way, row));
-            } else {
-                next = next.byte(room, b);
-            }
-        }
-        if b == b'\n' {
-            return next;
-        }
-        i += 1;
-    }
-    next
-}
-
 // A line by its pattern.
 pub fn put_row(system: &System, out: Out, room: &mut [u8; ROOM], way: Way, row: Row) -> Out {
-    let pattern = program_io::tail(&PATTERNS, place_of(way.json, row.line));
-    put_line(system, out, room, pattern, way, row)
+    let pattern = if way.json {
+        for_programs(row.line)
+    } else {
+        for_people(row.line)
+    };
+    let mut next = out;
+    for &b in pattern {
+        if b == b'F' {
+            next = put_file(system, next, room, way.json, row);
+        } else if is_mark(b) {
+            next = next.text(room, piece(b, way, row));
+        } else {
+            next = next.byte(room, b);
+        }
+    }
+    next
 }
 
 // The names of the table's columns.

@@ -73,8 +73,8 @@ fn take_turn(
             event: _,
             next,
         } => reading.past(next),
-        Step::Refused { no, event } => reading.over(no, event),
-        Step::End => reading.over(0, 0),
+        Step::Refused { no, event } => reading.refused(no, event),
+        Step::End => reading.done(),
     }
 }
 
@@ -90,22 +90,19 @@ fn replay(
 ) -> Replayed {
     let mut buf = [0u8; SIZE];
     let mut reading = Reading::new();
-    let mut turns = u64::MAX;
-    while turns > 0 {
+    for _ in 0..u64::MAX {
         reading = take_turn(file, &mut buf, keys, papers, whole, lots, counts, reading);
-        if !reading.on {
+        if reading.over.is_some() {
             return ended(reading);
         }
-        turns -= 1;
     }
     ended(reading)
 }
 
 fn ended(reading: Reading) -> Replayed {
-    let state = reading.state;
     Replayed {
         verdict: reading.verdict(),
-        lots: state.lots,
+        lots: reading.state.lots,
     }
 }
 
@@ -143,8 +140,7 @@ pub fn read_log(
 ) -> Replayed {
     let none = [0u32; KEYS];
     let first = replay(file, 0, keys, papers, &none, counts);
-    let verdict = first.verdict;
-    if program_verdict::is_judged(verdict) {
+    if program_verdict::is_judged(first.verdict) {
         return recount(file, first, keys, counts);
     }
     first

@@ -1,8 +1,8 @@
 // The records of a file that was accepted, read from its start, each with its fate.
 use crate::lines;
 use crate::lines::{ROOM, Way};
-use program_io::{Filled, Input, Out, Reason, System};
-use program_json::Ends;
+use program_io::{Input, Out, Reason, System, Window};
+use program_json::End;
 use program_verdict::Verdict;
 use std::fs::File;
 use stock_join::{Fate, Join, MARKS};
@@ -27,8 +27,18 @@ pub enum Task {
     Keyless,
 }
 
-// The bytes from `at` to before `filled` stand in the buffer; the join so far, the lots of the store, and the output; and whether the walk goes on, or how it
-// ended, and why a read or a write failed.
+// A walk goes on; the next record is not wholly in the buffer; every record is done; or what went wrong.
+#[derive(Clone, Copy)]
+pub enum State {
+    On,
+    Short,
+    Done,
+    Changed,
+    Unwritten(Reason),
+    Unreadable(Reason),
+}
+
+// The join so far, the lots of the store, and the output; and whether the walk goes on, or how it ended.
 #[derive(Clone, Copy)]
 pub struct Pass {
     pub way: Way,
@@ -36,76 +46,40 @@ pub struct Pass {
     pub lots: usize,
     pub join: Join,
     pub out: Out,
-    pub at: usize,
-    pub filled: usize,
-    pub ended: bool,
-    pub state: u8,
-    pub why: Reason,
+    pub window: Window,
+    pub state: State,
 }
 
-// The states of a walk: it goes on; the record at `at` is not wholly in the buffer; every record is done; or what went wrong.
-const ON: u8 = 0;
-
-const SHORT: u8 = 1;
-
-const DONE: u8 = 2;
-
-const CHANGED: u8 = 3;
-
-const UNWRITTEN: u8 = 4;
-
-const UNREADABLE: u8 = 5;
-
 impl Pass {
-    fn in_state(self, state: u8) -> Pass {
-        let mut next = self;
-        next.state = state;
-        next
+    fn in_state(self, state: State) -> Pass {
+        Pass { state, ..self }
     }
 
     // The verdict on a file that was accepted with so many records, which it has at the second reading, too.
     pub fn verdict(self, records: usize) -> Verdict {
-        if self.state == CHANGED {
-            return Verdict::Changed;
+        match self.state {
+            State::On => Verdict::Endless,
+            State::Unwritten(why) => Verdict::Unwritten(why),
+            State::Unreadable(why) => Verdict::Unreadable(why),
+            State::Done | State::Short if self.join.number as usize == records => {
+                Verdict::Accepted { records }
+            }
+            _ => Verdict::Changed,
         }
-        if self.state == UNWRITTEN {
-            return Verdict::Unwritten(self.why);
-        }
-        if self.state == UNREADABLE {
-            return Verdict::Unreadable(self.why);
-        }
-        if self.state == ON {
-            return Verdict::Endless;
-        }
-        let join = self.join;
-        if join.number as usize == records {
-            return Verdict::Accepted { records };
-        }
-        Verdict::Changed
     }
 }
 
 // Whether a record of this fate is listed.
 fn is_listed(task: Task, fate: Fate) -> bool {
-    match task {
-        Task::Count => false,
-        Task::Never => match fate {
-            Fate::Never => true,
-            _ => false,
-        },
-        Task::Keyless => match fate {
-            Fate::Keyless => true,
-            _ => false,
-        },
-    }
+    matches!(
+        (task, fate),
+        (Task::Never, Fate::Never) | (Task::Keyless, Fate::Keyless)
+    )
 }
 
 // The length of a name from the arguments, by what was answered: one that is too long keeps its first bytes, and no item has so long a name.
 fn name_length(got: Result<usize, Reason>) -> usize {
-    match got {
-        Ok(n) => n,
-        Err(_) => NAME,
-    }
+    got.unwrap_or(NAME)
 }
 
 fn read_key(system: &System, pad: u8, record: &[u8]) -> KeyRead {
@@ -126,66 +100,50 @@ fn take_front(
     marks: &mut [u64; MARKS],
     room: &mut [u8; ROOM],
 ) -> Pass {
-    let Ends::At { length, lines: _ } = program_json::first_end(s) else {
-        return pass.in_state(SHORT);
+    let Some(End { length, lines: _ }) = program_json::first_end(s) else {
+        return pass.in_state(State::Short);
     };
-    let way = pass.way;
-    let read = read_key(system, way.pad, program_io::front(s, length));
+    let read = read_key(system, pass.way.pad, program_io::front(s, length));
     let fate = stock_join::fate_of(read, keys, pass.lots);
-    let before = pass.join;
-    let join = before.next(fate, marks);
-    if join.number == before.number {
-        return pass.in_state(CHANGED);
+    let join = pass.join.next(fate, marks);
+    if join.number == pass.join.number {
+        return pass.in_state(State::Changed);
     }
-    let task = pass.task;
     let mut out = pass.out;
-    if is_listed(task, fate) {
-        out = lines::put_row(system, out, room, way, lines::listed(join, read));
+    if is_listed(pass.task, fate) {
+        out = lines::put_row(system, out, room, pass.way, lines::listed(join, read));
     }
-    if out.good {
-        let mut next = pass;
-        next.at = program_io::plus(pass.at, length);
-        next.join = join;
-        next.out = out;
-        return next;
+    if let Err(why) = out.done {
+        return pass.in_state(State::Unwritten(why));
     }
-    let mut failed = pass.in_state(UNWRITTEN);
-    failed.why = out.why;
-    failed
+    Pass {
+        window: pass.window.past(length),
+        join,
+        out,
+        ..pass
+    }
 }
 
 // Where the record is not wholly there, the rest is moved to the front, and more read behind it. One that ends neither in a full buffer nor in the file has
 // changed.
 fn read_on(file: &File, buf: &mut [u8; BUFFER], pass: Pass) -> Pass {
-    if pass.state != SHORT {
+    let State::Short = pass.state else {
         return pass;
+    };
+    if pass.window.ended {
+        let is_done = pass.window.of(buf).is_empty();
+        return pass.in_state(if is_done { State::Done } else { State::Changed });
     }
-    if pass.ended {
-        if pass.filled <= pass.at {
-            return pass.in_state(DONE);
-        }
-        return pass.in_state(CHANGED);
+    if pass.window.is_full(buf) {
+        return pass.in_state(State::Changed);
     }
-    if pass.at == 0 {
-        if BUFFER <= pass.filled {
-            return pass.in_state(CHANGED);
-        }
-    }
-    let kept = program_io::keep(buf, pass.at, pass.filled);
-    match program_io::fill(Input::Opened(file), buf, kept) {
-        Filled::Bytes(n) => {
-            let mut next = pass;
-            next.at = 0;
-            next.filled = n;
-            next.ended = n < BUFFER;
-            next.state = ON;
-            next
-        }
-        Filled::Failed(why) => {
-            let mut failed = pass.in_state(UNREADABLE);
-            failed.why = why;
-            failed
-        }
+    match pass.window.refill(Input::Opened(file), buf) {
+        Ok(window) => Pass {
+            window,
+            state: State::On,
+            ..pass
+        },
+        Err(why) => pass.in_state(State::Unreadable(why)),
     }
 }
 
@@ -199,20 +157,18 @@ pub fn walk(
     marks: &mut [u64; MARKS],
     room: &mut [u8; ROOM],
 ) -> Pass {
-    let mut pass = start;
-    pass.at = 0;
-    pass.filled = 0;
-    pass.ended = false;
-    pass.state = ON;
-    let mut turns = u64::MAX;
-    while turns > 0 {
-        let s = program_json::part(buf, pass.at, pass.filled);
+    let mut pass = Pass {
+        window: Window::new(),
+        state: State::On,
+        ..start
+    };
+    for _ in 0..u64::MAX {
+        let s = pass.window.of(buf);
         pass = take_front(system, pass, s, keys, marks, room);
         pass = read_on(file, buf, pass);
-        if pass.state != ON {
+        if !matches!(pass.state, State::On) {
             return pass;
         }
-        turns -= 1;
     }
     pass
 }

@@ -5,11 +5,20 @@ mod say;
 
 ghost use Rattle.std.specs.Prelude.{◌<◌, length};
 
-use program_io::{Filled, Input, Reason, System, Target, Text};
-use reader_check::Answer;
+use judge_file::TextRefusal;
+use program_io::{Input, Reason, System, Target, Text};
 use reader_feed::{Counter, Fed};
 pub use say::{is_judged, report, tell};
 use std::fs::File;
+use std::ops::ControlFlow;
+
+// Refusals that are told apart, by the numbers that C reads, too: a record is cut short; the room is; an item is not
+// there, or something is wrong with its text.
+pub const CUT_SHORT: u8 = 19;
+
+pub const SHORT_ROOM: u8 = 20;
+
+pub const NO_SUCH_ITEM: u8 = 22;
 
 #[derive(Clone, Copy)]
 pub enum Verdict {
@@ -38,68 +47,53 @@ struct Place {
     done: u64,
 }
 
-#[derive(Clone, Copy)]
-enum Turn {
-    Next(Place),
-    End(Verdict),
-}
-
-// What the counter says of a part.
-#[derive(Clone, Copy)]
-enum Told {
-    More { counter: Counter, used: usize },
-    End(Verdict),
-}
-
 // One line of progress for so many bytes.
 const STRIDE: u64 = 16777216;
 
-// A sum that stays at the largest number.
-pub fn plus(a: u64, b: u64) -> u64 {
-    if u64::MAX - a < b {
-        return u64::MAX;
-    }
-    a + b
-}
-
 // So many mebibytes are read.
 fn write_progress(system: &System, mebibytes: u64) {
-    let text = Text::new().number(mebibytes).word(b" MiB read\n");
+    let text = Text::new().print(format_args!("{mebibytes} MiB read\n"));
     let _ = text.write(system, Target::Errors);
 }
 
 // A line of progress where a stride is passed between the two counts of bytes.
 pub fn note_passed(system: &System, progress: bool, before: u64, after: u64) {
-    if progress {
-        if before / STRIDE < after / STRIDE {
-            write_progress(system, after / STRIDE * 16);
-        }
+    if progress && before / STRIDE < after / STRIDE {
+        write_progress(system, after / STRIDE * 16);
     }
 }
 
-fn tell_part(counter: Counter, part: &[u8], ended: bool, room: usize) -> Told {
+// What the counter says of a part: itself and how many bytes it is done with, or the verdict.
+fn tell_part(
+    counter: Counter,
+    part: &[u8],
+    ended: bool,
+    room: usize,
+) -> ControlFlow<Verdict, (Counter, usize)> {
     match counter.take(part, ended, room) {
-        Fed::More { counter, used } => Told::More { counter, used },
-        Fed::Accepted { records } => Told::End(Verdict::Accepted { records }),
-        Fed::Refused { no, line, column } => Told::End(Verdict::Refused { no, line, column }),
-        Fed::TooLong { record } => Told::End(Verdict::TooLong { record }),
+        Fed::More { counter, used } => ControlFlow::Continue((counter, used)),
+        Fed::Accepted { records } => ControlFlow::Break(Verdict::Accepted { records }),
+        Fed::Refused { no, line, column } => ControlFlow::Break(Verdict::Refused {
+            no,
+            line,
+            column,
+        }),
+        Fed::TooLong { record } => ControlFlow::Break(Verdict::TooLong { record }),
     }
 }
 
 // The buffer holds n bytes. Its last byte stands beside what is judged: it only tells that input follows.
-fn judge_part(buf: &mut [u8], n: usize, place: Place) -> Turn
+fn judge_part(buf: &mut [u8], n: usize, place: Place) -> ControlFlow<Verdict, Place>
     requires { 0 < length buf.old }
 {
     let room = buf.len() - 1;
-    let part = program_io::front(buf, program_io::least(n, room));
-    match tell_part(place.counter, part, n <= room, room) {
-        Told::More { counter, used } => Turn::Next(Place {
-            counter,
-            kept: program_io::keep(buf, used, n),
-            done: plus(place.done, used as u64),
-        }),
-        Told::End(v) => Turn::End(v),
-    }
+    let part = program_io::front(buf, n.min(room));
+    let (counter, used) = tell_part(place.counter, part, n <= room, room)?;
+    ControlFlow::Continue(Place {
+        counter,
+        kept: program_io::keep(buf, used, n),
+        done: place.done.saturating_add(used as u64),
+    })
 }
 
 // The buffer filled once, and judged.
@@ -109,22 +103,22 @@ fn take_turn(
     buf: &mut [u8],
     progress: bool,
     place: Place,
-) -> Turn
+) -> ControlFlow<Verdict, Place>
     requires { 0 < length buf.old }
 {
     let kept = place.kept;
     let done = place.done;
     match program_io::fill(input, buf, kept) {
-        Filled::Bytes(n) => {
+        Ok(n) => {
             note_passed(
                 system,
                 progress,
-                plus(done, kept as u64),
-                plus(done, n as u64),
+                done.saturating_add(kept as u64),
+                done.saturating_add(n as u64),
             );
             judge_part(buf, n, place)
         }
-        Filled::Failed(why) => Turn::End(Verdict::Unreadable(why)),
+        Err(why) => ControlFlow::Break(Verdict::Unreadable(why)),
     }
 }
 
@@ -137,17 +131,11 @@ fn judge_records(system: &System, input: Input<'_>, buf: &mut [u8], progress: bo
         kept: 0,
         done: 0,
     };
-    let mut turns = u64::MAX;
-    while turns > 0 {
+    for _ in 0..u64::MAX {
         match take_turn(system, input, buf, progress, place) {
-            Turn::Next(p) => {
-                place = p;
-            }
-            Turn::End(v) => {
-                return v;
-            }
+            ControlFlow::Continue(next) => place = next,
+            ControlFlow::Break(v) => return v,
         }
-        turns -= 1;
     }
     Verdict::Endless
 }
@@ -155,21 +143,15 @@ fn judge_records(system: &System, input: Input<'_>, buf: &mut [u8], progress: bo
 // A molfile that is wholly there.
 fn molfile_whole(s: &[u8]) -> Verdict {
     match reader_check::check(0, s) {
-        Answer::Accepted { records } => Verdict::Accepted { records },
-        Answer::Refused { no, line, column } => Verdict::Refused { no, line, column },
+        Ok(records) => Verdict::Accepted { records },
+        Err(TextRefusal { no, line, column }) => Verdict::Refused { no, line, column },
     }
 }
 
 // The beginning of a molfile by what was said of it alone: a refused line is refused whatever follows.
 fn begun(v: Verdict) -> Verdict {
     match v {
-        Verdict::Refused { no, line, column } => {
-            if no == 19 {
-                Verdict::TooLong { record: 1 }
-            } else {
-                Verdict::Refused { no, line, column }
-            }
-        }
+        Verdict::Refused { no, .. } if no != CUT_SHORT => v,
         _ => Verdict::TooLong { record: 1 },
     }
 }
@@ -179,14 +161,9 @@ fn judge_molfile(input: Input<'_>, buf: &mut [u8]) -> Verdict
 {
     let room = buf.len() - 1;
     match program_io::fill(input, buf, 0) {
-        Filled::Bytes(n) => {
-            if n <= room {
-                molfile_whole(program_io::front(buf, n))
-            } else {
-                begun(molfile_whole(program_io::front(buf, room)))
-            }
-        }
-        Filled::Failed(why) => Verdict::Unreadable(why),
+        Ok(n) if n <= room => molfile_whole(program_io::front(buf, n)),
+        Ok(_) => begun(molfile_whole(program_io::front(buf, room))),
+        Err(why) => Verdict::Unreadable(why),
     }
 }
 
@@ -198,7 +175,7 @@ pub fn judge(
     buf: &mut [u8],
     progress: bool,
 ) -> Verdict {
-    if buf.len() == 0 {
+    if buf.is_empty() {
         return Verdict::TooLong { record: 1 };
     }
     if sd {

@@ -2,54 +2,33 @@
 use crate::Verdict;
 use program_io::{Reason, System, Target, Text};
 
-// A refusal's numbers, with these words before line and column.
-fn refusal(
-    begun: Text,
-    no: u8,
-    line: usize,
-    before_line: &[u8],
-    column: usize,
-    before_column: &[u8],
-) -> Text {
-    let numbered = begun.word(b"refused ").number(no as u64);
-    let placed = numbered.word(before_line).number(line as u64);
-    placed.word(before_column).number(column as u64)
-}
-
-fn accepted(begun: Text, records: usize) -> Text {
-    begun.word(b"accepted ").number(records as u64)
-}
-
 // What was judged, as people read it; nothing where the file was not judged.
 fn words(begun: Text, v: Verdict) -> Text {
     match v {
-        Verdict::Accepted { records } => accepted(begun, records),
+        Verdict::Accepted { records } => begun.print(format_args!("accepted {records}")),
         Verdict::Refused { no, line, column } => {
-            refusal(begun, no, line, b" line ", column, b" column ")
+            begun.print(format_args!("refused {no} line {line} column {column}"))
         }
-        Verdict::TooLong { record } => {
-            begun
-                .word(b"record ")
-                .number(record as u64)
-                .word(b" too long")
-        }
+        Verdict::TooLong { record } => begun.print(format_args!("record {record} too long")),
         _ => begun,
     }
 }
 
 // The verdict as programs read it.
 fn code(v: Verdict) -> Text {
-    let begun = Text::new();
+    let text = Text::new();
     match v {
-        Verdict::Accepted { records } => accepted(begun, records),
-        Verdict::Refused { no, line, column } => refusal(begun, no, line, b" ", column, b" "),
-        Verdict::TooLong { record } => begun.word(b"too long ").number(record as u64),
-        Verdict::Unreadable(_) => begun.word(b"unreadable"),
-        Verdict::Endless => begun.word(b"endless"),
-        Verdict::Once => begun.word(b"once"),
-        Verdict::Changed => begun.word(b"changed"),
-        Verdict::Unwritten(_) => begun.word(b"unwritten"),
-        Verdict::NoRoom => begun.word(b"no room"),
+        Verdict::Accepted { records } => text.print(format_args!("accepted {records}")),
+        Verdict::Refused { no, line, column } => {
+            text.print(format_args!("refused {no} {line} {column}"))
+        }
+        Verdict::TooLong { record } => text.print(format_args!("too long {record}")),
+        Verdict::Unreadable(_) => text.print("unreadable"),
+        Verdict::Endless => text.print("endless"),
+        Verdict::Once => text.print("once"),
+        Verdict::Changed => text.print("changed"),
+        Verdict::Unwritten(_) => text.print("unwritten"),
+        Verdict::NoRoom => text.print("no room"),
     }
 }
 
@@ -94,16 +73,10 @@ fn complain(system: &System, name: &[u8], v: Verdict) {
 
 // Whether a file was read to a verdict on its bytes.
 pub fn is_judged(v: Verdict) -> bool {
-    match v {
-        Verdict::Accepted { records: _ } => true,
-        Verdict::Refused {
-            no: _,
-            line: _,
-            column: _,
-        } => true,
-        Verdict::TooLong { record: _ } => true,
-        _ => false,
-    }
+    matches!(
+        v,
+        Verdict::Accepted { .. } | Verdict::Refused { .. } | Verdict::TooLong { .. }
+    )
 }
 
 // The line on standard output, behind the file's name where it is to stand there.

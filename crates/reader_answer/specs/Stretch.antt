@@ -5,7 +5,7 @@ use Rattle.std.proofs.Math.Path.{◌≡◌, refl, ap, subst}
 use Rattle.std.proofs.Common.{sym, ◌∙◌, length-append, take-append-drop, drop-drop, take-add, length-take-le}
 use mathlib.Core.List.{List, [], ◌∷◌, ◌++◌, append_assoc}
 use Rattle.std.proofs.Math.ListN.{length, take, length-drop}
-use Rattle.std.specs.Prelude.{drop}
+use Rattle.std.specs.Prelude.{Option, Some, None, drop}
 use Rattle.std.proofs.Math.Seq.{take-suc, take-append_seam}
 use Rattle.std.proofs.lemmas.List.{take-append-le, drop-append-le}
 use borrow.Author.Tests.{eqb-true, eqb-false}
@@ -13,7 +13,6 @@ use Rattle.text.specs.Text.{Bytes, Line, LF, Each, Lines}
 use Rattle.text.specs.First.{each_as, first_within, first_passes, first_before}
 use Rattle.text.specs.Find.{first_from, is_lf, line_to, line_at}
 use Rattle.text.specs.Cut.{Cut, cut, cut_is, lines_cut, lines_same, ended, ended_is, line_within, line_cut, line_rest}
-use Rattle.text.specs.declared.Found.{Found}
 use Rattle.text.specs.declared.LineAt.{LineAt}
 use Rattle.judge_file.specs.WalkText.{after_lines, after_next}
 
@@ -67,7 +66,7 @@ module _ (s : Bytes) where
       let z : 0 ≡ a - a = omega arith in
       record { from = omega arith; inside = h; lines = subst (λ (i : ℕ). Lines (take i (drop a s)) [] []) z (Lines.unfinished tt) }
 
-  lf_stretch : (a k : ℕ) → first_from is_lf a (drop a s) ≡ Found.At k → (l : Line) × Stretch s a (k + 1) (l ∷ [])
+  lf_stretch : (a k : ℕ) → first_from is_lf a (drop a s) ≡ Some k → (l : Line) × Stretch s a (k + 1) (l ∷ [])
   unfolding Each
   lf_stretch a k h =
       let w = first_within is_lf a k (drop a s) h in
@@ -89,12 +88,12 @@ module _ (s : Bytes) where
   unfolding line_at line_to
   line_stretch a e n h = go (first_from is_lf a (drop a s)) refl h
     where
-      go : (f : Found) → first_from is_lf a (drop a s) ≡ f → line_to s a f ≡ LineAt.Line e n → (l : Line) × Stretch s a n (l ∷ [])
-      go (Found.At k) q g =
+      go : (f : Option ℕ) → first_from is_lf a (drop a s) ≡ f → line_to s a f ≡ LineAt.Line e n → (l : Line) × Stretch s a n (l ∷ [])
+      go (Some k) q g =
           let x = lf_stretch a k q in
           let kn : k + 1 ≡ n = cc in
           (x.0, subst (λ (i : ℕ). Stretch s a i (x.0 ∷ [])) kn x.1)
-      go Found.Nothing q g = absurd (let z : ◌≡◌ {A = ℕ} 0 1 = cc in omega arith)
+      go None q g = absurd (let z : ◌≡◌ {A = ℕ} 0 1 = cc in omega arith)
 
   -- the first k lines from a place on
   pub stretch_after : (a k : ℕ) → a ≤ length s → k ≤ length (cut (drop a s)).lines → Stretch s a (after_lines s a k) (take k (cut (drop a s)).lines)

@@ -6,19 +6,13 @@ ghost use Rattle.judge_file.specs.Place.{molfile, sdfile};
 ghost use Rattle.reader_walk.specs.Checking.{said_of};
 ghost use Rattle.reader_check.specs.Promised.{numbers_of, Promised};
 
+use judge_file::TextRefusal;
 use reader_cursor::Ended;
 use reader_walk::Walked;
 use rules::{ATOMS, BONDS, LISTED};
 
-// A whole text.
-#[derive(Drop)]
-pub enum Answer {
-    Accepted { records: usize },
-    Refused { no: u8, line: usize, column: usize },
-}
-
 // A whole text as a molfile.
-fn check_molfile(s: &[u8]) -> Answer
+fn check_molfile(s: &[u8]) -> Result<usize, TextRefusal>
     ensures { numbers_of result ≡ said_of molfile s.now }
 {
     let mut atoms = [0i32; ATOMS];
@@ -32,30 +26,28 @@ fn check_molfile(s: &[u8]) -> Answer
             header_end: _,
             items_start: _,
             items_end: _,
-        } => Answer::Accepted { records: 1 },
-        Walked::Refused { no, line, column } => Answer::Refused { no, line, column },
+        } => Ok(1),
+        Walked::Refused { no, line, column } => Err(TextRefusal { no, line, column }),
     }
 }
 
 // A whole text as an SDfile. Cut short within a record it is number 19, at the line after its last.
-fn check_sdfile(s: &[u8]) -> Answer
+fn check_sdfile(s: &[u8]) -> Result<usize, TextRefusal>
     ensures { numbers_of result ≡ said_of sdfile s.now }
 {
     match reader_cursor::walk_file(s) {
-        Ended::Over { cursor } => Answer::Accepted {
-            records: cursor.records,
-        },
-        Ended::Short { cursor: _, line } => Answer::Refused {
+        Ended::Over { cursor } => Ok(cursor.records),
+        Ended::Short { cursor: _, line } => Err(TextRefusal {
             no: 19,
             line,
             column: 1,
-        },
-        Ended::Refused { no, line, column } => Answer::Refused { no, line, column },
+        }),
+        Ended::Refused { no, line, column } => Err(TextRefusal { no, line, column }),
     }
 }
 
 // The check of a whole text: kind 0 is a molfile, kind 1 an SDfile.
-pub fn check(kind: u8, s: &[u8]) -> Answer
+pub fn check(kind: u8, s: &[u8]) -> Result<usize, TextRefusal>
     ensures { Promised kind s.now result }
 {
     if kind == 0 {
@@ -64,9 +56,9 @@ pub fn check(kind: u8, s: &[u8]) -> Answer
     if kind == 1 {
         return check_sdfile(s);
     }
-    Answer::Refused {
+    Err(TextRefusal {
         no: 1,
         line: 0,
         column: 0,
-    }
+    })
 }

@@ -86,6 +86,7 @@ fn walk_records(
     ensures { result ≡ ended_by (file_walk s.now) }
 {
     let mut cursor = Cursor::new();
+    // The cursor jumps by records of any length: a `for` would need an iterator over them, with a proof of its own.
     while cursor.at < s.len() {
         let at = cursor.at;
         match reader_walk::walk_keyed(true, &s[at..], atoms, bonds, listed, keys) {

@@ -1,5 +1,5 @@
 -- A record that is whole, or refused, is the same in any longer text: so it does not matter where the input is cut.
-use Rattle.std.specs.Prelude.{ℕ, zero, suc, ◌+◌, ◌-◌, ◌≤◌, ◌<◌, Bool, true, false, cond, length, drop}
+use Rattle.std.specs.Prelude.{Option, Some, None, ℕ, zero, suc, ◌+◌, ◌-◌, ◌≤◌, ◌<◌, Bool, true, false, cond, length, drop}
 use Rattle.std.proofs.Common.{arith, sym, ◌∙◌}
 use Rattle.std.proofs.Math.Path.{◌≡◌, refl, ap, subst}
 use mathlib.Core.List.{List, [], ◌∷◌, ◌++◌, append_assoc}
@@ -9,7 +9,6 @@ use Rattle.text.specs.Text.{Bytes, Line, LF, Lines}
 use Rattle.text.specs.Find.{first_from, is_lf, line_to, line_at}
 use Rattle.text.specs.First.{first_within}
 use Rattle.text.specs.Cut.{Cut, cut, cut_is, lines_cut, line_within, line_cut, line_rest}
-use Rattle.text.specs.declared.Found.{Found}
 use Rattle.text.specs.declared.LineAt.{LineAt}
 use Rattle.rules.specs.Record.{Raw, limit}
 use Rattle.judge_line.specs.Got.{Got, got, bad}
@@ -36,22 +35,22 @@ cut_more s more =
 
 -- ---- and stand at the same positions
 
-first_more : (p : ℕ → Bool) (i k : ℕ) (xs ys : Bytes) → first_from p i xs ≡ Found.At k → first_from p i (xs ++ ys) ≡ Found.At k
+first_more : (p : ℕ → Bool) (i k : ℕ) (xs ys : Bytes) → first_from p i xs ≡ Some k → first_from p i (xs ++ ys) ≡ Some k
 unfolding first_from
 first_more p i k [] ys h = absurd (let z : ◌≡◌ {A = ℕ} 0 1 = cc in omega arith)
 first_more p i k (x ∷ xs) ys h = go (p x) (first_more p (suc i) k xs ys) h
   where
-    go : (t : Bool) → (first_from p (suc i) xs ≡ Found.At k → first_from p (suc i) (xs ++ ys) ≡ Found.At k) →
-        cond t (Found.At i) (first_from p (suc i) xs) ≡ Found.At k → cond t (Found.At i) (first_from p (suc i) (xs ++ ys)) ≡ Found.At k
+    go : (t : Bool) → (first_from p (suc i) xs ≡ Some k → first_from p (suc i) (xs ++ ys) ≡ Some k) →
+        cond t (Some i) (first_from p (suc i) xs) ≡ Some k → cond t (Some i) (first_from p (suc i) (xs ++ ys)) ≡ Some k
     go true r q = q
     go false r q = r q
 
-to_none : (s : Bytes) (at e n : ℕ) → line_to s at Found.Nothing ≡ LineAt.Line e n → ⊥
+to_none : (s : Bytes) (at e n : ℕ) → line_to s at None ≡ LineAt.Line e n → ⊥
 unfolding line_to
 to_none s at e n h = absurd (let z : ◌≡◌ {A = ℕ} 0 1 = cc in omega arith)
 
 module _ (s more : Bytes) where
-  line_to_more : (at k : ℕ) → k < length s → line_to (s ++ more) at (Found.At k) ≡ line_to s at (Found.At k)
+  line_to_more : (at k : ℕ) → k < length s → line_to (s ++ more) at (Some k) ≡ line_to s at (Some k)
   unfolding line_to
   line_to_more at k h = rw (get_or-append s more 0 (k - 1) (omega arith))
 
@@ -59,13 +58,13 @@ module _ (s more : Bytes) where
   unfolding line_at
   line_more at e n h q = go (first_from is_lf at (drop at s)) refl q
     where
-      go : (f : Found) → first_from is_lf at (drop at s) ≡ f → line_to s at f ≡ LineAt.Line e n → line_to (s ++ more) at (first_from is_lf at (drop at (s ++ more))) ≡ LineAt.Line e n
-      go (Found.At k) found z =
+      go : (f : Option ℕ) → first_from is_lf at (drop at s) ≡ f → line_to s at f ≡ LineAt.Line e n → line_to (s ++ more) at (first_from is_lf at (drop at (s ++ more))) ≡ LineAt.Line e n
+      go (Some k) found z =
           let w = first_within is_lf at k (drop at s) found in
-          let d : first_from is_lf at (drop at (s ++ more)) ≡ Found.At k =
+          let d : first_from is_lf at (drop at (s ++ more)) ≡ Some k =
           ap (first_from is_lf at) (drop-append-le at s more h) ∙ first_more is_lf at k (drop at s) more found in
           ap (line_to (s ++ more) at) d ∙ line_to_more at k (omega (arith, w.0, w.1, length-drop at s)) ∙ z
-      go Found.Nothing found z = absurd (to_none s at e n z)
+      go None found z = absurd (to_none s at e n z)
 
   after_more : (at k : ℕ) → at ≤ length s → k ≤ length (cut (drop at s)).lines → after_lines (s ++ more) at k ≡ after_lines s at k
   after_more at zero h some = after_none (s ++ more) at ∙ sym (after_none s at)

@@ -1,5 +1,5 @@
 -- Lines as bytes: what stands before a position, what value lines look like in the text, and that both are so in one way.
-use Rattle.std.specs.Prelude.{ℕ, zero, suc, ◌+◌, ◌-◌, ◌≤◌, ◌<◌, ◌≡◌, refl, List, [], ◌∷◌, ◌++◌, Bool, true, false, length, get_or, take, drop, leb}
+use Rattle.std.specs.Prelude.{Option, Some, None, ℕ, zero, suc, ◌+◌, ◌-◌, ◌≤◌, ◌<◌, ◌≡◌, refl, List, [], ◌∷◌, ◌++◌, Bool, true, false, length, get_or, take, drop, leb}
 use Rattle.std.proofs.Common.{arith, sym, ap, ap₂, ◌∙◌, subst, append_assoc, length-drop, length-append, drop-drop, take-add, length-take-le, eqb-true, leb-true, leb-false}
 use Rattle.std.proofs.Math.Seq.{split_at, take-append-add}
 use Rattle.std.proofs.lemmas.Bool.{eqb-false}
@@ -7,7 +7,6 @@ use Rattle.text.specs.Text.{Bytes, Line, LF, Each, Without, Ended, Lines}
 use Rattle.text.specs.Find.{first_from, is_lf, line_to, line_at}
 use Rattle.text.specs.First.{each_as, first_within, first_passes, first_before}
 use Rattle.text.specs.Cut.{Cut, cut, ended_is, cut_is, cut_line, lines_same, line_within, line_cut, line_rest}
-use Rattle.text.specs.declared.Found.{Found}
 use Rattle.text.specs.declared.LineAt.{LineAt}
 use Rattle.judge_file.specs.WalkText.{after_lines, after_none, after_next}
 use Rattle.reader_item.specs.Find.{line_end}
@@ -22,10 +21,10 @@ record LineBytes (s : Bytes) (at e n : ℕ) : Type 0 where
   size : at + length bs + 1 ≡ n
   no_lf : Without LF bs
 
-bytes_by : (s : Bytes) (at e n : ℕ) (f : Found) → first_from is_lf at (drop at s) ≡ f → line_to s at f ≡ LineAt.Line e n → LineBytes s at e n
+bytes_by : (s : Bytes) (at e n : ℕ) (f : Option ℕ) → first_from is_lf at (drop at s) ≡ f → line_to s at f ≡ LineAt.Line e n → LineBytes s at e n
 unfolding line_to
-bytes_by s at e n Found.Nothing found h = absurd (let z : ◌≡◌ {A = ℕ} 0 1 = cc in omega arith)
-bytes_by s at e n (Found.At k) found h =
+bytes_by s at e n None found h = absurd (let z : ◌≡◌ {A = ℕ} 0 1 = cc in omega arith)
+bytes_by s at e n (Some k) found h =
     let w = first_within is_lf at k (drop at s) found in
     let n_is : k + 1 ≡ n = cc in
     let low : k - at < length (drop at s) = omega (arith, w.0, w.1) in

@@ -78,6 +78,7 @@ fn values_at(s: &[u8], at: usize) -> Values
     let mut from: usize = 0;
     let mut to: usize = 0;
     let mut i = at;
+    // The place jumps by lines of any length: a `for` would need an iterator over them, with a proof of its own.
     loop {
         let line = line_judged::whole_line(s, i);
         let end = line.end;
@@ -97,6 +98,7 @@ fn hunt(s: &[u8], start: usize, name: &[u8]) -> Found
     ensures { numbers_of result ≡ found_of s.now name.now }
 {
     let mut at = start;
+    // The place jumps by items of any length: a `for` would need an iterator over them, with a proof of its own.
     loop {
         let line = line_judged::whole_line(s, at);
         let end = line.end;

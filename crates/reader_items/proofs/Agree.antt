@@ -1,5 +1,5 @@
 -- A step keeps its promise: what the judge finds from a position on is what the rules say, and nothing else is.
-use Rattle.std.specs.Prelude.{ℕ, suc, ◌+◌, ◌-◌, ◌≤◌, ◌≡◌, refl, ◌↔◌, List, [], ◌∷◌, take, drop}
+use Rattle.std.specs.Prelude.{Result, Ok, Err, ℕ, suc, ◌+◌, ◌-◌, ◌≤◌, ◌≡◌, refl, ◌↔◌, List, [], ◌∷◌, take, drop}
 use native.Mathlib.Omega.{arith}
 use Rattle.std.proofs.Math.Path.{sym, ap}
 use Rattle.std.proofs.Common.{◌∙◌, subst, length-drop, take-append-drop, length-take-le}
@@ -14,7 +14,8 @@ use Rattle.judge_line.specs.Got.{Got, got, bad}
 use Rattle.judge_line.specs.Judge.{ItemOrEnd, title, close, ValueOrBlank, value, blank}
 use Rattle.judge_refusals.specs.Tells.{tells_bad}
 use Rattle.judge_file.specs.WalkText.{after_lines}
-use Rattle.line_text.specs.declared.ItemRead.{ItemRead}
+use Rattle.line_text.specs.declared.ItemLine.{ItemLine}
+use Rattle.judge_line.specs.declared.Refusal.{Refusal}
 use Rattle.reader_item.specs.Find.{from_of, to_of}
 use Rattle.reader_item.specs.Promise.{Joined}
 use Rattle.reader_item.specs.Joined.{joined_one}
@@ -72,7 +73,7 @@ stand_one s at p q = values_one s p.values q.values (λ h. (behind_one s at (p.s
 -- ---- What the step finds stands there
 
 module _ (s : Bytes) (at : ℕ) (l : Line) (t : List Line) (g : Begun s at l t) where
-  by_values : (a b : ℕ) (r : Ran) → values_run 0 t ≡ r → titled s at (n s at l t g) (ItemRead.Title a b) ≡ with_values (at + a) (at + b) (values_by s (n s at l t g) r)
+  by_values : (a b : ℕ) (r : Ran) → values_run 0 t ≡ r → titled s at (n s at l t g) (Ok (ItemLine.Title a b)) ≡ with_values (at + a) (at + b) (values_by s (n s at l t g) r)
   unfolding titled values_from
   by_values a b r h = ap (λ (x : Ran). with_values (at + a) (at + b) (values_by s (n s at l t g) x)) (ap (values_run 0) g.rest ∙ h)
 
@@ -83,17 +84,17 @@ module _ (s : Bytes) (at : ℕ) (l : Line) (t : List Line) (g : Begun s at l t) 
   step_item name d {vs = vs} v =
       let a = d.between + 2 in
       let z : 0 + length vs ≡ length vs = omega arith in
-      by_line s at l t g (ItemRead.Title a (a + length name)) (header_titled l name d) ∙ by_values a (a + length name) (over (length vs)) (values_run_lem 0 v ∙ ap over z)
+      by_line s at l t g (Ok (ItemLine.Title a (a + length name))) (header_titled l name d) ∙ by_values a (a + length name) (over (length vs)) (values_run_lem 0 v ∙ ap over z)
 
   step_stopped : (name : Bytes) → DataHeader l name → (num i c : ℕ) → values_run 0 t ≡ stopped num i c → step_of s at ≡ ItemAt.Refused num i c
   unfolding with_values
   step_stopped name d num i c h =
       let a = d.between + 2 in
-      by_line s at l t g (ItemRead.Title a (a + length name)) (header_titled l name d) ∙ by_values a (a + length name) (stopped num i c) h
+      by_line s at l t g (Ok (ItemLine.Title a (a + length name))) (header_titled l name d) ∙ by_values a (a + length name) (stopped num i c) h
 
-  step_bad : (num c : ℕ) → title_is l ≡ bad num c → step_of s at ≡ ItemAt.Refused num 1 c
+  step_bad : (r : Refusal) → title_is l ≡ bad r.no r.column → step_of s at ≡ ItemAt.Refused r.no 1 r.column
   unfolding titled title_of
-  step_bad num c h = by_line s at l t g (ItemRead.Bad num c) (ap (title_of l) h)
+  step_bad r h = by_line s at l t g (Err r) (ap (title_of l) h)
 
   found : {rest : Bytes} → Lines (drop at s) (l ∷ t) rest → StepAt s at (step_of s at)
   found all = go (title_is l) refl
@@ -108,11 +109,11 @@ module _ (s : Bytes) (at : ℕ) (l : Line) (t : List Line) (g : Begun s at l t) 
       go : (x : Got ItemOrEnd) → title_is l ≡ x → StepAt s at (step_of s at)
       go (got (title name)) h = run name (titled_got l name h) (values_run 0 t) refl
       go (got close) h = let d = closed_got l h in subst (StepAt s at) (sym (step_end s at l t g d)) (StepAt.end all d (next_behind s at l t g))
-      go (bad num c) h = subst (StepAt s at) (sym (step_bad num c h)) (StepAt.refused all (NoItem.bad_line ((tells_bad num c (title_tells l)).0 h)))
+      go (bad num c) h = subst (StepAt s at) (sym (step_bad (record { no = num; column = c }) h)) (StepAt.refused all (NoItem.bad_line ((tells_bad num c (title_tells l)).0 h)))
 
   -- and nothing else does
   refused_only : (e i c : ℕ) → NoItem (l ∷ t) e i c → step_of s at ≡ ItemAt.Refused e i c
-  refused_only e i c (NoItem.bad_line h) = step_bad e c ((tells_bad e c (title_tells l)).1 h)
+  refused_only e i c (NoItem.bad_line h) = step_bad (record { no = e; column = c }) ((tells_bad e c (title_tells l)).1 h)
   refused_only e i c (NoItem.bad_values {name = name} d v) = step_stopped name d e i c (stops_run v 0 (omega arith))
 
 module _ (s : Bytes) (at : ℕ) where
@@ -162,17 +163,17 @@ module _ (s : Bytes) (at : ℕ) (o : LineAt) (is : o ≡ line_at s at) where
   code_rest q = stepped s at (ItemAt.Refused 19 1 1) (sym (step_rest s at (sym is ∙ q)))
 
   module _ (e n : ℕ) (q : o ≡ LineAt.Line e n) where
-    module _ (x : ItemRead) (f : x ≡ title_of (take (e - at) (drop at s)) (title_is (take (e - at) (drop at s)))) where
-      pub code_item : (a b : ℕ) (v : ValuesAt) (r : ItemAt) → x ≡ ItemRead.Title a b → v ≡ values_from s n → r ≡ with_values (at + a) (at + b) v → Stepped s at r
+    module _ (x : Result ItemLine Refusal) (f : x ≡ title_of (take (e - at) (drop at s)) (title_is (take (e - at) (drop at s)))) where
+      pub code_item : (a b : ℕ) (v : ValuesAt) (r : ItemAt) → x ≡ Ok (ItemLine.Title a b) → v ≡ values_from s n → r ≡ with_values (at + a) (at + b) v → Stepped s at r
       unfolding titled
-      code_item a b v r h k z = stepped s at r (z ∙ ap (with_values (at + a) (at + b)) k ∙ sym (step_line s at e n (line s at o is e n q) (ItemRead.Title a b) (sym f ∙ h)))
+      code_item a b v r h k z = stepped s at r (z ∙ ap (with_values (at + a) (at + b)) k ∙ sym (step_line s at e n (line s at o is e n q) (Ok (ItemLine.Title a b)) (sym f ∙ h)))
 
-      pub code_end : x ≡ ItemRead.Close → Stepped s at (ItemAt.End n)
+      pub code_end : x ≡ Ok ItemLine.Close → Stepped s at (ItemAt.End n)
       unfolding titled
-      code_end h = stepped s at (ItemAt.End n) (sym (step_line s at e n (line s at o is e n q) ItemRead.Close (sym f ∙ h)))
+      code_end h = stepped s at (ItemAt.End n) (sym (step_line s at e n (line s at o is e n q) (Ok ItemLine.Close) (sym f ∙ h)))
 
-      pub code_bad : (num c : ℕ) → x ≡ ItemRead.Bad num c → Stepped s at (ItemAt.Refused num 1 c)
+      pub code_bad : (r : Refusal) → x ≡ Err r → Stepped s at (ItemAt.Refused r.no 1 r.column)
       unfolding titled
-      code_bad num c h = stepped s at (ItemAt.Refused num 1 c) (sym (step_line s at e n (line s at o is e n q) (ItemRead.Bad num c) (sym f ∙ h)))
+      code_bad r h = stepped s at (ItemAt.Refused r.no 1 r.column) (sym (step_line s at e n (line s at o is e n q) (Err r) (sym f ∙ h)))
 
 pub ruleset step_laws = (code_rest, code_low, code_high, code_item, code_end, code_bad, code_fits, code_fits_2)

@@ -1,9 +1,8 @@
 -- From step to step: from where a record's items start, steps visit these items in their order, and end behind the record.
-use Rattle.std.specs.Prelude.{ℕ, suc, ◌+◌, ◌-◌, ◌≤◌, ◌≡◌, refl, List, [], Bool, true, false, cond, leb, length, drop}
+use Rattle.std.specs.Prelude.{Option, Some, None, ℕ, suc, ◌+◌, ◌-◌, ◌≤◌, ◌≡◌, refl, List, [], Bool, true, false, cond, leb, length, drop}
 use Rattle.std.proofs.Common.{arith, sym, ap, ◌∙◌, subst, length-take, length-drop}
 use Rattle.text.specs.Text.{Bytes, Line, bytes}
 use Rattle.text.specs.Find.{bad_column, is_blank}
-use Rattle.text.specs.declared.Found.{Found}
 use Rattle.text.specs.Cut.{cut, line_within, few_lines}
 use Rattle.rules.specs.Record.{Item, Raw, Items, Record, limit}
 use Rattle.judge_line.specs.Got.{Got, got, bad, then, need}
@@ -112,9 +111,9 @@ within_low : (k : ℕ) (l : Line) (e c : ℕ) → within k l (got l) ≡ bad e c
 unfolding within need
 within_low k l e c h = go (leb (length l) k) (bad_column l) h
   where
-    go : (t : Bool) (f : Found) → need t 3 (suc k) (none_found 4 f (got l)) ≡ bad e c → 3 ≤ e
-    go true (Found.At i) h = let z : 4 ≡ e = cc in omega (arith, z)
-    go true Found.Nothing h = absurd (let z : ◌≡◌ {A = ℕ} 0 1 = cc in omega arith)
+    go : (t : Bool) (f : Option ℕ) → need t 3 (suc k) (none_found 4 f (got l)) ≡ bad e c → 3 ≤ e
+    go true (Some i) h = let z : 4 ≡ e = cc in omega (arith, z)
+    go true None h = absurd (let z : ◌≡◌ {A = ℕ} 0 1 = cc in omega arith)
     go false f h = let z : 3 ≡ e = cc in omega (arith, z)
 
 item_low : (l : Line) (e c : ℕ) → item_of l ≡ bad e c → 3 ≤ e

@@ -1,5 +1,5 @@
 -- A step keeps its promise: what the judge finds from a position on is what the rules say, and nothing else is.
-use Rattle.std.specs.Prelude.{ℕ, suc, ◌+◌, ◌-◌, ◌*◌, ◌^◌, ◌≤◌, ◌<◌, ◌≡◌, refl, List, [], ◌∷◌, ◌++◌, take, drop}
+use Rattle.std.specs.Prelude.{Result, Ok, ℕ, suc, ◌+◌, ◌-◌, ◌*◌, ◌^◌, ◌≤◌, ◌<◌, ◌≡◌, refl, List, [], ◌∷◌, ◌++◌, take, drop}
 use native.Mathlib.Omega.{arith}
 use Rattle.std.proofs.Math.Path.{sym, ap}
 use Rattle.std.proofs.Common.{◌∙◌, subst, length-drop, length-append, take-append-drop, length-take-le, Fits}
@@ -14,7 +14,8 @@ use Rattle.rules.specs.Record.{Values}
 use Rattle.judge_line.specs.Got.{Got, got, bad}
 use Rattle.judge_line.specs.Judge.{ValueOrBlank, value, blank}
 use Rattle.judge_file.specs.WalkText.{after_lines, after_none, after_next}
-use Rattle.line_text.specs.declared.ItemRead.{ItemRead}
+use Rattle.line_text.specs.declared.ItemLine.{ItemLine}
+use Rattle.judge_line.specs.declared.Refusal.{Refusal}
 use Rattle.reader_item.specs.Find.{from_of, to_of}
 use Rattle.reader_item.specs.Position.{after_low, Past, past_values}
 use Rattle.reader_item.proofs.Position.{stretch_within}
@@ -169,12 +170,12 @@ module _ (s : Bytes) (at : ℕ) (l : Line) (t : List Line) (g : Begun s at l t) 
       }
 
   -- the step, by what the line is
-  pub by_line : (x : ItemRead) → title_of l (title_is l) ≡ x → step_of s at ≡ titled s at n x
+  pub by_line : (x : Result ItemLine Refusal) → title_of l (title_is l) ≡ x → step_of s at ≡ titled s at n x
   by_line x h = step_line s at g.e n g.line x (ap (λ (y : Line). title_of y (title_is y)) g.first ∙ h)
 
   pub step_end : RecordEnd l → step_of s at ≡ ItemAt.End n
   unfolding titled
-  step_end d = by_line ItemRead.Close (end_titled l d)
+  step_end d = by_line (Ok ItemLine.Close) (end_titled l d)
 
 -- one answer for every text and position
 pub stepped_one : (s : Bytes) (at : ℕ) (r r' : ItemAt) → Stepped s at r → Stepped s at r' → r ≡ r'
@@ -193,9 +194,9 @@ module _ (s : Bytes) (at : ℕ) (o : LineAt) (is : o ≡ line_at s at) where
     pub code_high : e ≤ length s
     code_high = let w = line_within s at e n line in omega (arith, w.1, w.2)
 
-    module _ (x : ItemRead) (f : x ≡ title_of (take (e - at) (drop at s)) (title_is (take (e - at) (drop at s)))) where
-      pub code_fits : (a b : ℕ) → x ≡ ItemRead.Title a b → length s * 1 < 2 ^ 63 → Fits w64 (at + a)
+    module _ (x : Result ItemLine Refusal) (f : x ≡ title_of (take (e - at) (drop at s)) (title_is (take (e - at) (drop at s)))) where
+      pub code_fits : (a b : ℕ) → x ≡ Ok (ItemLine.Title a b) → length s * 1 < 2 ^ 63 → Fits w64 (at + a)
       code_fits a b h k = let w = name_within s at e n line a b (sym f ∙ h) in record { fits = omega (arith, w.0, w.1) }
 
-      pub code_fits_2 : (a b : ℕ) → x ≡ ItemRead.Title a b → length s * 1 < 2 ^ 63 → Fits w64 (at + b)
+      pub code_fits_2 : (a b : ℕ) → x ≡ Ok (ItemLine.Title a b) → length s * 1 < 2 ^ 63 → Fits w64 (at + b)
       code_fits_2 a b h k = let w = name_within s at e n line a b (sym f ∙ h) in record { fits = omega (arith, w.0, w.1) }

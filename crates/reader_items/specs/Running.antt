@@ -1,5 +1,5 @@
 -- The loop over the value lines of an item, from any position; and the step as the code takes it.
-use Rattle.std.specs.Prelude.{ℕ, suc, ◌+◌, ◌-◌, ◌*◌, ◌^◌, ◌≤◌, ◌<◌, ◌≡◌, refl, length, take, drop}
+use Rattle.std.specs.Prelude.{Err, Result, Ok, ℕ, suc, ◌+◌, ◌-◌, ◌*◌, ◌^◌, ◌≤◌, ◌<◌, ◌≡◌, refl, length, take, drop}
 use Rattle.std.proofs.Common.{arith, ◌∙◌, length-take, length-drop, Fits}
 use Rattle.std.proofs.Math.Path.{sym, ap}
 use mathlib.Core.List.{List, [], ◌∷◌}
@@ -11,8 +11,9 @@ use Rattle.text.specs.declared.LineAt.{LineAt}
 use Rattle.judge_line.specs.Got.{got, bad}
 use Rattle.judge_line.specs.Judge.{value, blank}
 use Rattle.line_text.specs.Answer.{value_got}
-use Rattle.line_text.specs.declared.ItemRead.{ItemRead}
-use Rattle.line_text.specs.declared.ValueRead.{ValueRead}
+use Rattle.line_text.specs.declared.ItemLine.{ItemLine}
+use Rattle.judge_line.specs.declared.Refusal.{Refusal}
+use Rattle.line_text.specs.declared.ValueKind.{ValueKind}
 use Rattle.judge_file.specs.WalkText.{after_lines, after_none}
 use Rattle.reader_walk.specs.Walking.{after_more}
 use Rattle.reader_item.specs.Find.{line_end, from_of, to_of}
@@ -87,8 +88,8 @@ module _ (s : Bytes) (at from to i line : ℕ) (g : Running s at from to i line)
     pub lines_are : (cut (drop i s)).lines ≡ here ∷ (cut (drop n s)).lines
     lines_are = ap (λ (c : Cut). c.lines) (line_cut s i e n l_is)
 
-    module _ (v : ValueRead) (f : value_got v ≡ value_is here) where
-      pub running_value : v ≡ ValueRead.Value → Running s at at e n (line + 1)
+    module _ (v : Result ValueKind Refusal) (f : value_got v ≡ value_is here) where
+      pub running_value : v ≡ Ok ValueKind.Value → Running s at at e n (line + 1)
       running_value h =
           let w = line_within s i e n l_is in
           record {
@@ -103,11 +104,11 @@ module _ (s : Bytes) (at from to i line : ℕ) (g : Running s at from to i line)
                 ∙ run_value g.passed here (cut (drop n s)).lines (sym f ∙ ap value_got h);
           }
 
-      pub running_bad : (num c : ℕ) → v ≡ ValueRead.Bad num c → ValuesAt.Refused num line c ≡ values_from s at
+      pub running_bad : (r : Refusal) → v ≡ Err r → ValuesAt.Refused r.no line r.column ≡ values_from s at
       unfolding values_from
-      running_bad num c h =
-          let run : values_run 0 (cut (drop at s)).lines ≡ stopped num (g.passed + 2) c =
-          g.same ∙ ap (values_run g.passed) lines_are ∙ run_bad g.passed here (cut (drop n s)).lines num c (sym f ∙ ap value_got h) in
+      running_bad r h =
+          let run : values_run 0 (cut (drop at s)).lines ≡ stopped r.no (g.passed + 2) r.column =
+          g.same ∙ ap (values_run g.passed) lines_are ∙ run_bad g.passed here (cut (drop n s)).lines r.no r.column (sym f ∙ ap value_got h) in
           rw (run, g.line_is)
 
 -- ---- With the name
@@ -133,12 +134,12 @@ module _ (s : Bytes) (at e n : ℕ) (h : line_at s at ≡ LineAt.Line e n) where
   abbrev first : Line
   first = take (e - at) (drop at s)
 
-  pub step_line : (t : ItemRead) → title_of first (title_is first) ≡ t → step_of s at ≡ titled s at n t
+  pub step_line : (t : Result ItemLine Refusal) → title_of first (title_is first) ≡ t → step_of s at ≡ titled s at n t
   unfolding step_of
   step_line t f = ap (step_to s at) h ∙ ap (titled s at n) f
 
   -- a name lies in the text
-  pub name_within : (a b : ℕ) → title_of first (title_is first) ≡ ItemRead.Title a b → (at + a ≤ at + b) × (at + b ≤ length s)
+  pub name_within : (a b : ℕ) → title_of first (title_is first) ≡ Ok (ItemLine.Title a b) → (at + a ≤ at + b) × (at + b ≤ length s)
   name_within a b f =
       let w = line_within s at e n h in
       let i = title_within first a b f in

@@ -1,15 +1,15 @@
 -- A step over the items of a record: the item whose data header starts at a position of a text, with the positions of its name and of its value lines, or the
 -- end of the record, or a refusal. Lines count from the one at that position.
-use Rattle.std.specs.Prelude.{ℕ, suc, ◌+◌, ◌-◌, List, [], ◌∷◌, length, take, drop}
+use Rattle.std.specs.Prelude.{Result, Ok, Err, Option, Some, None, ℕ, suc, ◌+◌, ◌-◌, List, [], ◌∷◌, length, take, drop}
 use Rattle.text.specs.Text.{Bytes, Line}
 use Rattle.text.specs.Find.{line_at, ink_column}
 use Rattle.text.specs.Cut.{cut}
-use Rattle.text.specs.declared.Found.{Found}
 use Rattle.text.specs.declared.LineAt.{LineAt}
 use Rattle.judge_line.specs.Got.{Got, got, bad, then}
 use Rattle.judge_line.specs.Field.{within}
 use Rattle.judge_line.specs.Judge.{ItemOrEnd, title, close, item_of, ValueOrBlank, value, blank, value_of}
-use Rattle.line_text.specs.declared.ItemRead.{ItemRead}
+use Rattle.line_text.specs.declared.ItemLine.{ItemLine}
+use Rattle.judge_line.specs.declared.Refusal.{Refusal}
 use Rattle.judge_file.specs.WalkText.{after_lines}
 use Rattle.reader_item.specs.Find.{from_of, to_of}
 use Rattle.reader_items.specs.declared.ItemAt.{ItemAt}
@@ -25,17 +25,17 @@ abbrev pub value_is : Line → Got ValueOrBlank
 value_is l = then (within 200 l (got l)) value_of
 
 -- the name starts behind `<`, the first byte after `>` that is no space
-abbrev pub name_start : Found → ℕ
-name_start (Found.At k) = k
-name_start Found.Nothing = 0
+abbrev pub name_start : Option ℕ → ℕ
+name_start (Some k) = k
+name_start None = 0
 
-abbrev pub title_by : ℕ → ℕ → ItemRead
-title_by from size = ItemRead.Title from (from + size)
+abbrev pub title_by : ℕ → ℕ → Result ItemLine Refusal
+title_by from size = Ok (ItemLine.Title from (from + size))
 
-unfoldable pub title_of : Line → Got ItemOrEnd → ItemRead
+unfoldable pub title_of : Line → Got ItemOrEnd → Result ItemLine Refusal
 title_of l (got (title name)) = title_by (name_start (ink_column l 2)) (length name)
-title_of l (got close) = ItemRead.Close
-title_of l (bad e column) = ItemRead.Bad e column
+title_of l (got close) = Ok ItemLine.Close
+title_of l (bad e column) = Err (record { no = e; column = column })
 
 -- ---- The value lines of an item
 
@@ -66,10 +66,10 @@ with_values a b (ValuesAt.Over from to n k) = ItemAt.Item a b from to n k
 with_values a b (ValuesAt.Refused e i column) = ItemAt.Refused e i column
 
 -- the line at `at`, by what it is; the next line starts at n
-unfoldable pub titled : Bytes → ℕ → ℕ → ItemRead → ItemAt
-titled s at n (ItemRead.Title a b) = with_values (at + a) (at + b) (values_from s n)
-titled s at n ItemRead.Close = ItemAt.End n
-titled s at n (ItemRead.Bad e column) = ItemAt.Refused e 1 column
+unfoldable pub titled : Bytes → ℕ → ℕ → Result ItemLine Refusal → ItemAt
+titled s at n (Ok (ItemLine.Title a b)) = with_values (at + a) (at + b) (values_from s n)
+titled s at n (Ok ItemLine.Close) = ItemAt.End n
+titled s at n (Err r) = ItemAt.Refused r.no 1 r.column
 
 abbrev pub step_to : Bytes → ℕ → LineAt → ItemAt
 step_to s at (LineAt.Line e n) = titled s at n (title_of (take (e - at) (drop at s)) (title_is (take (e - at) (drop at s))))

@@ -1,5 +1,5 @@
 -- A line where a data header or `$$$$` must stand, and where its name stands.
-use Rattle.std.specs.Prelude.{ℕ, zero, suc, ◌+◌, ◌-◌, ◌*◌, ◌^◌, ◌≤◌, ◌<◌, ◌≡◌, refl, ◌∷◌, ◌++◌, take, drop}
+use Rattle.std.specs.Prelude.{Result, Ok, Err, Option, Some, None, ℕ, zero, suc, ◌+◌, ◌-◌, ◌*◌, ◌^◌, ◌≤◌, ◌<◌, ◌≡◌, refl, ◌∷◌, ◌++◌, take, drop}
 use native.Mathlib.Omega.{arith}
 use Rattle.std.proofs.Common.{sym, ◌∙◌, subst, length-append, take_at, Fits}
 use Rattle.std.proofs.Math.Path.{ap}
@@ -11,7 +11,6 @@ use Rattle.text.specs.Text.{Bytes, Line}
 use Rattle.text.specs.Columns.{spaces, Within}
 use Rattle.text.specs.Find.{first_from, is_ink, ink_column}
 use Rattle.text.specs.First.{first_within}
-use Rattle.text.specs.declared.Found.{Found}
 use Rattle.rules.specs.Forms.{DataHeader, ValueLine, BlankLine, RecordEnd}
 use Rattle.judge_line.specs.Got.{Got, got, bad, then}
 use Rattle.judge_line.specs.GotLaws.{got_inj, then_got}
@@ -26,10 +25,10 @@ use Rattle.judge_refusals.proofs.Fields.{within_last}
 use Rattle.judge_refusals.specs.Lists.{item_tells, value_tells}
 use Rattle.line_text.specs.Answer.{item_got, item_in, value_got}
 use Rattle.line_text.specs.Within.{title_order, title_end}
-use Rattle.line_text.specs.declared.ItemRead.{ItemRead}
-use Rattle.line_text.specs.declared.ValueRead.{ValueRead}
+use Rattle.line_text.specs.declared.ItemLine.{ItemLine}
+use Rattle.line_text.specs.declared.ValueKind.{ValueKind}
 use Rattle.reader_places.specs.Places.{line_got}
-use Rattle.reader_places.specs.declared.LineJudged.{LineJudged}
+use Rattle.judge_line.specs.declared.Refusal.{Refusal}
 use Rattle.reader_items.specs.Step.{title_is, value_is, name_start, title_by, title_of}
 
 -- ---- As the rules have it
@@ -83,20 +82,20 @@ values_tell l =
 
 -- ---- Where the name stands
 
-ink_after : (i k : ℕ) (rest : Bytes) → first_from is_ink i (spaces k ++ (60 ∷ rest)) ≡ Found.At (i + k)
+ink_after : (i k : ℕ) (rest : Bytes) → first_from is_ink i (spaces k ++ (60 ∷ rest)) ≡ Some (i + k)
 unfolding first_from
-ink_after i zero rest = let z : i ≡ i + 0 = omega arith in ap Found.At z
-ink_after i (suc k) rest = let z : suc i + k ≡ i + suc k = omega arith in ink_after (suc i) k rest ∙ ap Found.At z
+ink_after i zero rest = let z : i ≡ i + 0 = omega arith in ap Some z
+ink_after i (suc k) rest = let z : suc i + k ≡ i + suc k = omega arith in ink_after (suc i) k rest ∙ ap Some z
 
 module _ (l name : Bytes) (d : DataHeader l name) where
   abbrev tail : Bytes
   tail = name ++ (62 ∷ spaces d.after)
 
-  pub header_start : ink_column l 2 ≡ Found.At (d.between + 2)
+  pub header_start : ink_column l 2 ≡ Some (d.between + 2)
   unfolding ink_column
   header_start =
       let z : 2 + d.between ≡ d.between + 2 = omega arith in
-      ap (λ (x : Line). first_from is_ink 2 (drop 1 x)) d.parts ∙ ink_after 2 d.between tail ∙ ap Found.At z
+      ap (λ (x : Line). first_from is_ink 2 (drop 1 x)) d.parts ∙ ink_after 2 d.between tail ∙ ap Some z
 
   pub header_inside : d.between + 2 + length name ≤ length l
   header_inside =
@@ -110,16 +109,16 @@ module _ (l name : Bytes) (d : DataHeader l name) where
       (ap (λ (i : ℕ). drop i l) z ∙ ap (drop (suc (length (spaces d.between) + 1))) d.parts ∙ drop-append-add (spaces d.between) (60 ∷ tail) 1)
       ∙ take_at name (62 ∷ spaces d.after) (length name) refl
 
-  pub header_titled : title_of l (title_is l) ≡ ItemRead.Title (d.between + 2) (d.between + 2 + length name)
+  pub header_titled : title_of l (title_is l) ≡ Ok (ItemLine.Title (d.between + 2) (d.between + 2 + length name))
   unfolding title_of
-  header_titled = ap (title_of l) (titled_is l name d) ∙ ap (λ (x : Found). title_by (name_start x) (length name)) header_start
+  header_titled = ap (title_of l) (titled_is l name d) ∙ ap (λ (x : Option ℕ). title_by (name_start x) (length name)) header_start
 
-pub end_titled : (l : Line) → RecordEnd l → title_of l (title_is l) ≡ ItemRead.Close
+pub end_titled : (l : Line) → RecordEnd l → title_of l (title_is l) ≡ Ok ItemLine.Close
 unfolding title_of
 end_titled l d = ap (title_of l) (closed_is l d)
 
 -- the name lies in its line
-pub title_within : (l : Line) (a b : ℕ) → title_of l (title_is l) ≡ ItemRead.Title a b → (a ≤ b) × (b ≤ length l)
+pub title_within : (l : Line) (a b : ℕ) → title_of l (title_is l) ≡ Ok (ItemLine.Title a b) → (a ≤ b) × (b ≤ length l)
 unfolding title_of
 title_within l a b h = go (title_is l) refl
   where
@@ -136,65 +135,65 @@ title_within l a b h = go (title_is l) refl
 
 -- ---- As the code finds it
 
-module _ (x f : Found) (e : x ≡ f) where
-  pub name_at : (k : ℕ) → x ≡ Found.At k → k ≡ name_start f
+module _ (x f : Option ℕ) (e : x ≡ f) where
+  pub name_at : (k : ℕ) → x ≡ Some k → k ≡ name_start f
   name_at k h = ap name_start (sym h ∙ e)
 
-  pub name_nowhere : x ≡ Found.Nothing → 0 ≡ name_start f
+  pub name_nowhere : x ≡ None → 0 ≡ name_start f
   name_nowhere h = ap name_start (sym h ∙ e)
 
 -- past the end of the line there is no byte
-start_within : (l : Line) (f : Found) → ink_column l 2 ≡ f → name_start f ≤ length l + 1
+start_within : (l : Line) (f : Option ℕ) → ink_column l 2 ≡ f → name_start f ≤ length l + 1
 unfolding ink_column
-start_within l (Found.At k) h = omega (arith, (first_within is_ink 2 k (drop 1 l) h).1, length-drop 1 l)
-start_within l Found.Nothing h = omega arith
+start_within l (Some k) h = omega (arith, (first_within is_ink 2 k (drop 1 l) h).1, length-drop 1 l)
+start_within l None h = omega arith
 
 pub start_fits : (l : Line) (r size : ℕ) → r ≡ name_start (ink_column l 2) → size ≤ length l → length l * 1 < 2 ^ 63 → Fits w64 (r + size)
 start_fits l r size e h k = record { fits = omega (arith, e, start_within l (ink_column l 2) refl, h, k) }
 
-pub start_titled : (l : Line) (r size : ℕ) → r ≡ name_start (ink_column l 2) → ItemRead.Title r (r + size) ≡ title_by (name_start (ink_column l 2)) size
+pub start_titled : (l : Line) (r size : ℕ) → r ≡ name_start (ink_column l 2) → Ok (ItemLine.Title r (r + size)) ≡ title_by (name_start (ink_column l 2)) size
 start_titled l r size e = ap (λ (x : ℕ). title_by x size) e
 
 pub ruleset start_laws = (name_at, name_nowhere, start_fits, start_titled)
 
-module _ (l : Line) (x : ItemRead) (e : item_got l x ≡ item_of l) where
-  pub name_fits : item_in l x → (a b : ℕ) → x ≡ ItemRead.Title a b → b - a ≤ length l
+module _ (l : Line) (x : Result ItemLine Refusal) (e : item_got l x ≡ item_of l) where
+  pub name_fits : item_in l x → (a b : ℕ) → x ≡ Ok (ItemLine.Title a b) → b - a ≤ length l
   name_fits h a b q = omega (arith, title_order l x a b h q, title_end l x a b h q)
 
-  pub good_named : item_in l x → (a b : ℕ) (r : ItemRead) → x ≡ ItemRead.Title a b → r ≡ title_by (name_start (ink_column l 2)) (b - a) → r ≡ title_of l (item_of l)
+  pub good_named : item_in l x → (a b : ℕ) (r : Result ItemLine Refusal) → x ≡ Ok (ItemLine.Title a b) → r ≡ title_by (name_start (ink_column l 2)) (b - a) → r ≡ title_of l (item_of l)
   unfolding title_of
   good_named h a b r q p =
       let size : length (take (b - a) (drop a l)) ≡ b - a = length-take-le (b - a) (drop a l) (omega (arith, title_order l x a b h q, title_end l x a b h q, length-drop a l)) in
       p ∙ ap (title_by (name_start (ink_column l 2))) (sym size) ∙ ap (title_of l) (ap (item_got l) (sym q) ∙ e)
 
-  pub good_close : x ≡ ItemRead.Close → ItemRead.Close ≡ title_of l (item_of l)
+  pub good_close : x ≡ Ok ItemLine.Close → Ok ItemLine.Close ≡ title_of l (item_of l)
   unfolding title_of
   good_close q = ap (title_of l) (ap (item_got l) (sym q) ∙ e)
 
-  pub good_bad : (n c : ℕ) → x ≡ ItemRead.Bad n c → ItemRead.Bad n c ≡ title_of l (item_of l)
+  pub good_bad : (r : Refusal) → x ≡ Err r → Err r ≡ title_of l (item_of l)
   unfolding title_of
-  good_bad n c q = ap (title_of l) (ap (item_got l) (sym q) ∙ e)
+  good_bad r q = ap (title_of l) (ap (item_got l) (sym q) ∙ e)
 
 pub ruleset good_laws = (title_order, name_fits, good_named, good_close, good_bad)
 
-module _ (l : Line) (x : LineJudged) (e : line_got l x ≡ within 80 l (got l)) where
-  pub line_title : (r : ItemRead) → x ≡ LineJudged.Good → r ≡ title_of l (item_of l) → r ≡ title_of l (title_is l)
+module _ (l : Line) (x : Result (Unit {0}) Refusal) (e : line_got l x ≡ within 80 l (got l)) where
+  pub line_title : (r : Result ItemLine Refusal) → x ≡ Ok tt → r ≡ title_of l (item_of l) → r ≡ title_of l (title_is l)
   unfolding then
   line_title r q h = h ∙ ap (λ (y : Got Line). title_of l (then y item_of)) (ap (line_got l) (sym q) ∙ e)
 
-  pub line_no_title : (n c : ℕ) → x ≡ LineJudged.Bad n c → ItemRead.Bad n c ≡ title_of l (title_is l)
+  pub line_no_title : (r : Refusal) → x ≡ Err r → Err r ≡ title_of l (title_is l)
   unfolding then title_of
-  line_no_title n c q = ap (λ (y : Got Line). title_of l (then y item_of)) (ap (line_got l) (sym q) ∙ e)
+  line_no_title r q = ap (λ (y : Got Line). title_of l (then y item_of)) (ap (line_got l) (sym q) ∙ e)
 
 pub ruleset line_laws = (line_title, line_no_title)
 
-module _ (l : Line) (x : LineJudged) (e : line_got l x ≡ within 200 l (got l)) where
-  pub line_value : (r : ValueRead) → x ≡ LineJudged.Good → value_got r ≡ value_of l → value_got r ≡ value_is l
+module _ (l : Line) (x : Result (Unit {0}) Refusal) (e : line_got l x ≡ within 200 l (got l)) where
+  pub line_value : (r : Result ValueKind Refusal) → x ≡ Ok tt → value_got r ≡ value_of l → value_got r ≡ value_is l
   unfolding then
   line_value r q h = h ∙ ap (λ (y : Got Line). then y value_of) (ap (line_got l) (sym q) ∙ e)
 
-  pub line_no_value : (n c : ℕ) → x ≡ LineJudged.Bad n c → bad n c ≡ value_is l
+  pub line_no_value : (r : Refusal) → x ≡ Err r → bad r.no r.column ≡ value_is l
   unfolding then
-  line_no_value n c q = ap (λ (y : Got Line). then y value_of) (ap (line_got l) (sym q) ∙ e)
+  line_no_value r q = ap (λ (y : Got Line). then y value_of) (ap (line_got l) (sym q) ∙ e)
 
 pub ruleset value_laws = (line_value, line_no_value)

@@ -8,9 +8,9 @@ ghost use Rattle.line_text.specs.Answer.{value_got};
 ghost use Rattle.reader_items.specs.Step.{name_start, title_by, title_is, title_of, value_is, values_from, with_values};
 ghost use Rattle.reader_items.specs.Promise.{Stepped};
 
-use line_text::{ItemRead, ValueRead};
-use reader_places::LineJudged;
-use text::{Found, LineAt};
+use judge_line::Refusal;
+use line_text::{ItemLine, ValueKind};
+use text::LineAt;
 
 // What stands at a position where a data header or `$$$$` must stand. Places are positions of the whole text; those of the values are both 0 where there
 // are none. `lines` and `line` count from the line at that position on.
@@ -55,52 +55,47 @@ fn name_start(line: &[u8]) -> usize
     ensures { result ≡ name_start (ink_column line.now 2) }
 {
     match text::ink_column(line, 2) {
-        Found::At(k) => k,
-        Found::Nothing => 0,
+        Some(k) => k,
+        None => 0,
     }
 }
 
 // A name of so many bytes.
-fn named(line: &[u8], size: usize) -> ItemRead
+fn named(line: &[u8], size: usize) -> Result<ItemLine, Refusal>
     requires { size ≤ length line.now }
     ensures { result ≡ title_by (name_start (ink_column line.now 2)) size }
 {
     let from = name_start(line);
-    ItemRead::Title {
+    Ok(ItemLine::Title {
         from,
         to: from + size,
-    }
+    })
 }
 
 // A line of good length and bytes, where a data header or `$$$$` must stand.
-fn good_title(line: &[u8]) -> ItemRead
+fn good_title(line: &[u8]) -> Result<ItemLine, Refusal>
     ensures { result ≡ title_of line.now (item_of line.now) }
 {
-    match line_text::item_line(line) {
-        ItemRead::Title { from, to } => named(line, to - from),
-        ItemRead::Close => ItemRead::Close,
-        ItemRead::Bad { no, column } => ItemRead::Bad { no, column },
+    match line_text::item_line(line)? {
+        ItemLine::Title { from, to } => named(line, to - from),
+        ItemLine::Close => Ok(ItemLine::Close),
     }
 }
 
 // A line where a data header or `$$$$` must stand.
-fn title_at(line: &[u8]) -> ItemRead
+fn title_at(line: &[u8]) -> Result<ItemLine, Refusal>
     ensures { result ≡ title_of line.now (title_is line.now) }
 {
-    match reader_places::line_judged(line, 80) {
-        LineJudged::Good => good_title(line),
-        LineJudged::Bad { no, column } => ItemRead::Bad { no, column },
-    }
+    reader_places::line_judged(line, 80)?;
+    good_title(line)
 }
 
 // A line where a value line or the blank line after the values must stand.
-fn value_at(line: &[u8]) -> ValueRead
+fn value_at(line: &[u8]) -> Result<ValueKind, Refusal>
     ensures { value_got result ≡ value_is line.now }
 {
-    match reader_places::line_judged(line, 200) {
-        LineJudged::Good => line_text::value_line(line),
-        LineJudged::Bad { no, column } => ValueRead::Bad { no, column },
-    }
+    reader_places::line_judged(line, 200)?;
+    line_text::value_line(line)
 }
 
 // The value lines that start at `at`, and the blank line that ends them.
@@ -111,6 +106,7 @@ fn values_at(s: &[u8], at: usize) -> ValuesAt
     let mut to: usize = 0;
     let mut i = at;
     let mut line: usize = 2;
+    // The place jumps by lines of any length: a `for` would need an iterator over them, with a proof of its own.
     loop {
         let LineAt::Line { end, next } = text::line_at(s, i) else {
             return ValuesAt::Refused {
@@ -120,13 +116,13 @@ fn values_at(s: &[u8], at: usize) -> ValuesAt
             };
         };
         match value_at(&s[i..end]) {
-            ValueRead::Value => {
+            Ok(ValueKind::Value) => {
                 from = at;
                 to = end;
                 i = next;
                 line += 1;
             }
-            ValueRead::Blank => {
+            Ok(ValueKind::Blank) => {
                 return ValuesAt::Over {
                     from,
                     to,
@@ -134,7 +130,7 @@ fn values_at(s: &[u8], at: usize) -> ValuesAt
                     lines: line,
                 };
             }
-            ValueRead::Bad { no, column } => {
+            Err(Refusal { no, column }) => {
                 return ValuesAt::Refused { no, line, column };
             }
         }
@@ -175,9 +171,9 @@ pub fn item_at(s: &[u8], at: usize) -> ItemAt
         };
     };
     match title_at(&s[at..end]) {
-        ItemRead::Title { from, to } => with_values(at + from, at + to, values_at(s, next)),
-        ItemRead::Close => ItemAt::End { next },
-        ItemRead::Bad { no, column } => ItemAt::Refused {
+        Ok(ItemLine::Title { from, to }) => with_values(at + from, at + to, values_at(s, next)),
+        Ok(ItemLine::Close) => ItemAt::End { next },
+        Err(Refusal { no, column }) => ItemAt::Refused {
             no,
             line: 1,
             column,

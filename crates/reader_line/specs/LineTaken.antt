@@ -1,5 +1,5 @@
 -- What is taken from a line: the notes, the atom's row, and what the walk does next.
-use Rattle.std.specs.Prelude.{ℕ, ◌+◌, ◌*◌, ◌≤◌, ◌<◌, ◌≡◌, List, length, ℤ}
+use Rattle.std.specs.Prelude.{Result, Ok, Err, ℕ, ◌+◌, ◌*◌, ◌≤◌, ◌<◌, ◌≡◌, List, length, ℤ}
 use Rattle.std.proofs.lemmas.List.Edits.{sets}
 use Rattle.text.specs.Text.{Line}
 use Rattle.rules.specs.Forms as R
@@ -13,6 +13,7 @@ use Rattle.reader_tables.specs.Row.{raw_row, SmallAtom, SmallBond}
 use Rattle.reader_state.specs.declared.Reader.{Reader}
 use Rattle.reader_state.specs.LineRead.{Went, on, headed, atom, bond, ended, title, value, blank, done, went_of, Kept, Sane}
 use Rattle.reader_line.specs.declared.Notes.{Notes}
+use Rattle.judge_line.specs.declared.Refusal.{Refusal}
 use Rattle.reader_line.specs.declared.Taken.{Taken}
 
 -- a bond and counts as the code has them
@@ -43,17 +44,17 @@ bond_more m = record { atoms = m.atoms; bonds = m.bonds + 1; header_end = m.head
 
 -- ---- By what the line was
 
-abbrev pub taken_by : Notes → ℕ → Got Went → Taken
-taken_by m next (got (on r)) = Taken.Next r m
-taken_by m next (got (headed r)) = Taken.Next r (headed_at m next)
-taken_by m next (got (atom r a)) = Taken.Next r (atom_more m)
-taken_by m next (got (bond r b)) = Taken.Bond r (bond_back b)
-taken_by m next (got (ended r)) = Taken.Next r (ended_at m next)
-taken_by m next (got (title r name)) = Taken.Next r m
-taken_by m next (got (value r)) = Taken.Next r m
-taken_by m next (got (blank r)) = Taken.Next r m
-taken_by m next (got done) = Taken.Done
-taken_by m next (bad e column) = Taken.Refused e column
+abbrev pub taken_by : Notes → ℕ → Got Went → Result Taken Refusal
+taken_by m next (got (on r)) = Ok (Taken.Next r m)
+taken_by m next (got (headed r)) = Ok (Taken.Next r (headed_at m next))
+taken_by m next (got (atom r a)) = Ok (Taken.Next r (atom_more m))
+taken_by m next (got (bond r b)) = Ok (Taken.Bond r (bond_back b))
+taken_by m next (got (ended r)) = Ok (Taken.Next r (ended_at m next))
+taken_by m next (got (title r name)) = Ok (Taken.Next r m)
+taken_by m next (got (value r)) = Ok (Taken.Next r m)
+taken_by m next (got (blank r)) = Ok (Taken.Next r m)
+taken_by m next (got done) = Ok Taken.Done
+taken_by m next (bad e column) = Err (record { no = e; column = column })
 
 -- the atom's row is stored
 abbrev pub atoms_by : Notes → Got Went → List ℤ → List ℤ
@@ -76,7 +77,7 @@ pub record Ready (r : Reader) (m : Notes) (listed : List ℕ) (t : List ℤ) (l 
   pub fits : (r' : Reader) (a : R.Atom) → went_of r listed l ≡ got (atom r' a) → (m.atoms < limit) × SmallAtom a
 
 -- what taking a line answers, and what it leaves in the tables
-pub record Took (r : Reader) (m : Notes) (next : ℕ) (listed : List ℕ) (t : List ℤ) (l : Line) (x : Taken) (listed' : List ℕ) (t' : List ℤ) : Type 0 where
+pub record Took (r : Reader) (m : Notes) (next : ℕ) (listed : List ℕ) (t : List ℤ) (l : Line) (x : Result Taken Refusal) (listed' : List ℕ) (t' : List ℤ) : Type 0 where
   pub answer : x ≡ taken_by m next (went_of r listed l)
   pub rows : t' ≡ atoms_by m (went_of r listed l) t
   pub kept : Kept r listed l listed'

@@ -8,6 +8,7 @@ ghost use Rattle.rules.specs.Record.{limit};
 ghost use Rattle.line_counts_bonds.specs.Answer.{bond_is};
 ghost use Rattle.reader_line.specs.LineTaken.{no_notes, headed_at, ended_at, atom_more, bond_more, Ready, Took, Keeping};
 
+use judge_line::Refusal;
 use line_counts_bonds::Bond;
 use reader_pairs::KEYS;
 use reader_state::{Reader, Step};
@@ -30,7 +31,6 @@ pub enum Taken {
     Bond(Reader, Bond),
     // `$$$$`.
     Done,
-    Refused { no: u8, column: usize },
 }
 
 impl Notes {
@@ -50,10 +50,8 @@ impl Notes {
         ensures { result ≡ headed_at self next }
     {
         Notes {
-            atoms: self.atoms,
-            bonds: self.bonds,
             header_end: next,
-            items_start: self.items_start,
+            ..self
         }
     }
 
@@ -62,10 +60,8 @@ impl Notes {
         ensures { result ≡ ended_at self next }
     {
         Notes {
-            atoms: self.atoms,
-            bonds: self.bonds,
-            header_end: self.header_end,
             items_start: next,
+            ..self
         }
     }
 
@@ -76,9 +72,7 @@ impl Notes {
     {
         Notes {
             atoms: self.atoms + 1,
-            bonds: self.bonds,
-            header_end: self.header_end,
-            items_start: self.items_start,
+            ..self
         }
     }
 
@@ -88,10 +82,8 @@ impl Notes {
         ensures { result ≡ bond_more self }
     {
         Notes {
-            atoms: self.atoms,
             bonds: self.bonds + 1,
-            header_end: self.header_end,
-            items_start: self.items_start,
+            ..self
         }
     }
 }
@@ -123,12 +115,12 @@ pub fn take_line(
     next: usize,
     atoms: &mut [i32],
     listed: &mut [u32; LISTED],
-) -> Taken
+) -> Result<Taken, Refusal>
     requires { Ready reader notes listed.old atoms.old line.now }
     ensures { Took reader notes next listed.old atoms.old line.now result listed.new atoms.new }
 {
     let k = notes.atoms;
-    match reader.step(line, listed) {
+    let taken = match reader.step(line, listed)? {
         Step::Next(r) => Taken::Next(r, notes),
         Step::Headed(r) => Taken::Next(r, notes.headed(next)),
         Step::Atom(r, a) => {
@@ -145,6 +137,6 @@ pub fn take_line(
         Step::Value(r) => Taken::Next(r, notes),
         Step::Blank(r) => Taken::Next(r, notes),
         Step::Done => Taken::Done,
-        Step::Refused { no, column } => Taken::Refused { no, column },
-    }
+    };
+    Ok(taken)
 }

@@ -60,6 +60,7 @@ fn items_start(s: &[u8]) -> Reached
 {
     let mut at: usize = 0;
     let mut lines: usize = 0;
+    // The place jumps by lines of any length: a `for` would need an iterator over them, with a proof of its own.
     loop {
         let LineAt::Line { end, next } = text::line_at(s, at) else {
             return Reached::Beyond;
@@ -122,6 +123,7 @@ fn hunt(s: &[u8], start: usize, before: usize, name: &[u8]) -> Looked
     let mut at = start;
     let mut lines = before;
     let mut sought = Sought::Nowhere;
+    // The place jumps by items of any length: a `for` would need an iterator over them, with a proof of its own.
     loop {
         match reader_items::item_at(s, at) {
             ItemAt::Item {

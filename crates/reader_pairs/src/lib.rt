@@ -25,12 +25,10 @@ fn key_in_block(keys: &[u32; KEYS], at: usize, key: u32) -> usize
     ensures { result ≡ 0 → Missed keys.now key at (at + 8) }
 {
     let mut w: usize = 0;
-    let mut k: usize = 0;
-    while k < 8 {
+    for k in 0..8 {
         if keys[at + k] == key {
             w = 1;
         }
-        k += 1;
     }
     w
 }
@@ -41,12 +39,10 @@ fn key_in_wide(keys: &[u32; KEYS], at: usize, key: u32) -> usize
     ensures { result ≡ 0 → Missed keys.now key at (at + 32) }
 {
     let mut w: usize = 0;
-    let mut k: usize = 0;
-    while k < 32 {
+    for k in 0..32 {
         if keys[at + k] == key {
             w = 1;
         }
-        k += 1;
     }
     w
 }
@@ -57,6 +53,7 @@ fn far_key(keys: &[u32; KEYS], count: usize, key: u32) -> usize
     ensures { Searching keys.now key count result }
 {
     let mut i: usize = 0;
+    // A `for` over blocks costs 0.2 instructions a byte of `records canon`: it makes out each place from a number.
     while count - i >= 32 {
         if key_in_wide(keys, i, key) != 0 {
             return i;
@@ -72,6 +69,7 @@ pub fn near_key(keys: &[u32; KEYS], count: usize, key: u32) -> usize
     ensures { Searching keys.now key count result }
 {
     let mut i = far_key(keys, count, key);
+    // A `for` over blocks costs 0.2 instructions a byte of `records canon`: it makes out each place from a number.
     while count - i >= 8 {
         if key_in_block(keys, i, key) != 0 {
             return i;

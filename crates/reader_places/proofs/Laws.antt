@@ -1,4 +1,5 @@
 -- Laws on a place, and on a line's length and bytes.
+use Rattle.std.specs.Prelude.{Option, Some, None}
 use Prim.Native.Nat.{ℕ, ◌+◌, ◌≤◌, ◌<◌}
 use native.Mathlib.Numerals.{add-one}
 use mathlib.Core.Path.{◌≡◌}
@@ -6,7 +7,6 @@ use lib.ListN.{length}
 use borrow.Author.Tests.{ne_eqb, le-leb, lt-leb}
 use Rattle.text.specs.Text.{Line}
 use Rattle.text.specs.Find.{bad_column}
-use Rattle.text.specs.declared.Found.{Found}
 use Rattle.judge_line.specs.Got.{Got, bad, need}
 use Rattle.judge_line.specs.Field.{within}
 use Rattle.reader_places.specs.Places.{bonds_owed, atoms_owed}
@@ -20,11 +20,11 @@ module _ (longest : ℕ) (l : Line) (x : Got Line) where
   unfolding within need
   line_long h = rw (add-one, lt-leb (length l) longest h)
 
-  pub line_byte : (found : Found) (column : ℕ) → length l ≤ longest → found ≡ bad_column l → found ≡ Found.At column → bad 4 column ≡ within longest l x
+  pub line_byte : (found : Option ℕ) (column : ℕ) → length l ≤ longest → found ≡ bad_column l → found ≡ Some column → bad 4 column ≡ within longest l x
   unfolding within need
   line_byte found column h e f = rw (le-leb (length l) longest h, ← e, f)
 
-  pub line_good : (found : Found) → length l ≤ longest → found ≡ bad_column l → found ≡ Found.Nothing → x ≡ within longest l x
+  pub line_good : (found : Option ℕ) → length l ≤ longest → found ≡ bad_column l → found ≡ None → x ≡ within longest l x
   unfolding within need
   line_good found h e f = rw (le-leb (length l) longest h, ← e, f)
 

@@ -1,11 +1,11 @@
 -- The places of a record's lines, and what is asked and answered of a place alone.
-use Rattle.std.specs.Prelude.{ℕ, Bool, true, false, cond, eqb}
+use Rattle.std.specs.Prelude.{Result, Ok, Err, ℕ, Bool, true, false, cond, eqb}
 use Rattle.text.specs.Text.{Line}
 use Rattle.judge_line.specs.Got.{Got, got, bad}
 use Rattle.reader_places.specs.declared.Place.{Place}
 use Rattle.reader_places.specs.declared.Place.TheVariants as P
 use Rattle.reader_places.specs.declared.Finish.{Finish}
-use Rattle.reader_places.specs.declared.LineJudged.{LineJudged}
+use Rattle.judge_line.specs.declared.Refusal.{Refusal}
 
 -- the longest line of a place
 abbrev pub longest_in : Place → ℕ
@@ -19,9 +19,9 @@ longest_in P.Items = 80
 longest_in P.Values = 200
 
 -- what the code says of a line by its length and its bytes
-abbrev pub line_got : Line → LineJudged → Got Line
-line_got l LineJudged.Good = got l
-line_got l (LineJudged.Bad e column) = bad e column
+abbrev pub line_got : Line → Result (Unit {0}) Refusal → Got Line
+line_got l (Ok tt) = got l
+line_got l (Err r) = bad r.no r.column
 
 -- whether the input may end at a place of a record; an SDfile's ends with its `$$$$` line
 abbrev pub finished_at : Place → Finish

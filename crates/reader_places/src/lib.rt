@@ -6,7 +6,7 @@ ghost use Rattle.judge_line.specs.Got.{got};
 ghost use Rattle.judge_line.specs.Field.{within};
 ghost use Rattle.reader_places.specs.Places.{longest_in, line_got, finished_at, bonds_owed, atoms_owed, after_end};
 
-use text::Found;
+use judge_line::Refusal;
 
 // `owed` counts the lines that still belong to the place, the next one among them.
 #[derive(Clone, Copy)]
@@ -20,13 +20,6 @@ pub enum Place {
     Over,
     Items,
     Values,
-}
-
-// What a line is found to be by its length and its bytes.
-#[derive(Drop)]
-pub enum LineJudged {
-    Good,
-    Bad { no: u8, column: usize },
 }
 
 // Whether the input may end at a state.
@@ -69,19 +62,19 @@ pub fn longest(place: Place) -> usize
 }
 
 // A line's length, then its bytes.
-pub fn line_judged(line: &[u8], longest: usize) -> LineJudged
+pub fn line_judged(line: &[u8], longest: usize) -> Result<(), Refusal>
     requires { longest ≤ 200 }
     ensures { line_got line.now result ≡ within longest line.now (got line.now) }
 {
     if longest < line.len() {
-        return LineJudged::Bad {
+        return Err(Refusal {
             no: 3,
             column: longest + 1,
-        };
+        });
     }
     match text::bad_column(line) {
-        Found::At(column) => LineJudged::Bad { no: 4, column },
-        Found::Nothing => LineJudged::Good,
+        Some(column) => Err(Refusal { no: 4, column }),
+        None => Ok(()),
     }
 }
 

@@ -131,9 +131,8 @@ impl Passing {
         ensures { result ≡ pass_of self part.now }
     {
         let mut passing = self;
-        let mut i: usize = 0;
-        while i < part.len() {
-            match passing.byte(part[i]) {
+        for (i, b) in part.iter().enumerate() {
+            match passing.byte(*b) {
                 Mark::End(counter) => {
                     return Passed::Behind {
                         counter,
@@ -144,7 +143,6 @@ impl Passing {
                     passing = p;
                 }
             }
-            i += 1;
         }
         Passed::On(passing)
     }

@@ -1,4 +1,3 @@
-pub mod Clearing
 pub mod Asked
 pub mod Marked
 pub mod Rowed

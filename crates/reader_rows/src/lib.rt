@@ -17,11 +17,7 @@ pub fn clear(rows: &mut [u64])
     requires { row_places ≤ length rows.old }
     ensures { rows.new ≡ emptied rows.old }
 {
-    let mut i: usize = 0;
-    while i < ROWS {
-        rows[i] = 0;
-        i += 1;
-    }
+    rows[..ROWS].fill(0);
 }
 
 // Whether there are rows that don't say the pair.

@@ -1,5 +1,5 @@
 -- One step of the reader's state: what a line was, and the state after it. The tables beside the state hold what has been read.
-use Rattle.std.specs.Prelude.{ℕ, ◌+◌, ◌-◌, ◌≤◌, ◌≡◌, List, cond, eqb, take, drop}
+use Rattle.std.specs.Prelude.{Result, Ok, Err, ℕ, ◌+◌, ◌-◌, ◌≤◌, ◌≡◌, List, cond, eqb, take, drop}
 use Rattle.text.specs.Text.{Bytes, Line}
 use Rattle.rules.specs.Forms as R
 use Rattle.rules.specs.Record.{limit}
@@ -14,6 +14,7 @@ use Rattle.reader_places.specs.declared.Place.{Place}
 use Rattle.reader_places.specs.declared.Place.TheVariants as P
 use Rattle.reader_places.specs.Places.{bonds_owed, atoms_owed, after_end, longest_in}
 use Rattle.reader_state.specs.declared.Reader.{Reader}
+use Rattle.judge_line.specs.declared.Refusal.{Refusal}
 use Rattle.reader_state.specs.declared.Step.{Step}
 
 pub data Went : Type 0 where
@@ -28,17 +29,17 @@ pub data Went : Type 0 where
   done : Went
 
 -- what the code's answer says of the line
-abbrev pub step_got : Line → Step → Got Went
-step_got l (Step.Next r) = got (on r)
-step_got l (Step.Headed r) = got (headed r)
-step_got l (Step.Atom r a) = got (atom r (atom_is a))
-step_got l (Step.Bond r b) = got (bond r (bond_is b))
-step_got l (Step.Ended r) = got (ended r)
-step_got l (Step.Title r from to) = got (title r (take (to - from) (drop from l)))
-step_got l (Step.Value r) = got (value r)
-step_got l (Step.Blank r) = got (blank r)
-step_got l Step.Done = got done
-step_got l (Step.Refused e column) = bad e column
+abbrev pub step_got : Line → Result Step Refusal → Got Went
+step_got l (Ok (Step.Next r)) = got (on r)
+step_got l (Ok (Step.Headed r)) = got (headed r)
+step_got l (Ok (Step.Atom r a)) = got (atom r (atom_is a))
+step_got l (Ok (Step.Bond r b)) = got (bond r (bond_is b))
+step_got l (Ok (Step.Ended r)) = got (ended r)
+step_got l (Ok (Step.Title r from to)) = got (title r (take (to - from) (drop from l)))
+step_got l (Ok (Step.Value r)) = got (value r)
+step_got l (Ok (Step.Blank r)) = got (blank r)
+step_got l (Ok Step.Done) = got done
+step_got l (Err r) = bad r.no r.column
 
 -- the same state at another place
 abbrev pub moved : Reader → Place → Reader

@@ -1,80 +1,15 @@
 -- A table while a stretch of it is cleared.
 use Prim.Native.Nat.{ℕ, zero, suc, ◌+◌, ◌-◌, ◌*◌, ◌/◌, ◌≤◌, ◌<◌}
 use native.Mathlib.Omega.{arith}
-use native.Mathlib.Numerals.{add-one}
 use mathlib.Core.Path.{◌≡◌, refl, sym, ap, ◌∙◌, subst}
 use mathlib.Core.Bool.{Bool, true, false}
-use mathlib.Core.List.{List, [], ◌∷◌, ◌++◌, append_assoc}
-use lib.ListN.{length, get_or, set, take, drop, replicate, length-append, length-replicate, length-set, length-drop, take-append-drop}
+use mathlib.Core.List.{List, [], ◌∷◌, ◌++◌}
+use lib.ListN.{length, get_or, take, drop, replicate, length-append, length-replicate, length-drop}
 use lib.Dec.{ltb}
-use lib.Seq.{drop-cons, set_at, length-take-le, get_or-append-add, get_or-take, get_or-drop, ext_get_or}
+use lib.Seq.{length-take-le, get_or-append-add, get_or-take, get_or-drop, ext_get_or}
 use borrow.Author.Tests.{ltb-true, ltb-false}
 use lib.IntN.{ℤ, pos}
 use Rattle.reader_tables.specs.Filled.{cleared}
-
--- the places before i are zero, from `from` on
-pub record Clearing (t₀ t : List ℤ) (from to i : ℕ) : Type 0 where
-  pub room : to ≤ length t₀
-  pub low : from ≤ i
-  pub high : i ≤ to
-  pub size : length t ≡ length t₀
-  pub same : t ≡ cleared t₀ from i
-
-pub clearing_start : (t : List ℤ) (from to : ℕ) → from ≤ to → to ≤ length t → Clearing t t from to from
-clearing_start t from to h k =
-    let e : from - from ≡ 0 = omega arith in
-    record { room = k; low = omega arith; high = h; size = refl; same = rw e (sym (take-append-drop from t)) }
-
-module _ (t₀ t : List ℤ) (from to i : ℕ) (g : Clearing t₀ t from to i) where
-  pub clearing_next : i < to → Clearing t₀ (set t i (pos 0)) from to (i + 1)
-  clearing_next h =
-      let rest : List ℤ = drop (i + 1) t₀ in
-      let zeros : List ℤ = replicate (i - from) (pos 0) in
-      let d : drop i t₀ ≡ get_or t₀ i (pos 0) ∷ rest = rw (add-one i) (drop-cons t₀ i (pos 0) (omega (arith, g.room))) in
-      let n : length (take from t₀ ++ zeros) ≡ i =
-      length-append (take from t₀) zeros ∙ omega (arith, length-take-le from t₀ (omega (arith, g.room, g.low)), length-replicate (i - from) (pos 0), g.low)
-      in
-      let s : set t i (pos 0) ≡ cleared t₀ from (i + 1) =
-      ap (λ (x : List ℤ). set x i (pos 0)) (g.same ∙ ap (λ (x : List ℤ). take from t₀ ++ (zeros ++ x)) d ∙ sym (append_assoc (take from t₀) zeros (get_or t₀ i (pos 0) ∷ rest)))
-      ∙ set_at (take from t₀ ++ zeros) (get_or t₀ i (pos 0)) rest (pos 0) i n
-      ∙ append_assoc (take from t₀) zeros (pos 0 ∷ rest)
-      ∙ ap (λ (x : List ℤ). take from t₀ ++ x) (grow (i - from) (i + 1 - from) rest (omega (arith, g.low)))
-      in
-      record { room = g.room; low = omega (arith, g.low); high = omega arith; size = length-set t i (pos 0) ∙ g.size; same = s }
-    where
-      grow : (k j : ℕ) (d : List ℤ) → j ≡ suc k → replicate k (pos 0) ++ (pos 0 ∷ d) ≡ replicate j (pos 0) ++ d
-      grow zero j d e = rw e
-      grow (suc k) j d e = rw e (ap (λ (x : List ℤ). pos 0 ∷ x) (grow k (suc k) d refl))
-
-  pub clearing_end : to ≤ i → t ≡ cleared t₀ from to
-  clearing_end h = let e : i ≡ to = omega (arith, g.high) in g.same ∙ ap (cleared t₀ from) e
-
-  pub clearing_size : length t ≡ length t₀
-  clearing_size = g.size
-
-pub ruleset clearing_laws = (clearing_start, clearing_next, clearing_end, clearing_size)
-
--- ---- A block
-
-pub block_start : (t : List ℤ) (at : ℕ) → at + 64 ≤ length t → Clearing t t at (at + 64) (at + 0)
-block_start t at h = let e : at + 0 ≡ at = omega arith in rw e (clearing_start t at (at + 64) (omega arith) h)
-
-module _ (t₀ t : List ℤ) (at k : ℕ) (g : Clearing t₀ t at (at + 64) (at + k)) where
-  pub block_inside : k < 64 → at + k < length t
-  block_inside h = omega (arith, g.size, g.room)
-
-  pub block_next : k < 64 → Clearing t₀ (set t (at + k) (pos 0)) at (at + 64) (at + (k + 1))
-  block_next h =
-      let e : at + (k + 1) ≡ at + k + 1 = omega arith in
-      rw e (clearing_next t₀ t at (at + 64) (at + k) g (omega arith))
-
-  pub block_end : 64 ≤ k → t ≡ cleared t₀ at (at + 64)
-  block_end h = clearing_end t₀ t at (at + 64) (at + k) g (omega arith)
-
-  pub block_size : length t ≡ length t₀
-  block_size = g.size
-
-pub ruleset block_laws = (block_start, block_inside, block_next, block_end, block_size)
 
 -- ---- Place by place
 
@@ -152,7 +87,7 @@ pub record Halves (t₀ t : List ℤ) (from to half i : ℕ) : Type 0 where
   pub between : (k : ℕ) → from + i ≤ k → k < from + half → get_or t k (pos 0) ≡ get_or t₀ k (pos 0)
   pub after : (k : ℕ) → from + half + i ≤ k → get_or t k (pos 0) ≡ get_or t₀ k (pos 0)
 
-pub halves_start : (t : List ℤ) (from to : ℕ) → from ≤ to → to ≤ length t → Halves t t from to ((to - from) / 128 * 64) 0
+pub halves_start : (t : List ℤ) (from to : ℕ) → from ≤ to → to ≤ length t → Halves t t from to (64 * ((to - from) / 128)) (64 * 0)
 halves_start t from to h k =
     let q = (to - from) / 128 in
     let d : q * 128 ≤ to - from = omega arith in

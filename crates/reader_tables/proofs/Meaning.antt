@@ -1,62 +1,45 @@
 -- One number of a row, as the code finds it.
-use Prim.Native.Nat.{ℕ, zero, suc, ◌+◌, ◌*◌, ◌-◌, ◌≤◌, ◌<◌}
+use Prim.Native.Nat.{ℕ, zero, suc, ◌+◌, ◌-◌, ◌≤◌, ◌<◌}
 use native.Mathlib.Omega.{arith}
 use mathlib.Core.Path.{◌≡◌, refl, sym, ap, ◌∙◌}
 use mathlib.Core.List.{List}
-use mathlib.Core.Bool.{true, false}
-use lib.ListN.{get_or}
+use mathlib.Core.Bool.{Bool, true, false, cond, not, ◌||◌}
+use native.Mathlib.Numerals.{add-one}
+use lib.Dec.{eqb}
+use lib.ListN.{length, get_or, take, drop, length-drop}
+use lib.Seq.{get_or-drop}
+use Rattle.std.specs.List.{list_any}
+use Rattle.std.proofs.lemmas.List.Folds.{list_any_more}
 use lib.IntN.{ℤ, pos, negsuc}
 use mir.Val.{SFits, to_z, of_z}
 use mir.Syntax.{w32}
 use mir.Facts.{to_z_pos}
-use borrow.Author.Tests.{eq-eqb, ne_eqb, le-leb, lt-leb}
+use borrow.Author.Tests.{ne_eqb, le-leb, lt-leb}
 use Rattle.field_numbers.specs.Read.{signed}
 use Rattle.rules.specs.Meaning.{charge_of_code, radical_of_code}
-use Rattle.line_property.specs.Listed.{places}
 use Rattle.line_fields.specs.Steps.{hop}
 use Rattle.reader_tables.specs.Mean.{any_after, number_kept, charge_by, radical_by, mass_by, code_in}
 use Rattle.reader_tables.specs.declared.Superseded.{Superseded}
 
 -- ---- some place is in use
 
--- none from a + 1 to n is
-pub record Asking (t : List ℕ) (from n a : ℕ) : Type 0 where
-  pub room : from + n < 3 * places
-  pub within : a ≤ n
-  pub same : any_after from t n ≡ any_after from t a
-
-pub asking_start : (t : List ℕ) (from n : ℕ) → from + n < 3 * places → Asking t from n n
-asking_start t from n h = record { room = h; within = omega arith; same = refl }
-
-module _ (t : List ℕ) (from n a : ℕ) (g : Asking t from n a) where
-  below : 0 < a → a ≡ suc (a - 1)
-  below h = omega arith
-
-  pub asking_next : 0 < a → get_or t (from + a) 0 ≡ 0 → Asking t from n (a - 1)
-  unfolding any_after
-  asking_next h e = record { room = g.room; within = omega (arith, g.within); same = g.same ∙ go (a - 1) (below h) }
-    where
-      go : (b : ℕ) → a ≡ suc b → any_after from t a ≡ any_after from t b
-      go b q = rw q (rw (eq-eqb (get_or t (from + suc b) 0) 0 (rw q at e)))
-
-  pub asking_found : 0 < a → (get_or t (from + a) 0 ≡ 0 → ⊥) → true ≡ any_after from t n
-  unfolding any_after
-  asking_found h e = sym (g.same ∙ go (a - 1) (below h))
-    where
-      go : (b : ℕ) → a ≡ suc b → any_after from t a ≡ true
-      go b q = rw q (rw (ne_eqb (get_or t (from + suc b) 0) 0 (λ z. e (rw q z))))
-
-  pub asking_end : a ≤ 0 → false ≡ any_after from t n
-  unfolding any_after
-  asking_end h = sym (g.same ∙ go a (omega arith))
-    where
-      go : (b : ℕ) → b ≡ 0 → any_after from t b ≡ false
-      go b q = rw q
-
-  pub asking_room : from + a < 3 * places
-  asking_room = omega (arith, g.room, g.within)
-
-pub ruleset asking = (asking_start, asking_next, asking_found, asking_end, asking_room)
+-- a part of the table, asked for a place in use
+pub any_part : (t : List ℕ) (from n : ℕ) → from + n < length t → list_any (λ k. not (eqb k 0)) (take n (drop (from + 1) t)) ≡ any_after from t n
+unfolding any_after
+any_part t from zero h = refl
+any_part t from (suc n) h =
+    let d = drop (from + 1) t in
+    let l : n < length d = omega (arith, length-drop (from + 1) t) in
+    let e : from + 1 + n ≡ from + suc n = omega arith in
+    ap (λ (k : ℕ). list_any (λ k. not (eqb k 0)) (take k d)) (sym (add-one n))
+    ∙ list_any_more (λ k. not (eqb k 0)) d n 0 l
+    ∙ rw (any_part t from n (omega arith), get_or-drop (from + 1) t n 0, e) (used (eqb (get_or t (from + suc n) 0) 0) (any_after from t n))
+  where
+    used : (x y : Bool) → (y || not x) ≡ cond x y true
+    used true true = refl
+    used true false = refl
+    used false true = refl
+    used false false = refl
 
 -- ---- a kept number
 

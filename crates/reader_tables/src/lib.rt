@@ -1,7 +1,8 @@
 // Rows of the lent tables: stored, cleared, given their meaning.
 #![tactic(auto)]
 
-ghost use Rattle.std.specs.Prelude.{◌≡◌, ◌+◌, ◌*◌, ◌≤◌, ◌<◌, [], ◌∷◌, length};
+ghost use Rattle.std.specs.Prelude.{◌≡◌, ◌+◌, ◌*◌, ◌≤◌, ◌<◌, ◌==◌, [], ◌∷◌, length, not};
+ghost use Rattle.std.specs.List.{list_any};
 ghost use Rattle.std.proofs.lemmas.List.Edits.{sets};
 ghost use Rattle.line_atom.specs.Answer.{atom_is};
 ghost use Rattle.line_counts_bonds.specs.Answer.{bond_is};
@@ -108,16 +109,12 @@ pub fn put_bond(bonds: &mut [i32], i: usize, b: Bond)
     bonds[at + 5] = centre;
 }
 
-// Zeros from place `from` to before place `to`, one by one.
+// Zeros from place `from` to before place `to`.
 fn clear_few(table: &mut [i32], from: usize, to: usize)
     requires { (from ≤ to) × (to ≤ length table.old) }
     ensures { table.new ≡ cleared table.old from to }
 {
-    let mut i = from;
-    while i < to {
-        table[i] = 0;
-        i += 1;
-    }
+    table[from..to].fill(0);
 }
 
 // Sixty-four zeros from place `at` on, which compile to sixteen wide stores.
@@ -125,28 +122,32 @@ fn clear_block(table: &mut [i32], at: usize)
     requires { at + 64 ≤ length table.old }
     ensures { table.new ≡ cleared table.old at (at + 64) }
 {
-    let mut k: usize = 0;
-    while k < 64 {
-        table[at + k] = 0;
-        k += 1;
-    }
+    table[at..at + 64].fill(0);
 }
 
 // Zeros from place `from` to before place `to`: both halves side by side, block by block, and then the few that are left. One run of zeros would compile
 // to a call that takes a third more.
+#[tactic(auto, using(crate::proofs::Clearing::halves_laws))]
 pub fn clear(table: &mut [i32], from: usize, to: usize)
     requires { (from ≤ to) × (to ≤ length table.old) }
     ensures { table.new ≡ cleared table.old from to }
 {
-    let half = (to - from) / 128 * 64;
+    let blocks = (to - from) / 128;
+    let half = 64 * blocks;
     let mid = from + half;
-    let mut i: usize = 0;
-    while i < half {
+    for block in 0..blocks {
+        let i = 64 * block;
         clear_block(table, from + i);
         clear_block(table, mid + i);
-        i += 64;
     }
     clear_few(table, mid + half, to);
+}
+
+// Whether one of these places is in use.
+fn any_used(listed: &[u32]) -> bool
+    ensures { result ≡ list_any (λ k. not (k == 0)) listed.now }
+{
+    listed.iter().any(|k| *k != 0)
 }
 
 // Whether one of the places 1 to n after place `from` is in use.
@@ -154,14 +155,7 @@ fn any_listed(listed: &[u32; LISTED], from: usize, n: usize) -> bool
     requires { from + n < 3 * places }
     ensures { result ≡ any_after from listed.now n }
 {
-    let mut a = n;
-    while 0 < a {
-        if listed[from + a] != 0 {
-            return true;
-        }
-        a -= 1;
-    }
-    false
+    any_used(&listed[from + 1..from + 1 + n])
 }
 
 // The number that a place keeps.
@@ -278,15 +272,14 @@ fn superseded_by(listed: &[u32; LISTED], n: usize) -> Superseded
 }
 
 // The first n rows get their meaning.
+#[tactic(auto, using(crate::proofs::Rows::meanings))]
 pub fn mean(atoms: &mut [i32], n: u32, listed: &[u32; LISTED])
     requires { (n ≤ limit) × (16 * n ≤ length atoms.old) × Kept n listed.now }
     ensures { atoms.new ≡ meant n atoms.old listed.now }
 {
     let rows = n as usize;
     let over = superseded_by(listed, rows);
-    let mut i = 0;
-    while i < rows {
+    for i in 0..rows {
         mean_row(atoms, i, listed, over);
-        i += 1;
     }
 }

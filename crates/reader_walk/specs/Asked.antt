@@ -1,10 +1,9 @@
 -- The bonds of a record that have come to the check for repeated pairs, by the judge's turns: a row is asked for each.
-use Rattle.std.specs.Prelude.{ℕ, zero, suc, ◌+◌, ◌-◌, ◌*◌, ◌≡◌, refl, List, [], ◌∷◌, ◌++◌, Bool, true, false, not, leb, length, take, drop}
+use Rattle.std.specs.Prelude.{Option, Some, None, ℕ, zero, suc, ◌+◌, ◌-◌, ◌*◌, ◌≡◌, refl, List, [], ◌∷◌, ◌++◌, Bool, true, false, not, leb, length, take, drop}
 use Rattle.std.proofs.Common.{arith, sym, ap, ◌∙◌, subst, length-append, drop_at}
 use Rattle.std.proofs.Math.Seq.{take-append_seam}
 use Rattle.text.specs.Text.{Bytes, Line}
 use Rattle.text.specs.Find.{bad_column}
-use Rattle.text.specs.declared.Found.{Found}
 use Rattle.text.specs.Cut.{cut}
 use Rattle.rules.specs.Forms.{Bond, BondLine}
 use Rattle.rules.specs.Record.{Molecule, Raw, limit}
@@ -87,11 +86,11 @@ pub none_own : {A : Type 0} (longest : ℕ) (l : Line) (bs : List Bond) (g : Got
 unfolding within need then
 none_own {A} longest l bs g f e column h = go (leb (length l) longest) (bad_column l) g h
   where
-    go : (t : Bool) (n : Found) (g : Got Bond) → need t 3 (suc longest) (none_found 4 n (then g λ b. got (f b))) ≡ bad e column →
+    go : (t : Bool) (n : Option ℕ) (g : Got Bond) → need t 3 (suc longest) (none_found 4 n (then g λ b. got (f b))) ≡ bad e column →
         with_own bs (need t 3 (suc longest) (none_found 4 n g)) ≡ bs
-    go true (Found.At i) g h = refl
-    go true Found.Nothing (got b) h = bad_got (sym h)
-    go true Found.Nothing (bad x y) h = refl
+    go true (Some i) g h = refl
+    go true None (got b) h = bad_got (sym h)
+    go true None (bad x y) h = refl
     go false n g h = refl
 
 -- ---- The same in the words of the rules

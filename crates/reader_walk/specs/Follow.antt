@@ -1,7 +1,7 @@
 -- The reader's step goes with the judge's turn: where the state stands for a place, the same lines are taken, and the state after them stands for the place after them.
 use Prim.Native.Nat.{ℕ, zero, suc, ◌+◌, ◌-◌, ◌*◌, ◌≤◌, ◌<◌}
 use native.Mathlib.Omega.{arith}
-use Rattle.std.specs.Prelude.{◌≡◌, Bool, not, set, ℤ}
+use Rattle.std.specs.Prelude.{Option, Some, None, ◌≡◌, Bool, not, set, ℤ}
 use Rattle.std.proofs.Math.Path.{refl, ap, subst}
 use Rattle.std.proofs.Common.{sym, ap₂, ◌∙◌, take-suc-set, ne_eqb}
 use mathlib.Core.List.{List, [], ◌∷◌, ◌++◌}
@@ -12,7 +12,6 @@ use Rattle.std.proofs.lemmas.List.Edits.{sets}
 use Rattle.text.specs.Text.{Bytes, Line}
 use Rattle.text.specs.Columns.{Within}
 use Rattle.text.specs.Find.{bad_column}
-use Rattle.text.specs.declared.Found.{Found}
 use Rattle.rules.specs.Forms as R
 use Rattle.rules.specs.Forms.{Atom, Bond, Property}
 use Rattle.rules.specs.Record.{Headers, Molecule, Item, Raw, listed, limit, atom_places, bond_places}
@@ -51,9 +50,9 @@ use Rattle.reader_walk.specs.Stands.{is_sd, place_of, Rows, Listing, Counted, He
 -- ---- Two readings of one line, by the same judge of the line
 
 module _ (longest : ℕ) (l : Line) (R : Got Went → Got Turn → Type 0) (bads : (e column : ℕ) → R (bad e column) (bad e column)) where
-  clean : (f : Found) (x : Got Went) (y : Got Turn) → (f ≡ Found.Nothing → R x y) → R (none_found 4 f x) (none_found 4 f y)
-  clean (Found.At c) x y h = bads 4 c
-  clean Found.Nothing x y h = h refl
+  clean : (f : Option ℕ) (x : Got Went) (y : Got Turn) → (f ≡ None → R x y) → R (none_found 4 f x) (none_found 4 f y)
+  clean (Some c) x y h = bads 4 c
+  clean None x y h = h refl
 
   short_enough : (t : Bool) (x : Got Went) (y : Got Turn) → (t ≡ true → R x y) → R (need t 3 (suc longest) x) (need t 3 (suc longest) y)
   unfolding need
@@ -66,7 +65,7 @@ module _ (longest : ℕ) (l : Line) (R : Got Went → Got Turn → Type 0) (bads
       short_enough (leb (length l) longest) (none_found 4 (bad_column l) x) (none_found 4 (bad_column l) y)
       (λ long. clean (bad_column l) x y (λ none. h (good long none)))
     where
-      good : leb (length l) longest ≡ true → bad_column l ≡ Found.Nothing → Within longest l
+      good : leb (length l) longest ≡ true → bad_column l ≡ None → Within longest l
       good long none = (within_got longest l (got l) l (rw (long, none))).0
 
   both_then : {A : Type 0} (g : Got A) (f : A → Got Went) (h : A → Got Turn) → (Within longest l → (a : A) → g ≡ got a → R (f a) (h a)) →

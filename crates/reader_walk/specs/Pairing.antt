@@ -1,5 +1,5 @@
 -- The search for a bond's pair among the pairs before it, within the walk: a repeat ends the walk with 11, else the bond is stored and the walk goes on.
-use Rattle.std.specs.Prelude.{ℕ, ◌+◌, ◌-◌, ◌*◌, ◌≤◌, ◌<◌, ◌≡◌, refl, List, [], ◌∷◌, ◌++◌, Bool, true, length, get_or, take, set, ℤ}
+use Rattle.std.specs.Prelude.{Result, Ok, ℕ, ◌+◌, ◌-◌, ◌*◌, ◌≤◌, ◌<◌, ◌≡◌, refl, List, [], ◌∷◌, ◌++◌, Bool, true, length, get_or, take, set, ℤ}
 use Rattle.std.proofs.Common.{arith, ap, ◌∙◌, subst, length-append}
 use Rattle.std.proofs.Math.Path.{sym}
 use Rattle.std.proofs.lemmas.List.Edits.{sets}
@@ -17,6 +17,7 @@ use Rattle.line_counts_bonds.specs.declared.Bond.{Bond}
 use Rattle.reader_tables.specs.Held.{drop_sets}
 use Rattle.reader_state.specs.declared.Reader.{Reader}
 use Rattle.reader_line.specs.declared.Notes.{Notes}
+use Rattle.judge_line.specs.declared.Refusal.{Refusal}
 use Rattle.reader_line.specs.declared.Taken.{Taken}
 use Rattle.reader_end.specs.declared.Walked.{Walked}
 use Rattle.reader_pairs.specs.Keys.{pair_key, Searching, searching_next, searching_found, searching_end, searching_first}
@@ -38,8 +39,8 @@ pub record Pairing (sd : Bool) (s : Bytes) (r : Reader) (m : Notes) (n i : ℕ) 
   pub searching : Searching keys key count j
 
 pub pairing_start : (sd : Bool) (s : Bytes) (ta₀ tb₀ : List ℤ) (ws₀ : List ℕ) (r : Reader) (m : Notes) (at i : ℕ) (t keys ws : List ℕ) (ta tb : List ℤ)
-    (g : Walking sd s ta₀ tb₀ ws₀ r m at i t keys ws ta tb) (e n : ℕ) (o : LineAt) (found : o ≡ line_at s at) (is : o ≡ LineAt.Line e n) (x : Taken) (r' : Reader) (b : Bond) (t' : List ℕ) (ta' : List ℤ) →
-    Took r m n t ta (part s at e) x t' ta' → x ≡ Taken.Bond r' b → (key j : ℕ) →
+    (g : Walking sd s ta₀ tb₀ ws₀ r m at i t keys ws ta tb) (e n : ℕ) (o : LineAt) (found : o ≡ line_at s at) (is : o ≡ LineAt.Line e n) (x : Result Taken Refusal) (r' : Reader) (b : Bond) (t' : List ℕ) (ta' : List ℤ) →
+    Took r m n t ta (part s at e) x t' ta' → x ≡ Ok (Taken.Bond r' b) → (key j : ℕ) →
     key ≡ pair_key b.first b.second → Searching keys key m.bonds j → Pairing sd s r' m n i t' keys ws ta' tb b key m.bonds j
 pairing_start sd s ta₀ tb₀ ws₀ r m at i t keys ws ta tb g e n o found is x r' b t' ta' k q key j ek search =
     record {
@@ -50,8 +51,8 @@ pairing_start sd s ta₀ tb₀ ws₀ r m at i t keys ws ta tb g e n o found is x
     }
 
 module _ (sd : Bool) (s : Bytes) (ta₀ tb₀ : List ℤ) (ws₀ : List ℕ) (r : Reader) (m : Notes) (at i : ℕ) (t keys ws : List ℕ) (ta tb : List ℤ)
-    (g : Walking sd s ta₀ tb₀ ws₀ r m at i t keys ws ta tb) (e n : ℕ) (o₀ : LineAt) (found : o₀ ≡ line_at s at) (is : o₀ ≡ LineAt.Line e n) (x : Taken) (r' : Reader) (b : Bond)
-    (t' : List ℕ) (ta' : List ℤ) (k : Took r m n t ta (part s at e) x t' ta') (q : x ≡ Taken.Bond r' b) where
+    (g : Walking sd s ta₀ tb₀ ws₀ r m at i t keys ws ta tb) (e n : ℕ) (o₀ : LineAt) (found : o₀ ≡ line_at s at) (is : o₀ ≡ LineAt.Line e n) (x : Result Taken Refusal) (r' : Reader) (b : Bond)
+    (t' : List ℕ) (ta' : List ℤ) (k : Took r m n t ta (part s at e) x t' ta') (q : x ≡ Ok (Taken.Bond r' b)) where
   pub first_small : b.first ≤ 999
   first_small = (bonding sd s ta₀ tb₀ ws₀ r m at i t keys ws ta tb g e n o₀ found is x r' b t' ta' k q).fits.first
 

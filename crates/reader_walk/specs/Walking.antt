@@ -1,5 +1,5 @@
 -- What holds between two lines of the walk over one record, and how each line carries it on or ends the walk.
-use Rattle.std.specs.Prelude.{ℕ, zero, suc, ◌+◌, ◌-◌, ◌*◌, ◌≤◌, ◌<◌, ◌^◌, ◌≡◌, List, [], ◌∷◌, ◌++◌, Bool, true, false, length, take, drop, set, ℤ}
+use Rattle.std.specs.Prelude.{Result, Ok, Err, ℕ, zero, suc, ◌+◌, ◌-◌, ◌*◌, ◌≤◌, ◌<◌, ◌^◌, ◌≡◌, List, [], ◌∷◌, ◌++◌, Bool, true, false, length, take, drop, set, ℤ}
 use Rattle.std.proofs.Common.{arith, ap₂, ◌∙◌, subst, length-set, Fits}
 use Rattle.std.proofs.Math.Path.{refl, sym, ap}
 use Rattle.std.proofs.lemmas.List.Edits.{sets}
@@ -13,7 +13,7 @@ use Rattle.rules.specs.Forms as R
 use Rattle.rules.specs.Record.{Raw, limit, atom_places, bond_places}
 use Rattle.rules.specs.Meaning.{bond_numbers}
 use Rattle.judge_pairs.specs.Taken.{pair_taken}
-use Rattle.judge_line.specs.Got.{Got, got, bad}
+use Rattle.judge_line.specs.Got.{Got, got, bad, err_same}
 use Rattle.judge_line.specs.Field.{elem, within}
 use Rattle.judge_line.specs.Judge.{bond_of}
 use Rattle.line_counts_bonds.specs.Answer.{bond_is}
@@ -36,6 +36,7 @@ use Rattle.reader_state.specs.StateParts.{begun}
 use Rattle.reader_places.specs.Places.{longest_in, bonds_owed}
 use Rattle.reader_places.specs.declared.Place.{Place}
 use Rattle.reader_line.specs.declared.Notes.{Notes}
+use Rattle.judge_line.specs.declared.Refusal.{Refusal}
 use Rattle.reader_line.specs.declared.Taken.{Taken}
 use Rattle.reader_end.specs.declared.Walked.{Walked}
 use Rattle.reader_pairs.specs.Keys.{key_of, keys_of, SmallEnds, AllSmall, taken_keys}
@@ -285,10 +286,10 @@ module _ (sd : Bool) (s : Bytes) (ta₀ tb₀ : List ℤ) (ws₀ : List ℕ) (r 
         past = drop_sets (raw_row a) ta (16 * m.atoms) atom_places (omega arith) ∙ g.atoms_beside.past;
       }
 
-  pub walking_next : (x : Taken) (r' : Reader) (m' : Notes) (t' : List ℕ) (ta' : List ℤ) → Took r m n t ta (part s at e) x t' ta' → x ≡ Taken.Next r' m' → Walking sd s ta₀ tb₀ ws₀ r' m' n (i + 1) t' keys ws ta' tb
+  pub walking_next : (x : Result Taken Refusal) (r' : Reader) (m' : Notes) (t' : List ℕ) (ta' : List ℤ) → Took r m n t ta (part s at e) x t' ta' → x ≡ Ok (Taken.Next r' m') → Walking sd s ta₀ tb₀ ws₀ r' m' n (i + 1) t' keys ws ta' tb
   walking_next x r' m' t' ta' k q = go (went_of r t (part s at e)) refl (sym q ∙ k.answer) k.rows goes
     where
-      go : (w : Got Went) → went_of r t (part s at e) ≡ w → Taken.Next r' m' ≡ taken_by m n w → ta' ≡ atoms_by m w ta →
+      go : (w : Got Went) → went_of r t (part s at e) ≡ w → Ok (Taken.Next r' m') ≡ taken_by m n w → ta' ≡ atoms_by m w ta →
           Goes (kind_of sd) s i n g.p (part s at e) r m (table_at r r.place t (part s at e)) keys ta tb w (turn_of (kind_of sd) limit g.p (part s at e)) →
           Walking sd s ta₀ tb₀ ws₀ r' m' n (i + 1) t' keys ws ta' tb
       go (got (W.on r₂)) ew h ea o = moved r' r₂ m' m t' ta' ta (cc) (cc) k.size (k.kept.kept (W.on r₂) ew) ea refl g.atoms_beside o
@@ -318,15 +319,15 @@ module _ (sd : Bool) (s : Bytes) (ta₀ tb₀ : List ℤ) (ws₀ : List ℕ) (r 
 
   -- ---- The line is refused
 
-  module _ (x : Taken) (t' : List ℕ) (ta' : List ℤ) (k : Took r m n t ta (part s at e) x t' ta') (c column : ℕ) (q : x ≡ Taken.Refused c column) where
+  module _ (x : Result Taken Refusal) (t' : List ℕ) (ta' : List ℤ) (k : Took r m n t ta (part s at e) x t' ta') (f : Refusal) (q : x ≡ Err f) where
     record Off : Type 0 where
-      went : went_of r t (part s at e) ≡ bad c column
-      turn : turn_of (kind_of sd) limit g.p (part s at e) ≡ bad c column
+      went : went_of r t (part s at e) ≡ bad f.no f.column
+      turn : turn_of (kind_of sd) limit g.p (part s at e) ≡ bad f.no f.column
 
     off : Off
     off = go (went_of r t (part s at e)) refl (sym q ∙ k.answer) goes
       where
-        go : (w : Got Went) → went_of r t (part s at e) ≡ w → Taken.Refused c column ≡ taken_by m n w →
+        go : (w : Got Went) → went_of r t (part s at e) ≡ w → Err f ≡ taken_by m n w →
             Goes (kind_of sd) s i n g.p (part s at e) r m (table_at r r.place t (part s at e)) keys ta tb w (turn_of (kind_of sd) limit g.p (part s at e)) → Off
         go (got (W.on r₂)) ew h o = absurd (let z : ◌≡◌ {A = ℕ} 0 1 = cc in omega arith)
         go (got (W.headed r₂)) ew h o = absurd (let z : ◌≡◌ {A = ℕ} 0 1 = cc in omega arith)
@@ -338,12 +339,12 @@ module _ (sd : Bool) (s : Bytes) (ta₀ tb₀ : List ℤ) (ws₀ : List ℕ) (r 
         go (got (W.blank r₂)) ew h o = absurd (let z : ◌≡◌ {A = ℕ} 0 1 = cc in omega arith)
         go (got W.done) ew h o = absurd (let z : ◌≡◌ {A = ℕ} 0 1 = cc in omega arith)
         go (bad c₂ column₂) ew h o =
-            let ec : c₂ ≡ c = cc in
-            let el : column₂ ≡ column = cc in
+            let ec : c₂ ≡ f.no = sym (ap (λ (e : Refusal). e.no) (err_same h)) in
+            let el : column₂ ≡ f.column = sym (ap (λ (e : Refusal). e.column) (err_same h)) in
             record { went = ew ∙ ap₂ bad ec el; turn = o ∙ ap₂ bad ec el }
 
-    stopped : outcome_of (kind_of sd) s ≡ refused c i column
-    stopped = split ∙ from_bad (kind_of sd) g.p i (part s at e) (cut (drop n s)).lines (cut (drop n s)).rest c column off.turn
+    stopped : outcome_of (kind_of sd) s ≡ refused f.no i f.column
+    stopped = split ∙ from_bad (kind_of sd) g.p i (part s at e) (cut (drop n s)).lines (cut (drop n s)).rest f.no f.column off.turn
 
     -- its form is wrong, so it brings no bond to the check
     unasked : asked_at g.p (part s at e) ≡ bonds_in g.p
@@ -359,7 +360,7 @@ module _ (sd : Bool) (s : Bytes) (ta₀ tb₀ : List ℤ) (ws₀ : List ℕ) (r 
         go (bonds hs x xs j bs) ep d =
             let ew = sym (ap (λ (u : Place). within (longest_in u) (part s at e) (line_in r u t (part s at e))) ep) ∙ off.went in
             ap (λ (y : R.Counts). with_own bs (within 80 (part s at e) (bond_of y.atoms (part s at e)))) (sym d.0)
-            ∙ none_own 80 (part s at e) bs (bond_of r.counts.atoms (part s at e)) (W.bond (W.moved r (bonds_owed (suc j - 1)))) c column ew
+            ∙ none_own 80 (part s at e) bs (bond_of r.counts.atoms (part s at e)) (W.bond (W.moved r (bonds_owed (suc j - 1)))) f.no f.column ew
         go (properties hs x xs bs ps) ep d = refl
         go (over mol) ep d = refl
         go (items mol is) ep d = refl
@@ -367,12 +368,12 @@ module _ (sd : Bool) (s : Bytes) (ta₀ tb₀ : List ℤ) (ws₀ : List ℕ) (r 
 
     pub refused_asked : (v : ℕ) → v ≡ m.bonds → v ≡ rows_asked (kind_of sd) s
     refused_asked =
-        read_asked sd s ta₀ tb₀ ws₀ r m at i t keys ws ta tb g (asked_split ∙ asked_bad (kind_of sd) g.p (part s at e) (cut (drop n s)).lines c column off.turn ∙ unasked)
+        read_asked sd s ta₀ tb₀ ws₀ r m at i t keys ws ta tb g (asked_split ∙ asked_bad (kind_of sd) g.p (part s at e) (cut (drop n s)).lines f.no f.column off.turn ∙ unasked)
 
     pub refused_rows : RowsMarked ws₀ ws (outcome_of (kind_of sd) s)
-    refused_rows = rows_by sd s ta₀ tb₀ ws₀ r m at i t keys ws ta tb g (refused c i column) stopped (λ x j w. absurd (let z : ◌≡◌ {A = ℕ} 0 1 = cc in omega arith))
+    refused_rows = rows_by sd s ta₀ tb₀ ws₀ r m at i t keys ws ta tb g (refused f.no i f.column) stopped (λ x j w. absurd (let z : ◌≡◌ {A = ℕ} 0 1 = cc in omega arith))
 
-    pub walking_refused : (w : Walked) → w ≡ Walked.Refused c i column → w ≡ walk_of (kind_of sd) s
+    pub walking_refused : (w : Walked) → w ≡ Walked.Refused f.no i f.column → w ≡ walk_of (kind_of sd) s
     unfolding walk_of
     walking_refused w ew = ew ∙ sym (ap (walked_by (kind_of sd) s) stopped)
 
@@ -385,7 +386,7 @@ module _ (sd : Bool) (s : Bytes) (ta₀ tb₀ : List ℤ) (ws₀ : List ℕ) (r 
           held = subst (HeldBy ta' tb t') (sym stopped) tt;
         }
       where
-        same_atoms : (w : Got Went) → Taken.Refused c column ≡ taken_by m n w → atoms_by m w ta ≡ ta
+        same_atoms : (w : Got Went) → Err f ≡ taken_by m n w → atoms_by m w ta ≡ ta
         same_atoms (got (W.on r₂)) h = refl
         same_atoms (got (W.headed r₂)) h = refl
         same_atoms (got (W.atom r₂ a)) h = absurd (let z : ◌≡◌ {A = ℕ} 0 1 = cc in omega arith)
@@ -399,7 +400,7 @@ module _ (sd : Bool) (s : Bytes) (ta₀ tb₀ : List ℤ) (ws₀ : List ℕ) (r 
 
   -- ---- The line is `$$$$`
 
-  module _ (x : Taken) (t' : List ℕ) (ta' : List ℤ) (k : Took r m n t ta (part s at e) x t' ta') (q : x ≡ Taken.Done) where
+  module _ (x : Result Taken Refusal) (t' : List ℕ) (ta' : List ℤ) (k : Took r m n t ta (part s at e) x t' ta') (q : x ≡ Ok Taken.Done) where
     record Over : Type 0 where
       y : Raw
       turn : turn_of (kind_of sd) limit g.p (part s at e) ≡ got (J.done y)
@@ -409,7 +410,7 @@ module _ (sd : Bool) (s : Bytes) (ta₀ tb₀ : List ℤ) (ws₀ : List ℕ) (r 
     finished_over : Over
     finished_over = go (went_of r t (part s at e)) refl (sym q ∙ k.answer) k.rows goes
       where
-        go : (w : Got Went) → went_of r t (part s at e) ≡ w → Taken.Done ≡ taken_by m n w → ta' ≡ atoms_by m w ta →
+        go : (w : Got Went) → went_of r t (part s at e) ≡ w → Ok Taken.Done ≡ taken_by m n w → ta' ≡ atoms_by m w ta →
             Goes (kind_of sd) s i n g.p (part s at e) r m (table_at r r.place t (part s at e)) keys ta tb w (turn_of (kind_of sd) limit g.p (part s at e)) → Over
         go (got (W.on r₂)) ew h ea o = absurd (let z : ◌≡◌ {A = ℕ} 0 1 = cc in omega arith)
         go (got (W.headed r₂)) ew h ea o = absurd (let z : ◌≡◌ {A = ℕ} 0 1 = cc in omega arith)
@@ -468,7 +469,7 @@ module _ (sd : Bool) (s : Bytes) (ta₀ tb₀ : List ℤ) (ws₀ : List ℕ) (r 
 
   -- ---- The line is a bond's
 
-  module _ (x : Taken) (r' : Reader) (b : Bond) (t' : List ℕ) (ta' : List ℤ) (k : Took r m n t ta (part s at e) x t' ta') (q : x ≡ Taken.Bond r' b) where
+  module _ (x : Result Taken Refusal) (r' : Reader) (b : Bond) (t' : List ℕ) (ta' : List ℤ) (k : Took r m n t ta (part s at e) x t' ta') (q : x ≡ Ok (Taken.Bond r' b)) where
     record Pended : Type 0 where
       pending : Pending (kind_of sd) s i g.p (part s at e) keys tb r' m t' ta (bond_is b) (turn_of (kind_of sd) limit g.p (part s at e))
       same : ta' ≡ ta
@@ -476,7 +477,7 @@ module _ (sd : Bool) (s : Bytes) (ta₀ tb₀ : List ℤ) (ws₀ : List ℕ) (r 
     pended : Pended
     pended = go (went_of r t (part s at e)) refl (sym q ∙ k.answer) k.rows goes
       where
-        go : (w : Got Went) → went_of r t (part s at e) ≡ w → Taken.Bond r' b ≡ taken_by m n w → ta' ≡ atoms_by m w ta →
+        go : (w : Got Went) → went_of r t (part s at e) ≡ w → Ok (Taken.Bond r' b) ≡ taken_by m n w → ta' ≡ atoms_by m w ta →
             Goes (kind_of sd) s i n g.p (part s at e) r m (table_at r r.place t (part s at e)) keys ta tb w (turn_of (kind_of sd) limit g.p (part s at e)) → Pended
         go (got (W.on r₂)) ew h ea o = absurd (let z : ◌≡◌ {A = ℕ} 0 1 = cc in omega arith)
         go (got (W.headed r₂)) ew h ea o = absurd (let z : ◌≡◌ {A = ℕ} 0 1 = cc in omega arith)
@@ -573,7 +574,7 @@ module _ (sd : Bool) (s : Bytes) (ta₀ tb₀ : List ℤ) (ws₀ : List ℕ) (r 
   pub keys_size : length keys ≡ limit
   keys_size = g.key_room
 
-  pub took_size : (n : ℕ) (l : Line) (x : Taken) (t' : List ℕ) (ta' : List ℤ) → Took r m n t ta l x t' ta' → length ta' ≡ length ta₀
+  pub took_size : (n : ℕ) (l : Line) (x : Result Taken Refusal) (t' : List ℕ) (ta' : List ℤ) → Took r m n t ta l x t' ta' → length ta' ≡ length ta₀
   took_size n l x t' ta' k = ap length k.rows ∙ atoms_length m (went_of r t l) ta ∙ g.atoms_beside.size
 
   pub bonds_few : m.bonds ≤ limit

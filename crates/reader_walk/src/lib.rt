@@ -10,6 +10,7 @@ ghost use Rattle.reader_walk.specs.Asked.{rows_asked};
 ghost use Rattle.reader_walk.specs.Stands.{kind_of};
 ghost use Rattle.reader_walk.specs.Walked.{walk_of, Left, RowsMarked};
 
+use judge_line::Refusal;
 use reader_end::Repeat;
 pub use reader_end::{Counted, Walked};
 use reader_line::{Notes, Taken};
@@ -40,22 +41,22 @@ fn walk_lines(
     let mut notes = Notes::new();
     let mut at: usize = 0;
     let mut line: usize = 1;
+    // The place jumps by lines of any length: a `for` would need an iterator over them, with a proof of its own.
     let repeat = 'walk: loop {
         let LineAt::Line { end, next } = text::line_at(s, at) else {
             return reader_end::ended(s.len() - at, reader, notes, at, line);
         };
         match reader_line::take_line(reader, notes, &s[at..end], next, atoms, listed) {
-            Taken::Next(r, m) => {
+            Ok(Taken::Next(r, m)) => {
                 reader = r;
                 notes = m;
                 at = next;
                 line += 1;
             }
-            Taken::Bond(r, b) => {
+            Ok(Taken::Bond(r, b)) => {
                 let key = reader_pairs::pair_key(b.first, b.second);
                 let count = notes.bonds;
-                let mut j = reader_rows::first_key(rows, keys, count, key);
-                while j < count {
+                for j in reader_rows::first_key(rows, keys, count, key)..count {
                     if keys[j] == key {
                         break 'walk Repeat {
                             earlier: j + 1,
@@ -63,7 +64,6 @@ fn walk_lines(
                             line,
                         };
                     }
-                    j += 1;
                 }
                 notes = reader_line::keep_bond(notes, b, key, bonds, keys);
                 reader_rows::mark(rows, key);
@@ -71,10 +71,10 @@ fn walk_lines(
                 at = next;
                 line += 1;
             }
-            Taken::Done => {
+            Ok(Taken::Done) => {
                 return reader_end::closed(reader, notes, at, line, next);
             }
-            Taken::Refused { no, column } => {
+            Err(Refusal { no, column }) => {
                 return reader_end::stopped(notes, no, line, column);
             }
         }

@@ -5,55 +5,6 @@ use program_io::{System, Target};
 use program_printer::Task;
 use std::process::ExitCode;
 
-#[derive(Drop)]
-enum Verb {
-    Read,
-    Fetch,
-    Canon,
-    Pieces,
-    Formula,
-    Replay,
-    Same,
-    Stock,
-    Compare,
-    Tally,
-    Unknown,
-}
-
-fn asked(system: &System) -> Verb {
-    if program_io::is_argument(system, 1, b"read") {
-        return Verb::Read;
-    }
-    if program_io::is_argument(system, 1, b"fetch") {
-        return Verb::Fetch;
-    }
-    if program_io::is_argument(system, 1, b"canon") {
-        return Verb::Canon;
-    }
-    if program_io::is_argument(system, 1, b"pieces") {
-        return Verb::Pieces;
-    }
-    if program_io::is_argument(system, 1, b"formula") {
-        return Verb::Formula;
-    }
-    if program_io::is_argument(system, 1, b"replay") {
-        return Verb::Replay;
-    }
-    if program_io::is_argument(system, 1, b"same") {
-        return Verb::Same;
-    }
-    if program_io::is_argument(system, 1, b"stock") {
-        return Verb::Stock;
-    }
-    if program_io::is_argument(system, 1, b"compare") {
-        return Verb::Compare;
-    }
-    if program_io::is_argument(system, 1, b"tally") {
-        return Verb::Tally;
-    }
-    Verb::Unknown
-}
-
 // Every record as JSON, or its pieces, one object a line: `molfile` or `sdfile`, perhaps `--progress`, then the names.
 fn of_records(system: &System, task: Task) {
     let sd = program_io::is_argument(system, 2, b"sdfile");
@@ -79,22 +30,30 @@ fn formula(system: &System) {
     program_printer::run(system, Task::Formula, true, b"", 2);
 }
 
-fn main(rt: HostRuntime) -> ExitCode {
-    let system = System::new(rt);
-    match asked(&system) {
-        Verb::Read => of_records(&system, Task::Readings),
-        Verb::Fetch => fetch(&system),
-        Verb::Canon => canon(&system),
-        Verb::Pieces => of_records(&system, Task::Pieces),
-        Verb::Formula => formula(&system),
-        Verb::Replay => program_replay::run(&system, 2),
-        Verb::Same => program_compare::same(&system),
-        Verb::Stock => program_stock::run(&system),
-        Verb::Compare => program_compare::compare(&system),
-        Verb::Tally => program_tally::run(&system, 2),
-        Verb::Unknown => {
+fn run(system: &System, verb: &[u8]) {
+    match verb {
+        b"read" => of_records(system, Task::Readings),
+        b"fetch" => fetch(system),
+        b"canon" => canon(system),
+        b"pieces" => of_records(system, Task::Pieces),
+        b"formula" => formula(system),
+        b"replay" => program_replay::run(system, 2),
+        b"same" => program_compare::same(system),
+        b"stock" => program_stock::run(system),
+        b"compare" => program_compare::compare(system),
+        b"tally" => program_tally::run(system, 2),
+        _ => {
             let _ = system.write(Target::Errors, b"records: no sub-command of this name\n");
         }
+    }
+}
+
+fn main(rt: HostRuntime) -> ExitCode {
+    let system = System::new(rt);
+    let mut verb = [0u8; 64];
+    match system.argument(1, &mut verb) {
+        Ok(n) => run(&system, &verb[..n]),
+        Err(_) => run(&system, b""),
     }
     system.ending()
 }

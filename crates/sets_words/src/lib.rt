@@ -48,14 +48,13 @@ fn ones_of(w: u64) -> u32
 }
 
 // How many numbers the set has: the ones of its words.
+#[tactic(auto, using(crate::proofs::Words::sizing_laws))]
 pub fn size(words: &[u64; WORDS]) -> u32
     ensures { result ≡ how_many (has_bit words.now) 1024 }
 {
     let mut n: u32 = 0;
-    let mut i: usize = 0;
-    while i < 16 {
-        n += ones_of(words[i]);
-        i += 1;
+    for w in words {
+        n += ones_of(*w);
     }
     n
 }

@@ -1,7 +1,7 @@
 // The lots in lent memory: the search for a key, a lot's paper, a new key.
 #![tactic(auto)]
 
-ghost use Rattle.std.specs.Prelude.{◌≡◌, ◌+◌, ◌-◌, ◌≤◌, ◌<◌};
+ghost use Rattle.std.specs.Prelude.{◌≡◌, false, ◌+◌, ◌-◌, ◌≤◌, ◌<◌};
 ghost use Rattle.store_lots.specs.Memory.{same_key_at, place_from, paper_at, put_key};
 ghost use Rattle.store_lots.specs.Looking.{Missed};
 
@@ -27,34 +27,30 @@ fn is_lot(keys: &[u32; KEYS], i: usize, key: Key) -> bool
 }
 
 // The first place of this key from `from` on; `to` where it is none of those.
+#[tactic(auto, using(crate::specs::Looking::looking_laws))]
 fn find_in(keys: &[u32; KEYS], from: usize, to: usize, key: Key) -> usize
     requires { (from ≤ to) × (to ≤ 512) }
     ensures { result ≡ place_from keys.now key from (to - from) }
 {
-    let mut i = from;
-    while i < to {
+    for i in from..to {
         if is_lot(keys, i, key) {
             return i;
         }
-        i += 1;
     }
-    i
+    to
 }
 
-// Not 0 where one of the sixteen words from `i` on is this one. A block is never left early: so it compiles to one vector test.
-fn word_in_block(keys: &[u32; KEYS], i: usize, word: u32) -> usize
+// Whether one of the sixteen words from `i` on is this one. A block is never left early: so it compiles to one vector
+// test.
+fn word_in_block(keys: &[u32; KEYS], i: usize, word: u32) -> bool
     requires { i + 16 ≤ 1536 }
-    ensures { result ≡ 0 → Missed keys.now word i (i + 16) }
+    ensures { result ≡ false → Missed keys.now word i (i + 16) }
 {
-    let mut w: usize = 0;
-    let mut k: usize = 0;
-    while k < 16 {
-        if keys[i + k] == word {
-            w = 1;
-        }
-        k += 1;
+    let mut any = false;
+    for k in 0..16 {
+        any |= keys[i + k] == word;
     }
-    w
+    any
 }
 
 // The first place of this key among sixteen; the place after them where it is none of those.
@@ -62,10 +58,10 @@ fn find_block(keys: &[u32; KEYS], i: usize, key: Key) -> usize
     requires { i + 16 ≤ 512 }
     ensures { result ≡ place_from keys.now key i 16 }
 {
-    if word_in_block(keys, 1024 + i, key.second) == 0 {
+    if !word_in_block(keys, 1024 + i, key.second) {
         return i + 16;
     }
-    if word_in_block(keys, 512 + i, key.first) == 0 {
+    if !word_in_block(keys, 512 + i, key.first) {
         return i + 16;
     }
     find_in(keys, i, i + 16, key)
@@ -76,15 +72,15 @@ pub fn find_lot(keys: &[u32; KEYS], lots: usize, key: Key) -> usize
     requires { lots ≤ 512 }
     ensures { result ≡ place_from keys.now key 0 lots }
 {
-    let mut i: usize = 0;
-    while lots - i >= 16 {
+    let blocks = lots / 16;
+    for b in 0..blocks {
+        let i = 16 * b;
         let lot = find_block(keys, i, key);
         if lot < i + 16 {
             return lot;
         }
-        i += 16;
     }
-    find_in(keys, i, lots, key)
+    find_in(keys, 16 * blocks, lots, key)
 }
 
 // 0 for a lot never received.

@@ -1,5 +1,5 @@
 -- The walk over a good file: what is counted from the start is counted from here.
-use Rattle.std.specs.Prelude.{ℕ, ◌+◌, ◌-◌, ◌*◌, ◌^◌, ◌≤◌, ◌<◌, Bool, true, false, take}
+use Rattle.std.specs.Prelude.{Result, Ok, Err, ℕ, ◌+◌, ◌-◌, ◌*◌, ◌^◌, ◌≤◌, ◌<◌, Bool, true, false, take}
 use Rattle.std.proofs.Common.{arith, ◌∙◌, Fits}
 use Rattle.std.proofs.Math.Path.{◌≡◌, refl, sym, ap, ap₂, subst}
 use mathlib.Core.List.{List, [], ◌∷◌, ◌++◌, append_assoc}
@@ -18,7 +18,7 @@ use Rattle.reader_end.specs.declared.Walked.{Walked}
 use Rattle.reader_walk.specs.Outcome as O
 use Rattle.reader_walk.specs.Outcome.{outcome_of}
 use Rattle.reader_walk.specs.Walked.{walked_by, walk_of}
-use Rattle.reader_check.specs.declared.Answer.{Answer}
+use Rattle.judge_file.specs.declared.TextRefusal.{TextRefusal}
 use Rattle.reader_check.specs.Promised.{Promised, numbers_of}
 use Rattle.reader_walk.specs.Promise.{said_by}
 use Rattle.reader_cursor.specs.declared.Cursor.{Cursor}
@@ -269,24 +269,24 @@ module _ (s : Bytes) (m₀ : Memory) (t₀ : Totals) (m : Memory) (t : Totals) (
 
 -- ---- The file is judged first, and the list before it
 
-module _ (s : Bytes) (m : Memory) (t : Totals) (a : Answer) (p : Promised 1 s a) where
-  pub file_good : ListReady m t → (k : ℕ) → a ≡ Answer.Accepted k → FileReady s m t
+module _ (s : Bytes) (m : Memory) (t : Totals) (a : Result ℕ TextRefusal) (p : Promised 1 s a) where
+  pub file_good : ListReady m t → (k : ℕ) → a ≡ Ok k → FileReady s m t
   file_good g k e = go (verdict sdfile limit s) refl (sym p.judged ∙ ap numbers_of e)
     where
       go : (v : Verdict (List Raw)) → verdict sdfile limit s ≡ v → said_by v ≡ Verdict.accepted k → FileReady s m t
       go (Verdict.accepted xs) h z = record { sized = g.sized; good = g.good; zs = xs; is = h }
       go (Verdict.refused n i c) h z = absurd (let z : ◌≡◌ {A = ℕ} 0 1 = cc in omega arith)
 
-  pub file_bad : Sized m → (e i c : ℕ) → a ≡ Answer.Refused e i c → (Tallied.Refused e i c 0 ≡ told_of (said_of s (book_of m t))) × Left (said_of s (book_of m t)) m m
+  pub file_bad : Sized m → (r : TextRefusal) → a ≡ Err r → (Tallied.Refused r.no r.line r.column 0 ≡ told_of (said_of s (book_of m t))) × Left (said_of s (book_of m t)) m m
   unfolding said_of
-  file_bad z e i c q = go (verdict sdfile limit s) refl (sym p.judged ∙ ap numbers_of q)
+  file_bad z r q = go (verdict sdfile limit s) refl (sym p.judged ∙ ap numbers_of q)
     where
-      go : (v : Verdict (List Raw)) → verdict sdfile limit s ≡ v → said_by v ≡ Verdict.refused e i c → (Tallied.Refused e i c 0 ≡ told_of (by_verdict (book_of m t) v)) × Left (by_verdict (book_of m t) v) m m
+      go : (v : Verdict (List Raw)) → verdict sdfile limit s ≡ v → said_by v ≡ Verdict.refused r.no r.line r.column → (Tallied.Refused r.no r.line r.column 0 ≡ told_of (by_verdict (book_of m t) v)) × Left (by_verdict (book_of m t) v) m m
       go (Verdict.accepted xs) h y = absurd (let z : ◌≡◌ {A = ℕ} 0 1 = cc in omega arith)
       go (Verdict.refused n j d) h y =
-          let a : n ≡ e = cc in
-          let b : j ≡ i = cc in
-          let f : d ≡ c = cc in (
+          let a : n ≡ r.no = cc in
+          let b : j ≡ r.line = cc in
+          let f : d ≡ r.column = cc in (
             rw (a, b, f),
             record { sized = z; tallies = λ k d y. absurd (let z : ◌≡◌ {A = ℕ} 0 1 = cc in omega arith) },
           )

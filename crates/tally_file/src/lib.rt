@@ -1,14 +1,14 @@
 // A file's records added to a list of tallies in flat memory: all of them, or a refusal and none.
 #![tactic(auto)]
 
-ghost use Rattle.std.specs.Prelude.{◌≡◌, ◌+◌, ◌≤◌, length};
+ghost use Rattle.std.specs.Prelude.{◌≡◌, ◌+◌, ◌≤◌, ◌++◌, length, take, drop};
 ghost use Rattle.tally_rules.specs.Book.{with_name, record_on};
 ghost use Rattle.tally_flat.specs.Flat.{memory, Sized};
 ghost use Rattle.tally_good.specs.Judge.{book_of};
 ghost use Rattle.tally_file.specs.Count.{CountReady, ListReady, FileReady, PastReady, supplier_at, step_of, Stepped, past_record, told_of, said_of, answer_of, Left, LeftList, is_done};
-ghost use Rattle.tally_file.specs.Promise.{over, Roomy, TallyPromise};
+ghost use Rattle.tally_file.specs.Promise.{Roomy, TallyPromise};
 
-use reader_check::Answer;
+use judge_file::TextRefusal;
 use reader_cursor::Cursor;
 use reader_first_line::FirstLine;
 use reader_walk::Walked;
@@ -140,6 +140,7 @@ fn count_records(
 {
     let mut sums = totals;
     let mut cursor = Cursor::new();
+    // The cursor jumps by records of any length: a `for` would need an iterator over them, with a proof of its own.
     while cursor.at < s.len() {
         let at = cursor.at;
         match count_record(&s[at..], names, lengths, counts, sums) {
@@ -176,8 +177,8 @@ fn tally_listed(
     ensures left { Left (said_of s.now (book_of (memory names.old lengths.old counts.old) totals)) (memory names.old lengths.old counts.old) (memory names.new lengths.new counts.new) }
 {
     match reader_check::check(1, s) {
-        Answer::Accepted { records: _ } => count_records(s, names, lengths, counts, totals),
-        Answer::Refused { no, line, column } => Tallied::Refused {
+        Ok(_) => count_records(s, names, lengths, counts, totals),
+        Err(TextRefusal { no, line, column }) => Tallied::Refused {
             no,
             line,
             column,
@@ -216,28 +217,12 @@ fn tally_arrays(
     no_list()
 }
 
-// The first n bytes of one over those of the other.
-fn copy_bytes(to: &mut [u8], from: &[u8], n: usize)
+// The first n of one over those of the other.
+fn copy_first<T: Copy>(to: &mut [T], from: &[T], n: usize)
     requires { (n ≤ length to.old) × (n ≤ length from.now) }
-    ensures { to.new ≡ over n from.now to.old }
+    ensures { to.new ≡ take n from.now ++ drop n to.old }
 {
-    let mut i: usize = 0;
-    while i < n {
-        to[i] = from[i];
-        i += 1;
-    }
-}
-
-// The same for numbers.
-fn copy_numbers(to: &mut [u32], from: &[u32], n: usize)
-    requires { (n ≤ length to.old) × (n ≤ length from.now) }
-    ensures { to.new ≡ over n from.now to.old }
-{
-    let mut i: usize = 0;
-    while i < n {
-        to[i] = from[i];
-        i += 1;
-    }
+    to[..n].copy_from_slice(&from[..n]);
 }
 
 // Whether nothing was refused.
@@ -272,14 +257,14 @@ fn tally_copy(
     let mut n = [0u8; NAMES];
     let mut l = [0u32; SUPPLIERS];
     let mut c = [0u32; SUPPLIERS];
-    copy_bytes(&mut n, names, NAMES);
-    copy_numbers(&mut l, lengths, SUPPLIERS);
-    copy_numbers(&mut c, counts, SUPPLIERS);
+    copy_first(&mut n, names, NAMES);
+    copy_first(&mut l, lengths, SUPPLIERS);
+    copy_first(&mut c, counts, SUPPLIERS);
     let r = tally_arrays(s, &mut n, &mut l, &mut c, totals);
     if is_done(r) {
-        copy_bytes(names, &n, NAMES);
-        copy_numbers(lengths, &l, SUPPLIERS);
-        copy_numbers(counts, &c, SUPPLIERS);
+        copy_first(names, &n, NAMES);
+        copy_first(lengths, &l, SUPPLIERS);
+        copy_first(counts, &c, SUPPLIERS);
         return r;
     }
     r

@@ -5,6 +5,7 @@ ghost use Rattle.std.specs.Prelude.{◌≡◌, ◌+◌, ◌*◌, ◌-◌, ◌≤
 ghost use Rattle.tally_rules.specs.Tally.{order, longest, most_suppliers, most_records};
 ghost use Rattle.tally_flat.specs.Flat.{memory, Looked, names_from, slot_from, shifted, put_from, inserted, Near, Placed, new_of, after_new, AddReady, added_of, AddedTo};
 
+use std::cmp::Ordering;
 use tally_rules::{Order, SUPPLIER, SUPPLIERS};
 
 // The bytes of the names.
@@ -28,23 +29,11 @@ pub enum Added {
 pub fn order_of(a: &[u8], b: &[u8]) -> Order
     ensures { result ≡ order a.now b.now }
 {
-    let mut i: usize = 0;
-    while i < a.len() {
-        if b.len() <= i {
-            return Order::After;
-        }
-        if a[i] < b[i] {
-            return Order::Before;
-        }
-        if b[i] < a[i] {
-            return Order::After;
-        }
-        i += 1;
+    match a.cmp(&b) {
+        Ordering::Less => Order::Before,
+        Ordering::Equal => Order::Same,
+        Ordering::Greater => Order::After,
     }
-    if i < b.len() {
-        return Order::Before;
-    }
-    Order::Same
 }
 
 // The first of the tallies in use whose name does not come before this one: it has the name, or the name belongs there.
@@ -52,14 +41,11 @@ pub fn find_in(names: &[u8], lengths: &[u32], used: usize, name: &[u8]) -> Slot
     requires { Looked names.now lengths.now used }
     ensures { result ≡ slot_from name.now 0 (names_from names.now lengths.now 0 used) }
 {
-    let mut i: usize = 0;
-    while i < used {
+    for i in 0..used {
         let from = SUPPLIER * i;
         let to = from + lengths[i] as usize;
         match order_of(&names[from..to], name) {
-            Order::Before => {
-                i += 1;
-            }
+            Order::Before => {}
             Order::Same => {
                 return Slot::Here(i);
             }
@@ -76,9 +62,7 @@ fn move_names(names: &mut [u8; NAMES], from: usize, k: usize)
     requires { (from + k + longest ≤ length names.old) × (length names.old ≡ 1536) }
     ensures { names.new ≡ shifted longest k from names.old }
 {
-    let mut j = k;
-    while 0 < j {
-        j -= 1;
+    for j in (0..k).rev() {
         names[from + j + SUPPLIER] = names[from + j];
     }
 }
@@ -88,9 +72,7 @@ fn move_numbers(numbers: &mut [u32; SUPPLIERS], from: usize, k: usize)
     requires { (from + k + 1 ≤ length numbers.old) × (length numbers.old ≡ most_suppliers) }
     ensures { numbers.new ≡ shifted 1 k from numbers.old }
 {
-    let mut j = k;
-    while 0 < j {
-        j -= 1;
+    for j in (0..k).rev() {
         numbers[from + j + 1] = numbers[from + j];
     }
 }
@@ -110,10 +92,8 @@ fn put_name(names: &mut [u8; NAMES], at: usize, name: &[u8])
     requires { (at + longest ≤ length names.old) × (length names.old ≡ 1536) }
     ensures { names.new ≡ put_from longest at 0 name.now names.old }
 {
-    let mut j: usize = 0;
-    while j < SUPPLIER {
+    for j in 0..SUPPLIER {
         names[at + j] = byte_or_zero(name, j);
-        j += 1;
     }
 }
 

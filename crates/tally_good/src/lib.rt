@@ -9,16 +9,15 @@ ghost use Rattle.tally_good.specs.Judge.{book_of, short_from, rising_names, sum_
 use tally_rules::{Order, RECORDS, SUPPLIER, SUPPLIERS, Totals};
 
 // Each of the lengths in use is that of a name that fits its place.
+#[tactic(auto, using(crate::specs::Steps::short_laws))]
 fn short_names(lengths: &[u32], used: usize) -> bool
     requires { used ≤ length lengths.now }
     ensures { result ≡ short_from lengths.now 0 used }
 {
-    let mut i: usize = 0;
-    while i < used {
+    for i in 0..used {
         if (SUPPLIER as u32) < lengths[i] {
             return false;
         }
-        i += 1;
     }
     true
 }
@@ -36,16 +35,14 @@ fn order_at(names: &[u8], lengths: &[u32], used: usize, i: usize) -> Order
 }
 
 // Each name comes before the next.
+#[tactic(auto, using(crate::specs::Steps::rising_laws))]
 fn rising_names(names: &[u8], lengths: &[u32], used: usize) -> bool
     requires { Looked names.now lengths.now used }
     ensures { result ≡ rising_names (names_from names.now lengths.now 0 used) }
 {
-    let mut i: usize = 0;
-    while i + 1 < used {
+    for i in 0..used.saturating_sub(1) {
         match order_at(names, lengths, used, i) {
-            Order::Before => {
-                i += 1;
-            }
+            Order::Before => {}
             Order::Same => {
                 return false;
             }
@@ -58,6 +55,7 @@ fn rising_names(names: &[u8], lengths: &[u32], used: usize) -> bool
 }
 
 // The counts in use and the missing records make the total.
+#[tactic(auto, using(crate::specs::Steps::adding_laws))]
 fn adds_up(counts: &[u32], used: usize, missing: u32, total: u32) -> bool
     requires { used ≤ length counts.now }
     ensures { result ≡ eqb (sum_from counts.now 0 used + missing) total }
@@ -66,14 +64,12 @@ fn adds_up(counts: &[u32], used: usize, missing: u32, total: u32) -> bool
         return false;
     }
     let mut left = total - missing;
-    let mut i: usize = 0;
-    while i < used {
+    for i in 0..used {
         let k = counts[i];
         if left < k {
             return false;
         }
         left -= k;
-        i += 1;
     }
     left == 0
 }

@@ -1,7 +1,7 @@
 // A lent list of tally records: a name found, a tally inserted, a record added. Each says of the list what the flat layer says of its arrays.
 #![tactic(auto)]
 
-ghost use Rattle.std.specs.Prelude.{◌≡◌, ◌-◌, ◌<◌, ◌≤◌, length, set, take};
+ghost use Rattle.std.specs.Prelude.{◌≡◌, ◌-◌, ◌<◌, ◌≤◌, length, set, take, not, position};
 ghost use Rattle.tally_rules.specs.Tally.{order, fresh, one_more, added, longest, most_records};
 ghost use Rattle.tally_flat.specs.Flat.{now_of, laid_by};
 ghost use Rattle.tally_good.specs.Judge.{is_before as comesBefore};
@@ -47,21 +47,19 @@ pub fn before(t: Tally, name: &[u8]) -> bool
     is_before(order_front(&bytes, t.length as usize, name))
 }
 
+// The first of these tallies whose name does not come before this one.
+fn first_not_before(list: &[Tally], name: &[u8]) -> Option<usize>
+    ensures { result ≡ position (λ t. not (is_before t name.now)) list.now }
+{
+    list.iter().position(|t| !before(*t, name))
+}
+
 // The first of the first `used` tallies whose name does not come before this one; `used` if all do.
 pub fn find(list: &[Tally], used: usize, name: &[u8]) -> usize
     requires { used ≤ length list.now }
     ensures { result ≡ place_from name.now 0 (take used list.now) }
 {
-    let mut i: usize = 0;
-    while i < used {
-        let t = list[i];
-        if before(t, name) {
-            i += 1;
-        } else {
-            return i;
-        }
-    }
-    used
+    first_not_before(&list[..used], name).unwrap_or(used)
 }
 
 // A new tally at its place: those from there on move one place up first.
@@ -69,12 +67,8 @@ pub fn insert_tally(list: &mut [Tally], from: usize, used: usize, t: Tally)
     requires { (from ≤ used) × (used < length list.old) }
     ensures { list.new ≡ set (shifted (used - from) from list.old) from t }
 {
-    let mut j = used;
-    while from < j {
-        let k = j - 1;
-        let x = list[k];
-        list[j] = x;
-        j = k;
+    for k in (from..used).rev() {
+        list[k + 1] = list[k];
     }
     list[from] = t;
 }
@@ -129,11 +123,7 @@ fn new_tally(name: &[u8]) -> Tally
     ensures { result ≡ fresh name.now }
 {
     let mut bytes: [u8; SUPPLIER] = [0; SUPPLIER];
-    let mut i: usize = 0;
-    while i < name.len() {
-        bytes[i] = name[i];
-        i += 1;
-    }
+    bytes[..name.len()].copy_from_slice(name);
     Tally {
         name: bytes,
         length: name.len() as u32,

@@ -37,12 +37,10 @@ fn put_suppliers(
     ensures { Laid room.old room.new 0 (supplier_lines (tallies_from (memory names.now lengths.now counts.now) 0 used)) result }
 {
     let mut e: usize = 0;
-    let mut i: usize = 0;
-    while i < used {
+    for i in 0..used {
         let from = SUPPLIER * i;
         let to = from + lengths[i] as usize;
         e = put_line(room, e, counts[i], &names[from..to]);
-        i += 1;
     }
     e
 }

@@ -1,5 +1,6 @@
 -- Laws on a search that goes on: one for each turn and each end of a loop.
-use Prim.Native.Nat.{ℕ, ◌+◌, ◌-◌, ◌≤◌, ◌<◌}
+use Rattle.std.specs.Prelude.{Option, Some, None}
+use Prim.Native.Nat.{ℕ, zero, suc, ◌+◌, ◌-◌, ◌≤◌, ◌<◌}
 use native.Mathlib.Nat.{add-zero}
 use native.Mathlib.Omega.{arith}
 use mathlib.Core.Path.{◌≡◌, refl, sym, ap, ◌∙◌}
@@ -11,8 +12,6 @@ use Rattle.text.specs.Find.{first_from, is_lf, is_bad, is_ink, bad_column, ink_c
 use Rattle.text.specs.First.{first_hit, first_miss, first_none, first_within, nothing_later}
 use Rattle.text.specs.Agree.{ink_none, blank_is}
 use Rattle.text.specs.Search.{Passed}
-use Rattle.text.specs.declared.Found.{Found}
-use Rattle.text.specs.declared.Found.TheVariants.{At, Nothing}
 use Rattle.text.specs.declared.LineAt.{LineAt}
 
 module _ (p : ℕ → Bool) (s : Bytes) where
@@ -30,27 +29,20 @@ module _ (p : ℕ → Bool) (s : Bytes) where
       let e : j + o + 1 ≡ j + 1 + o = omega arith in
       a o ∙ (first_miss p s j (j + o) h t ∙ ap (λ (k : ℕ). first_from p k (drop (j + 1) s)) e)
 
-  pub passed_hit : (i j o : ℕ) → Passed p s i j → j < length s → p (get_or s j 0) ≡ true → At (j + o) ≡ first_from p (i + o) (drop i s)
+  pub passed_hit : (i j o : ℕ) → Passed p s i j → j < length s → p (get_or s j 0) ≡ true → Some (j + o) ≡ first_from p (i + o) (drop i s)
   unfolding Passed
   passed_hit i j o a h t = sym (a o ∙ first_hit p s j (j + o) h t)
 
-  pub passed_none : (i j o : ℕ) → Passed p s i j → length s ≤ j → Nothing ≡ first_from p (i + o) (drop i s)
+  pub passed_none : (i j o : ℕ) → Passed p s i j → length s ≤ j → None ≡ first_from p (i + o) (drop i s)
   unfolding Passed
   passed_none i j o a h = sym (a o ∙ first_none p s j (j + o) h)
 
-  -- inside a block that starts at i
-  pub block_start : (i : ℕ) → Passed p s i (i + 0)
-  block_start i = rw (add-zero i) (passed_start i)
-
-  pub block_next : (i k : ℕ) → Passed p s i (i + k) → i + k < length s → p (get_or s (i + k) 0) ≡ false → Passed p s i (i + (k + 1))
-  block_next i k a h t =
-      let e : i + (k + 1) ≡ i + k + 1 = omega arith in
-      rw e (passed_next i (i + k) a h t)
-
-  pub block_over : (i k n : ℕ) → Passed p s i (i + k) → k ≤ n → n ≤ k → Passed p s i (i + n)
-  block_over i k n a h g =
-      let e : k ≡ n = omega arith in
-      rw e at a
+  -- a block whose bytes all fail the test
+  pub passed_block : (i n : ℕ) → i + n ≤ length s → ((k : ℕ) → k < n → p (get_or s (i + k) 0) ≡ false) → Passed p s i (i + n)
+  passed_block i zero h f = rw (add-zero i) (passed_start i)
+  passed_block i (suc n) h f =
+      let e : i + suc n ≡ i + n + 1 = omega arith in
+      rw e (passed_next i (i + n) (passed_block i n (omega arith) (λ k g. f k (omega arith))) (omega arith) (f n (omega arith)))
 
   -- the last sixteen bytes, where fewer are left from i on
   pub passed_last : (i : ℕ) → Passed p s (length s - 16) (length s - 16 + 16) → 16 ≤ length s → length s ≤ i + 16 → Passed p s i (length s)
@@ -63,24 +55,24 @@ module _ (p : ℕ → Bool) (s : Bytes) where
 
 -- the first LF: positions count from 0
 module _ (s : Bytes) (at i : ℕ) where
-  pub lf_hit : Passed is_lf s at i → i < length s → get_or s i 0 ≡ LF → At i ≡ first_from is_lf at (drop at s)
+  pub lf_hit : Passed is_lf s at i → i < length s → get_or s i 0 ≡ LF → Some i ≡ first_from is_lf at (drop at s)
   lf_hit a h t = rw (add-zero i, add-zero at) at (passed_hit is_lf s at i 0 a h (eq-eqb _ _ t))
 
-  pub lf_over : Passed is_lf s at i → length s ≤ i → Nothing ≡ first_from is_lf at (drop at s)
+  pub lf_over : Passed is_lf s at i → length s ≤ i → None ≡ first_from is_lf at (drop at s)
   lf_over a h = rw add-zero at (passed_none is_lf s at i 0 a h)
 
 -- the line, from where its LF was found
-module _ (s : Bytes) (at : ℕ) (v : Found) where
-  pub lf_below : (k : ℕ) → v ≡ first_from is_lf at (drop at s) → v ≡ At k → k < length s
+module _ (s : Bytes) (at : ℕ) (v : Option ℕ) where
+  pub lf_below : (k : ℕ) → v ≡ first_from is_lf at (drop at s) → v ≡ Some k → k < length s
   lf_below k e f =
       let w = first_within is_lf at k (drop at s) (sym e ∙ f) in
       omega (arith, length-drop at s)
 
-  pub line_hit : (k : ℕ) (r : LineAt) → v ≡ first_from is_lf at (drop at s) → v ≡ At k → r ≡ line_to s at (At k) → r ≡ line_at s at
+  pub line_hit : (k : ℕ) (r : LineAt) → v ≡ first_from is_lf at (drop at s) → v ≡ Some k → r ≡ line_to s at (Some k) → r ≡ line_at s at
   unfolding line_at
   line_hit k r e f h = h ∙ ap (line_to s at) (sym f ∙ e)
 
-  pub line_none : v ≡ first_from is_lf at (drop at s) → v ≡ Nothing → LineAt.Unfinished ≡ line_at s at
+  pub line_none : v ≡ first_from is_lf at (drop at s) → v ≡ None → LineAt.Unfinished ≡ line_at s at
   unfolding line_at line_to
   line_none e f = ap (line_to s at) (sym f ∙ e)
 
@@ -89,11 +81,11 @@ module _ (l : Line) (k : ℕ) where
   pub bad_next : (t : Bool) → Passed is_bad l 0 k → k < length l → t ≡ is_bad (get_or l k 0) → t ≡ false → Passed is_bad l 0 (k + 1)
   bad_next t a h e f = passed_next is_bad l 0 k a h (sym e ∙ f)
 
-  pub bad_hit : (t : Bool) → Passed is_bad l 0 k → k < length l → t ≡ is_bad (get_or l k 0) → t ≡ true → At (k + 1) ≡ bad_column l
+  pub bad_hit : (t : Bool) → Passed is_bad l 0 k → k < length l → t ≡ is_bad (get_or l k 0) → t ≡ true → Some (k + 1) ≡ bad_column l
   unfolding bad_column
   bad_hit t a h e f = passed_hit is_bad l 0 k 1 a h (sym e ∙ f)
 
-  pub bad_over : Passed is_bad l 0 k → length l ≤ k → Nothing ≡ bad_column l
+  pub bad_over : Passed is_bad l 0 k → length l ≤ k → None ≡ bad_column l
   unfolding bad_column
   bad_over a h = passed_none is_bad l 0 k 1 a h
 
@@ -102,7 +94,7 @@ module _ (l : Line) (i k : ℕ) (one : 1 ≤ i) where
   from : i - 1 + 1 ≡ i
   from = omega arith
 
-  pub ink_hit : Passed is_ink l (i - 1) k → k < length l → (get_or l k 0 ≡ byte " " → ⊥) → At (k + 1) ≡ ink_column l i
+  pub ink_hit : Passed is_ink l (i - 1) k → k < length l → (get_or l k 0 ≡ byte " " → ⊥) → Some (k + 1) ≡ ink_column l i
   unfolding ink_column
   ink_hit a h t =
       let e : is_ink (get_or l k 0) ≡ true = rw (ne_eqb _ _ t) in
@@ -113,26 +105,24 @@ module _ (l : Line) (i k : ℕ) (one : 1 ≤ i) where
       let e : is_ink (get_or l k 0) ≡ false = rw (eq-eqb _ _ t) in
       passed_next is_ink l (i - 1) k a h e
 
-  pub ink_over : Passed is_ink l (i - 1) k → length l ≤ k → Nothing ≡ ink_column l i
+  pub ink_over : Passed is_ink l (i - 1) k → length l ≤ k → None ≡ ink_column l i
   unfolding ink_column
   ink_over a h = rw from at (passed_none is_ink l (i - 1) k 1 a h)
 
 -- a blank line has no ink
-pub blank_none : (l : Line) (v : Found) → v ≡ ink_column l 1 → v ≡ Nothing → true ≡ is_blank l
+pub blank_none : (l : Line) (v : Option ℕ) → v ≡ ink_column l 1 → v ≡ None → true ≡ is_blank l
 blank_none l v e n = sym ((blank_is l).1 ((ink_none l 1).0 (sym e ∙ n)))
 
-blank_by : (l : Line) (k : ℕ) (t : Bool) → is_blank l ≡ t → ink_column l 1 ≡ At k → false ≡ t
+blank_by : (l : Line) (k : ℕ) (t : Bool) → is_blank l ≡ t → ink_column l 1 ≡ Some k → false ≡ t
 blank_by l k true b e =
-    let n : ink_column l 1 ≡ Nothing = (ink_none l 1).1 ((blank_is l).0 b) in
+    let n : ink_column l 1 ≡ None = (ink_none l 1).1 ((blank_is l).0 b) in
     absurd (let z : ◌≡◌ {A = ℕ} 0 1 = cc in omega arith)
 blank_by l k false b e = refl
 
-pub blank_ink : (l : Line) (v : Found) (k : ℕ) → v ≡ ink_column l 1 → v ≡ At k → false ≡ is_blank l
+pub blank_ink : (l : Line) (v : Option ℕ) (k : ℕ) → v ≡ ink_column l 1 → v ≡ Some k → false ≡ is_blank l
 blank_ink l v k e n = blank_by l k (is_blank l) refl (sym e ∙ n)
 
 pub ruleset blank_laws = (blank_none, blank_ink)
-
-pub ruleset block_laws = (block_start, block_next, block_over)
 
 pub ruleset lf_laws = (passed_start, passed_next, lf_hit, lf_over, eq-eqb, ne_eqb)
 

@@ -1,9 +1,10 @@
 -- Laws on columns that are compared with a text one by one, and on one column.
-use Prim.Native.Nat.{ℕ, zero, suc, ◌+◌, ◌-◌, ◌≤◌, ◌<◌}
-use native.Mathlib.Nat.{not-suc-le-zero, le_of_suc-le-suc, add-zero}
+use Prim.Native.Nat.{ℕ, suc, ◌+◌, ◌-◌, ◌≤◌, ◌<◌}
+use native.Mathlib.Nat.{add-zero, add-suc, suc-add}
 use native.Mathlib.Numerals.{add-one}
 use native.Mathlib.Omega.{arith}
-use mathlib.Core.Path.{◌≡◌, refl, sym, ◌∙◌}
+use mathlib.Core.Path.{◌≡◌, refl, sym, ap, ◌∙◌}
+use mir.Val.{bool_byte}
 use mathlib.Core.Bool.{Bool, true, false}
 use mathlib.Core.List.{[], ◌∷◌}
 use lib.ListN.{length, get_or, drop, drop_of_length-le, get_or-eq_default}
@@ -49,6 +50,15 @@ module _ (l : Line) (i : ℕ) (text : Bytes) where
   text_over k a h =
       let e : length text - k ≡ 0 = omega arith in
       sym (a ∙ rw (e, drop_of_length-le text h))
+
+-- a text whose every byte stands in its column
+pub text_all : (l : Line) (i : ℕ) (text : Bytes) → ((k : ℕ) → k < length text → column l (i + k) ≡ get_or text k 0) → has_text l i text ≡ true
+unfolding has_text same_bytes columns_for
+text_all l i [] f = refl
+text_all l i (t ∷ text) f =
+    let e : column l i ≡ t = ap (column l) (sym (add-zero i)) ∙ f 0 (omega arith) in
+    let others : (k : ℕ) → k < length text → column l (suc i + k) ≡ get_or text k 0 = λ k h. ap (column l) (suc-add i k ∙ sym (add-suc i k)) ∙ f (suc k) (omega arith) in
+    rw (eq-eqb _ _ e, text_all l (suc i) text others)
 
 pub ruleset column_laws = (column_within, column_over)
 

@@ -1,5 +1,5 @@
 -- Searches and tests say what the rules say; and laws on columns.
-use Rattle.std.specs.Prelude.{ℕ, zero, suc, ◌+◌, ◌-◌, ◌≤◌, ◌<◌, ◌≡◌, refl, ◌↔◌, [], ◌∷◌, ◌++◌, Bool, true, false, ◌&&◌, ◌||◌, eqb, ltb, length, get_or, take, drop}
+use Rattle.std.specs.Prelude.{Some, None, ℕ, zero, suc, ◌+◌, ◌-◌, ◌≤◌, ◌<◌, ◌≡◌, refl, ◌↔◌, [], ◌∷◌, ◌++◌, Bool, true, false, ◌&&◌, ◌||◌, eqb, ltb, length, get_or, take, drop}
 use Rattle.std.proofs.Common.{not-suc-le-zero, le_of_suc-le-suc, add-zero, zero-add, add-suc, suc-add, arith, sym, ap, ap₂, ◌∙◌, subst, length-drop, drop_of_length-le, get_or-append-add, get_or-drop, eq-eqb, eqb-true, ltb-false, le-ltb}
 use Rattle.std.proofs.Math.Bool.{and-eq-true_iff}
 use Rattle.std.proofs.Math.ListN.{get_or-eq_default, get_or-append}
@@ -10,7 +10,6 @@ use Rattle.text.specs.Columns.{column, columns_for, columns, spaces, Space, Blan
 use Rattle.text.specs.Laws.{or_false}
 use Rattle.text.specs.Find.{is_bad, is_ink, bad_column, ink_column, is_blank, same_bytes, has_text}
 use Rattle.text.specs.First.{each_as, first_within, first_nothing, nothing_first}
-use Rattle.text.specs.declared.Found.{Found}
 
 -- ---- tests on one byte
 
@@ -28,11 +27,11 @@ space_no_ink b e = rw (eq-eqb b (byte " ") e)
 
 -- ---- searches
 
-pub bad_none : (l : Line) → (bad_column l ≡ Found.Nothing) ↔ Each Allowed l
+pub bad_none : (l : Line) → (bad_column l ≡ None) ↔ Each Allowed l
 unfolding bad_column
 bad_none l = (λ h. each_as l good_byte (first_nothing is_bad 1 l h), λ a. nothing_first is_bad 1 l (each_as l byte_good a))
 
-pub ink_none : (l : Line) (i : ℕ) → (ink_column l i ≡ Found.Nothing) ↔ SpacesFrom l i
+pub ink_none : (l : Line) (i : ℕ) → (ink_column l i ≡ None) ↔ SpacesFrom l i
 unfolding ink_column
 ink_none l i = (λ h. each_as (drop (i - 1) l) no_ink (first_nothing is_ink i (drop (i - 1) l) h), λ a. nothing_first is_ink i (drop (i - 1) l) (each_as (drop (i - 1) l) space_no_ink a))
 
@@ -68,11 +67,11 @@ has_text_is l i text = same_bytes_lem (columns_for l i (length text)) text
 
 -- ---- where a search finds something
 
-pub bad_within : (l : Line) (c : ℕ) → bad_column l ≡ Found.At c → (1 ≤ c) × (c ≤ length l)
+pub bad_within : (l : Line) (c : ℕ) → bad_column l ≡ Some c → (1 ≤ c) × (c ≤ length l)
 unfolding bad_column
 bad_within l c h = let w = first_within is_bad 1 c l h in omega arith
 
-pub ink_within : (l : Line) (i c : ℕ) → ink_column l i ≡ Found.At c → (i ≤ c) × (c ≤ i + length l)
+pub ink_within : (l : Line) (i c : ℕ) → ink_column l i ≡ Some c → (i ≤ c) × (c ≤ i + length l)
 unfolding ink_column
 ink_within l i c h = let w = first_within is_ink i c (drop (i - 1) l) h in omega (arith, length-drop (i - 1) l)
 

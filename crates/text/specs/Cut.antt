@@ -1,5 +1,5 @@
 -- A text cut into its lines: the reading that `Text` describes, computed, and the same by positions in the text.
-use Rattle.std.specs.Prelude.{ℕ, suc, ◌+◌, ◌-◌, ◌≤◌, ◌<◌, ◌≡◌, refl, ◌≢◌, List, [], ◌∷◌, ◌++◌, map, Bool, true, false, cond, ◌&&◌, eqb, ltb, length, get_or, take, drop}
+use Rattle.std.specs.Prelude.{Option, Some, None, ℕ, suc, ◌+◌, ◌-◌, ◌≤◌, ◌<◌, ◌≡◌, refl, ◌≢◌, List, [], ◌∷◌, ◌++◌, map, Bool, true, false, cond, ◌&&◌, eqb, ltb, length, get_or, take, drop}
 use Rattle.std.proofs.Common.{arith, sym, ap, ◌∙◌, length-drop, length-append, take-suc, get_or-drop, drop-drop, ne_eqb, eqb-true, ltb-true, ltb-false}
 use Rattle.std.proofs.Math.Bool.{and-eq-true_iff}
 use Rattle.std.proofs.Math.Seq.{split_at}
@@ -7,8 +7,6 @@ use Rattle.std.proofs.lemmas.Bool.{eqb-false}
 use Rattle.text.specs.Text.{Bytes, Line, LF, CR, Each, Without, Ended, Lines}
 use Rattle.text.specs.Find.{first_from, is_lf, line_to, line_at}
 use Rattle.text.specs.First.{each_as, first_within, first_passes, first_before, first_nothing}
-use Rattle.text.specs.declared.Found.{Found}
-use Rattle.text.specs.declared.Found.TheVariants.{At, Nothing}
 use Rattle.text.specs.declared.LineAt.{LineAt}
 
 pub record Cut : Type 0 where
@@ -152,14 +150,14 @@ few_lines (Lines.line {bs = bs} {more = more} e f h p) = omega (arith, ap length
 
 -- a line that starts at `at`, has its LF at k, ends before e, and is followed at n
 record Ends (s : Bytes) (at k e n : ℕ) : Type 0 where
-  found : first_from is_lf at (drop at s) ≡ At k
+  found : first_from is_lf at (drop at s) ≡ Some k
   end : cond (ltb at k && eqb (get_or s (k - 1) 0) CR) (k - 1) k ≡ e
   next : k + 1 ≡ n
 
-ends_by : (s : Bytes) (at e n : ℕ) (f : Found) → first_from is_lf at (drop at s) ≡ f → line_to s at f ≡ LineAt.Line e n → (k : ℕ) × Ends s at k e n
+ends_by : (s : Bytes) (at e n : ℕ) (f : Option ℕ) → first_from is_lf at (drop at s) ≡ f → line_to s at f ≡ LineAt.Line e n → (k : ℕ) × Ends s at k e n
 unfolding line_to
-ends_by s at e n (At k) found h = (k, record { found = found; end = cc; next = cc })
-ends_by s at e n Nothing found h = absurd (let z : ◌≡◌ {A = ℕ} 0 1 = cc in omega arith)
+ends_by s at e n (Some k) found h = (k, record { found = found; end = cc; next = cc })
+ends_by s at e n None found h = absurd (let z : ◌≡◌ {A = ℕ} 0 1 = cc in omega arith)
 
 ends : (s : Bytes) (at e n : ℕ) → line_at s at ≡ LineAt.Line e n → (k : ℕ) × Ends s at k e n
 unfolding line_at
@@ -239,10 +237,10 @@ line_cut s at e n line =
     ap cut (apart s at k w.0 w.1 (lf_is h)) ∙ cut_line before (drop (k + 1) s) (no_lf h) in
     c ∙ rw (l, h.next)
 
-rest_by : (s : Bytes) (at : ℕ) (f : Found) → first_from is_lf at (drop at s) ≡ f → line_to s at f ≡ LineAt.Unfinished → Without LF (drop at s)
+rest_by : (s : Bytes) (at : ℕ) (f : Option ℕ) → first_from is_lf at (drop at s) ≡ f → line_to s at f ≡ LineAt.Unfinished → Without LF (drop at s)
 unfolding line_to
-rest_by s at (At k) found h = absurd (let z : ◌≡◌ {A = ℕ} 0 1 = cc in omega arith)
-rest_by s at Nothing found h = each_as (drop at s) (λ b. eqb-false b LF) (first_nothing is_lf at (drop at s) found)
+rest_by s at (Some k) found h = absurd (let z : ◌≡◌ {A = ℕ} 0 1 = cc in omega arith)
+rest_by s at None found h = each_as (drop at s) (λ b. eqb-false b LF) (first_nothing is_lf at (drop at s) found)
 
 pub rest_clean : (s : Bytes) (at : ℕ) → line_at s at ≡ LineAt.Unfinished → Without LF (drop at s)
 unfolding line_at

@@ -1,17 +1,10 @@
 // Lines of a text and columns of a line.
 #![tactic(auto)]
 
-ghost use Rattle.std.specs.Prelude.{◌≡◌, true, ◌+◌, ◌≤◌, ◌<◌, length, drop};
+ghost use Rattle.std.specs.Prelude.{◌≡◌, ℕ, true, false, ◌+◌, ◌≤◌, ◌<◌, length, drop, MatchBool};
 ghost use Rattle.text.specs.Columns.{column};
 ghost use Rattle.text.specs.Find.{first_from, is_lf, is_bad, bad_column, ink_column, line_to, line_at, is_blank, has_text};
 ghost use Rattle.text.specs.Search.{Passed};
-
-// A position or a column that a search finds.
-#[derive(Drop)]
-pub enum Found {
-    At(usize),
-    Nothing,
-}
 
 // The line at a position of a text: its bytes end before `end`, and the next line starts at `next`.
 #[derive(Drop)]
@@ -37,74 +30,68 @@ pub fn inner_column(line: &[u8], i: usize) -> u8
     line[i - 1]
 }
 
-// Not 0 where one of the sixteen bytes from `at` on is an LF. A block is never left early: so it compiles to one vector test.
-fn lf_in_block(s: &[u8], at: usize) -> usize
-    requires { at + 16 ≤ length s.now }
-    ensures { result ≡ 0 → Passed is_lf s.now at (at + 16) }
+// Whether a number below n passes the test. It asks all of them, so that the test of a block of bytes compiles to a few
+// vector tests.
+pub fn any_below<P: Fn(usize) -> bool>(n: usize, test: P) -> bool
+    requires { (k : ℕ) → k < n → P.pre test k }
+    ensures { MatchBool result ((k : ℕ) × (k < n) × P.post test k true) ((k : ℕ) → k < n → P.post test k false) }
 {
-    let mut w: usize = 0;
-    let mut k: usize = 0;
-    while k < 16 {
-        if s[at + k] == b'\n' {
-            w = 1;
-        }
-        k += 1;
+    let mut any = false;
+    for k in 0..n {
+        any |= test(k);
     }
-    w
+    any
 }
 
 // The first LF of the sixteen bytes from `at` on, or the position after them.
+#[tactic(auto, using(crate::proofs::Passing::lf_laws))]
 fn lf_of_block(s: &[u8], at: usize) -> usize
     requires { at + 16 ≤ length s.now }
     ensures { Passed is_lf s.now at result }
 {
-    let mut k: usize = 0;
-    while k < 16 {
-        let b = s[at + k];
-        if b == b'\n' {
+    for k in 0..16 {
+        if s[at + k] == b'\n' {
             return at + k;
         }
-        k += 1;
     }
     at + 16
 }
 
 // A position from `at` on before which there is no LF: whole blocks without one are passed.
+#[tactic(auto, using(crate::proofs::Passing::passed_start))]
 fn near_lf(s: &[u8], at: usize) -> usize
     requires { at ≤ length s.now }
     ensures { Passed is_lf s.now at result }
 {
-    let mut i = at;
-    while s.len() - i >= 16 {
-        if lf_in_block(s, i) != 0 {
-            return lf_of_block(s, i);
+    let blocks = (s.len() - at) / 16;
+    for b in 0..blocks {
+        if any_below(16, |k| s[at + 16 * b + k] == b'\n') {
+            return lf_of_block(s, at + 16 * b);
         }
-        i += 16;
     }
-    i
+    at + 16 * blocks
 }
 
 // The first LF from `at` on.
-fn find_lf(s: &[u8], at: usize) -> Found
+#[tactic(auto, using(crate::proofs::Passing::lf_laws))]
+fn find_lf(s: &[u8], at: usize) -> Option<usize>
     ensures { result ≡ first_from is_lf at (drop at s.now) }
 {
     if s.len() <= at {
-        return Found::Nothing;
+        return None;
     }
-    let mut i = near_lf(s, at);
-    while i < s.len() {
+    for i in near_lf(s, at)..s.len() {
         if s[i] == b'\n' {
-            return Found::At(i);
+            return Some(i);
         }
-        i += 1;
     }
-    Found::Nothing
+    None
 }
 
 // The line from `at` to its LF at k.
 fn line_to(s: &[u8], at: usize, k: usize) -> LineAt
     requires { k < length s.now }
-    ensures { result ≡ line_to s.now at (Found.At k) }
+    ensures { result ≡ line_to s.now at (Some k) }
 {
     if at < k {
         if s[k - 1] == b'\r' {
@@ -131,8 +118,8 @@ pub fn line_at(s: &[u8], at: usize) -> LineAt
     ensures { result ≡ line_at s.now at }
 {
     match find_lf(s, at) {
-        Found::At(k) => line_to(s, at, k),
-        Found::Nothing => LineAt::Unfinished,
+        Some(k) => line_to(s, at, k),
+        None => LineAt::Unfinished,
     }
 }
 
@@ -146,23 +133,16 @@ fn is_bad(b: u8) -> bool
     126 < b
 }
 
-// Not 0 where one of the sixteen bytes from `at` on is not allowed.
-fn bad_in_block(line: &[u8], at: usize) -> usize
+// Whether one of the sixteen bytes from `at` on is not allowed.
+fn bad_in_block(line: &[u8], at: usize) -> bool
     requires { at + 16 ≤ length line.now }
-    ensures { result ≡ 0 → Passed is_bad line.now at (at + 16) }
+    ensures { result ≡ false → Passed is_bad line.now at (at + 16) }
 {
-    let mut w: usize = 0;
-    let mut k: usize = 0;
-    while k < 16 {
-        if is_bad(line[at + k]) {
-            w = 1;
-        }
-        k += 1;
-    }
-    w
+    any_below(16, |k| is_bad(line[at + k]))
 }
 
 // A position from i on, near the end of the line, before which all bytes are allowed. The last sixteen are asked at once, some of them again.
+#[tactic(auto, using(crate::proofs::Passing::passed_start))]
 fn near_end(line: &[u8], i: usize) -> usize
     requires { (i ≤ length line.now) × (length line.now ≤ i + 16) }
     ensures { Passed is_bad line.now i result }
@@ -170,53 +150,51 @@ fn near_end(line: &[u8], i: usize) -> usize
     if line.len() < 16 {
         return i;
     }
-    if bad_in_block(line, line.len() - 16) != 0 {
+    if bad_in_block(line, line.len() - 16) {
         return i;
     }
     line.len()
 }
 
 // A position before which all bytes are allowed: whole blocks of allowed bytes are passed.
+#[tactic(auto, using(crate::proofs::Passing::passed_start))]
 fn near_bad(line: &[u8]) -> usize
     ensures { Passed is_bad line.now 0 result }
 {
-    let mut i: usize = 0;
-    while line.len() - i >= 16 {
-        if bad_in_block(line, i) != 0 {
-            return i;
+    let blocks = line.len() / 16;
+    for b in 0..blocks {
+        if bad_in_block(line, 16 * b) {
+            return 16 * b;
         }
-        i += 16;
     }
-    near_end(line, i)
+    near_end(line, 16 * blocks)
 }
 
 // The column of the first byte that is not allowed.
-pub fn bad_column(line: &[u8]) -> Found
+#[tactic(auto, using(crate::proofs::Passing::bad_laws))]
+pub fn bad_column(line: &[u8]) -> Option<usize>
     ensures { result ≡ bad_column line.now }
 {
-    let mut i = near_bad(line);
-    while i < line.len() {
+    for i in near_bad(line)..line.len() {
         if is_bad(line[i]) {
-            return Found::At(i + 1);
+            return Some(i + 1);
         }
-        i += 1;
     }
-    Found::Nothing
+    None
 }
 
 // The first column from column i on that is no space.
-pub fn ink_column(line: &[u8], i: usize) -> Found
+#[tactic(auto, using(crate::proofs::Passing::ink_laws))]
+pub fn ink_column(line: &[u8], i: usize) -> Option<usize>
     requires { 1 ≤ i }
     ensures { result ≡ ink_column line.now i }
 {
-    let mut k = i - 1;
-    while k < line.len() {
+    for k in i - 1..line.len() {
         if line[k] != b' ' {
-            return Found::At(k + 1);
+            return Some(k + 1);
         }
-        k += 1;
     }
-    Found::Nothing
+    None
 }
 
 // Whether the line is empty or spaces only.
@@ -224,38 +202,30 @@ pub fn is_blank(line: &[u8]) -> bool
     ensures { result ≡ is_blank line.now }
 {
     match ink_column(line, 1) {
-        Found::At(_) => false,
-        Found::Nothing => true,
+        Some(_) => false,
+        None => true,
     }
 }
 
 // Whether the columns from column i on are this text.
+#[tactic(auto, using(crate::proofs::Texts::text_laws))]
 pub fn has_text(line: &[u8], i: usize, text: &[u8]) -> bool
     requires { (1 ≤ i) × (i ≤ 1000) }
     ensures { result ≡ has_text line.now i text.now }
 {
-    let mut k: usize = 0;
-    while k < text.len() {
-        if column(line, i + k) != text[k] {
+    for (k, b) in text.iter().enumerate() {
+        if column(line, i + k) != *b {
             return false;
         }
-        k += 1;
     }
     true
 }
 
-// 0 only where the columns from column i on, which the line has, are this text. They are all compared, which compiles to a few vector tests.
-pub fn text_differs(line: &[u8], i: usize, text: &[u8]) -> usize
+// Whether the columns from column i on, which the line has, differ from this text. All are compared, which compiles to a
+// few vector tests.
+pub fn text_differs(line: &[u8], i: usize, text: &[u8]) -> bool
     requires { (1 ≤ i) × (i + length text.now ≤ length line.now + 1) }
-    ensures { result ≡ 0 → has_text line.now i text.now ≡ true }
+    ensures { result ≡ false → has_text line.now i text.now ≡ true }
 {
-    let mut w: usize = 0;
-    let mut k: usize = 0;
-    while k < text.len() {
-        if inner_column(line, i + k) != text[k] {
-            w = 1;
-        }
-        k += 1;
-    }
-    w
+    any_below(text.len(), |k| inner_column(line, i + k) != text[k])
 }

@@ -167,6 +167,7 @@ fn measure_file(s: &[u8], atoms: &mut [i32], bonds: &mut [i32], room: usize) -> 
 {
     let mut cursor = Cursor::new();
     let mut needed: usize = 0;
+    // The cursor jumps by records of any length: a `for` would need an iterator over them, with a proof of its own.
     while cursor.at < s.len() {
         let at = cursor.at;
         match measure_next(&s[at..], atoms, bonds, needed, room) {
@@ -287,6 +288,7 @@ fn write_file(s: &[u8], atoms: &mut [i32], bonds: &mut [i32], room: &mut [u8]) -
 {
     let mut cursor = Cursor::new();
     let mut to: usize = 0;
+    // The cursor jumps by records of any length: a `for` would need an iterator over them, with a proof of its own.
     while cursor.at < s.len() {
         let at = cursor.at;
         let wrote = write_next(&s[at..], atoms, bonds, room, to);

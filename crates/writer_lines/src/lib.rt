@@ -13,17 +13,16 @@ ghost use Rattle.rules.specs.Rows.{rows_of};
 ghost use Rattle.writer_lines.specs.Laid.{Field};
 ghost use Rattle.writer_lines.specs.Lines.{atom_line, bond_line, WritableAtoms, columns_from, code_text, position_text, are_zeros, is_plain, values_text, stereo_text};
 
-// These bytes.
+// These bytes, one by one: copy_from_slice costs up to 0.2 instructions a byte of what `records canon` reads.
+#[tactic(auto, using(crate::specs::LineParts::copying_laws))]
 pub fn put_bytes(room: &mut [u8], at: usize, src: &[u8]) -> usize
     requires { at + length src.now ≤ length room.old }
     ensures { Field room.old room.new at (length src.now) src.now result }
 {
-    let mut i = 0;
-    while i < src.len() {
+    for i in 0..src.len() {
         room[at + i] = src[i];
-        i += 1;
     }
-    at + i
+    at + src.len()
 }
 
 // Three columns for a number without negatives.
@@ -46,16 +45,15 @@ fn size_of(v: i32) -> u32
 }
 
 // Three columns for each of numbers i to e - 1 of a row.
+#[tactic(auto, using(crate::specs::LineParts::columns_laws))]
 fn put_columns(room: &mut [u8], at: usize, row: &[i32], i: usize, e: usize) -> usize
     requires { (i ≤ e) × ((e ≤ length row.now) × (at + 3 * (e - i) ≤ length room.old)) }
     ensures { Field room.old room.new at (3 * (e - i)) (columns_from row.now i (e - i)) result }
 {
-    let mut k = i;
     let mut a = at;
-    while k < e {
+    for k in i..e {
         let v = row[k];
         a = put_number(room, a, size_of(v));
-        k += 1;
     }
     a
 }
@@ -166,15 +164,14 @@ fn put_position(room: &mut [u8], at: usize, row: &[i32]) -> usize
 }
 
 // Whether numbers i to e - 1 of a row are zeros: all are looked at, for eight at once are cheaper than one after the other.
+#[tactic(auto, using(crate::specs::Zeros::zeros_laws))]
 fn are_zeros(row: &[i32], i: usize, e: usize) -> bool
     requires { (i ≤ e) × (e ≤ length row.now) }
     ensures { result ≡ are_zeros row.now i (e - i) }
 {
-    let mut k = i;
     let mut zeros = true;
-    while k < e {
+    for k in i..e {
         let v = row[k];
-        k += 1;
         if v != 0 {
             zeros = false;
         }
@@ -244,33 +241,31 @@ fn put_bond(room: &mut [u8], at: usize, row: &[i32]) -> usize
     put_stereo(room, a, row)
 }
 
+#[tactic(auto, using(crate::specs::Walks::laying_laws))]
 pub fn put_atoms(room: &mut [u8], at: usize, atoms: &[i32], n: usize) -> usize
     requires n_in_bounds { (16 * n ≤ length atoms.now) × (at + 70 * n ≤ length room.old) }
     requires writable_atoms { WritableAtoms n atoms.now }
     ensures { Field room.old room.new at (70 * n) (text (map atom_line (rows_of 16 n atoms.now))) result }
 {
-    let mut i = 0;
     let mut e = at;
-    while i < n {
+    for i in 0..n {
         let a = 16 * i;
         let b = a + 16;
         e = put_atom(room, e, &atoms[a..b]);
-        i += 1;
     }
     e
 }
 
+#[tactic(auto, using(crate::specs::Walks::laying_laws))]
 pub fn put_bonds(room: &mut [u8], at: usize, bonds: &[i32], m: usize) -> usize
     requires { (6 * m ≤ length bonds.now) × (at + 22 * m ≤ length room.old) }
     ensures { Field room.old room.new at (22 * m) (text (map bond_line (rows_of 6 m bonds.now))) result }
 {
-    let mut i = 0;
     let mut e = at;
-    while i < m {
+    for i in 0..m {
         let a = 6 * i;
         let b = a + 6;
         e = put_bond(room, e, &bonds[a..b]);
-        i += 1;
     }
     e
 }

@@ -37,29 +37,26 @@ fn one_entry(atoms: &[i32], i: usize, kind: usize) -> usize
 }
 
 // How many atoms have an entry.
+#[tactic(auto, using(crate::specs::Listing::counting_laws))]
 fn entry_count(atoms: &[i32], n: usize, kind: usize) -> usize
     requires { (16 * n ≤ length atoms.now) × (kind ≤ 2) }
     ensures { result ≡ length (entries_at kind n atoms.now 0) }
 {
     let mut k = 0;
-    let mut i = 0;
-    while i < n {
+    for i in 0..n {
         k += one_entry(atoms, i, kind);
-        i += 1;
     }
     k
 }
 
 // The first atom from i on that has an entry.
+#[tactic(auto, using(crate::specs::Listing::seeking_laws))]
 fn next_entry(atoms: &[i32], n: usize, kind: usize, i: usize) -> usize
     requires { (16 * n ≤ length atoms.now) × ((kind ≤ 2) × (1 ≤ length (entries_at kind n atoms.now i))) }
     ensures { Next kind n atoms.now i result }
 {
-    let mut j = i;
-    while j < n {
-        if is_zero(atoms, j, kind) {
-            j += 1;
-        } else {
+    for j in i..n {
+        if !is_zero(atoms, j, kind) {
             return j;
         }
     }
@@ -85,6 +82,7 @@ struct Entries {
 }
 
 // The next entries from atom i on, so many.
+#[tactic(auto, using(crate::specs::Listing::entering_laws))]
 fn put_entries(
     room: &mut [u8],
     at: usize,
@@ -100,12 +98,10 @@ fn put_entries(
 {
     let mut j = i;
     let mut e = at;
-    let mut left = count;
-    while 0 < left {
+    for _ in 0..count {
         let a = next_entry(atoms, n, kind, j);
         e = put_entry(room, e, atoms, a, kind);
         j = a + 1;
-        left -= 1;
     }
     Entries { atom: j, at: e }
 }
@@ -171,6 +167,7 @@ fn put_properties(room: &mut [u8], at: usize, atoms: &[i32], n: usize, kind: usi
     let mut left = entry_count(atoms, n, kind);
     let mut i = 0;
     let mut e = at;
+    // A line takes up to eight: a `for` over lines would have to make out again what is left and where to go on.
     while 0 < left {
         let k = at_most_eight(left);
         let p = put_property(room, e, atoms, n, kind, i, k);

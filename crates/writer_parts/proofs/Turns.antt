@@ -1,4 +1,5 @@
 -- Laws on one line of a part: what each of the code's answers says of its turn.
+use Rattle.std.specs.Prelude.{Result, Ok, Err, Option, Some, None}
 use Prim.Native.Nat.{ℕ, suc, ◌+◌, ◌-◌, ◌≤◌, ◌<◌}
 use native.Mathlib.Omega.{arith}
 use mathlib.Core.Path.{◌≡◌, ap}
@@ -8,15 +9,14 @@ use mir.Val.{Fits}
 use borrow.Author.Tests.{le-leb, lt-leb}
 use Rattle.text.specs.Text.{Line}
 use Rattle.text.specs.Find.{bad_column}
-use Rattle.text.specs.declared.Found.{Found}
 use Rattle.judge_line.specs.Got.{then, need}
 use Rattle.judge_line.specs.Field.{within}
 use Rattle.judge_line.specs.Judge.{first_header_of, item_of, value_of}
 use Rattle.line_text.specs.Answer.{header_got, item_got, item_in, value_got}
 use Rattle.line_text.specs.Within.{title_order, title_end}
-use Rattle.line_text.specs.declared.HeaderJudged.{HeaderJudged}
-use Rattle.line_text.specs.declared.ItemRead.{ItemRead}
-use Rattle.line_text.specs.declared.ValueRead.{ValueRead}
+use Rattle.judge_line.specs.declared.Refusal.{Refusal}
+use Rattle.line_text.specs.declared.ItemLine.{ItemLine}
+use Rattle.line_text.specs.declared.ValueKind.{ValueKind}
 use Rattle.writer_parts.specs.Lengths.{line_length, title_length, name_length}
 use Rattle.writer_parts.specs.Step.{line_as, longest, allowed_as, turn_as, turned, ends_as}
 use Rattle.writer_parts.specs.declared.Place.{Place}
@@ -25,53 +25,53 @@ use Rattle.writer_parts.specs.declared.PartJudged.{PartJudged}
 
 -- ---- the first header line
 
-module _ (l : Line) (x : HeaderJudged) (e : header_got l x ≡ first_header_of l) where
-  pub first_next : x ≡ HeaderJudged.Good → Turn.Next Place.Second (length l + 1) ≡ turned (line_as Place.First l)
+module _ (l : Line) (x : Result (Unit {0}) Refusal) (e : header_got l x ≡ first_header_of l) where
+  pub first_next : x ≡ Ok tt → Turn.Next Place.Second (length l + 1) ≡ turned (line_as Place.First l)
   unfolding line_as then
   first_next h = rw (← e, h) (ap (Turn.Next Place.Second) (line_length l))
 
-  pub first_bad : (e' column : ℕ) → x ≡ HeaderJudged.Bad e' column → Turn.Bad e' column ≡ turned (line_as Place.First l)
+  pub first_bad : (r : Refusal) → x ≡ Err r → Turn.Bad r.no r.column ≡ turned (line_as Place.First l)
   unfolding line_as then
-  first_bad e' column h = rw (← e, h)
+  first_bad r h = rw (← e, h)
 
 pub ruleset first_laws = (first_next, first_bad)
 
 -- ---- where a data header must stand
 
-module _ (l : Line) (x : ItemRead) (e : item_got l x ≡ item_of l) where
-  pub item_next : item_in l x → (from to : ℕ) → x ≡ ItemRead.Title from to → Turn.Next Place.Values (to - from + 6) ≡ turned (line_as Place.Items l)
+module _ (l : Line) (x : Result ItemLine Refusal) (e : item_got l x ≡ item_of l) where
+  pub item_next : item_in l x → (from to : ℕ) → x ≡ Ok (ItemLine.Title from to) → Turn.Next Place.Values (to - from + 6) ≡ turned (line_as Place.Items l)
   unfolding line_as then
   item_next w from to h =
       let n = name_length l from to (title_order l x from to w h) (title_end l x from to w h) in
       rw (← e, h) (ap (Turn.Next Place.Values) (omega (arith, n, title_length (take (to - from) (drop from l)))))
 
-  pub item_close : x ≡ ItemRead.Close → Turn.Bad 16 1 ≡ turned (line_as Place.Items l)
+  pub item_close : x ≡ Ok ItemLine.Close → Turn.Bad 16 1 ≡ turned (line_as Place.Items l)
   unfolding line_as then
   item_close h = rw (← e, h)
 
-  pub item_bad : (e' column : ℕ) → x ≡ ItemRead.Bad e' column → Turn.Bad e' column ≡ turned (line_as Place.Items l)
+  pub item_bad : (r : Refusal) → x ≡ Err r → Turn.Bad r.no r.column ≡ turned (line_as Place.Items l)
   unfolding line_as then
-  item_bad e' column h = rw (← e, h)
+  item_bad r h = rw (← e, h)
 
-pub title_fits : (l : Line) (x : ItemRead) (from to : ℕ) → item_in l x → x ≡ ItemRead.Title from to → length l ≤ 200 → Fits w64 (to - from + 6)
+pub title_fits : (l : Line) (x : Result ItemLine Refusal) (from to : ℕ) → item_in l x → x ≡ Ok (ItemLine.Title from to) → length l ≤ 200 → Fits w64 (to - from + 6)
 title_fits l x from to w h k = record { fits = omega (arith, title_end l x from to w h) }
 
 pub ruleset item_laws = (item_next, item_close, item_bad, title_order, title_fits)
 
 -- ---- where a value line or the blank line after the values must stand
 
-module _ (l : Line) (x : ValueRead) (e : value_got x ≡ value_of l) where
-  pub value_next : x ≡ ValueRead.Value → Turn.Next Place.Values (length l + 1) ≡ turned (line_as Place.Values l)
+module _ (l : Line) (x : Result ValueKind Refusal) (e : value_got x ≡ value_of l) where
+  pub value_next : x ≡ Ok ValueKind.Value → Turn.Next Place.Values (length l + 1) ≡ turned (line_as Place.Values l)
   unfolding line_as then
   value_next h = rw (← e, h) (ap (Turn.Next Place.Values) (line_length l))
 
-  pub value_blank : x ≡ ValueRead.Blank → Turn.Next Place.Items 1 ≡ turned (line_as Place.Values l)
+  pub value_blank : x ≡ Ok ValueKind.Blank → Turn.Next Place.Items 1 ≡ turned (line_as Place.Values l)
   unfolding line_as then
   value_blank h = rw (← e, h)
 
-  pub value_bad : (e' column : ℕ) → x ≡ ValueRead.Bad e' column → Turn.Bad e' column ≡ turned (line_as Place.Values l)
+  pub value_bad : (r : Refusal) → x ≡ Err r → Turn.Bad r.no r.column ≡ turned (line_as Place.Values l)
   unfolding line_as then
-  value_bad e' column h = rw (← e, h)
+  value_bad r h = rw (← e, h)
 
 pub ruleset value_laws = (value_next, value_blank, value_bad)
 
@@ -95,11 +95,11 @@ module _ (l : Line) (p : Place) where
 
   -- ---- its bytes, its length
 
-  pub bad_byte : (x : Found) (column : ℕ) → x ≡ bad_column l → x ≡ Found.At column → Turn.Bad 4 column ≡ turned (allowed_as p l)
+  pub bad_byte : (x : Option ℕ) (column : ℕ) → x ≡ bad_column l → x ≡ Some column → Turn.Bad 4 column ≡ turned (allowed_as p l)
   unfolding allowed_as
   bad_byte x column e h = rw (← e, h)
 
-  pub good_bytes : (x : Found) (r : Turn) → x ≡ bad_column l → x ≡ Found.Nothing → r ≡ turned (line_as p l) → r ≡ turned (allowed_as p l)
+  pub good_bytes : (x : Option ℕ) (r : Turn) → x ≡ bad_column l → x ≡ None → r ≡ turned (line_as p l) → r ≡ turned (allowed_as p l)
   unfolding allowed_as
   good_bytes x r e h k = rw (← e, h) k
 

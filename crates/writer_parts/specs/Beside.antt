@@ -1,6 +1,6 @@
 -- The code's turns, which keep the text and not the lines, beside the judge's: they find the canonical text of what the judge finds.
 use Prim.Native.Nat.{ℕ, suc}
-use Rattle.std.specs.Prelude.{◌≡◌, Bool, true, false, leb, length}
+use Rattle.std.specs.Prelude.{Option, Some, None, ◌≡◌, Bool, true, false, leb, length}
 use Rattle.std.proofs.Math.Path.{refl, ap}
 use Rattle.std.proofs.Common.{sym, ◌∙◌}
 use mathlib.Core.List.{List, [], ◌∷◌, ◌++◌, append_assoc}
@@ -8,7 +8,6 @@ use Rattle.text.specs.Text.{Bytes, Line}
 use Rattle.text.specs.Find.{bad_column}
 use Rattle.text.specs.Cut.{cut}
 use Rattle.text.specs.Written.{text, text_append}
-use Rattle.text.specs.declared.Found.{Found}
 use Rattle.rules.specs.Record.{Item}
 use Rattle.rules.specs.Write.{header_text}
 use Rattle.judge_line.specs.Got.{Got, got, bad, then, need}
@@ -61,9 +60,9 @@ within_then : {A B : Type 0} (k : ℕ) (l : Line) (x : Got A) (f : A → Got B) 
 unfolding within need then
 within_then {A = A} {B = B} k l x f = go (leb (length l) k) (bad_column l)
   where
-    go : (t : Bool) (found : Found) → then (need {A = A} t 3 (suc k) (none_found 4 found x)) f ≡ need {A = B} t 3 (suc k) (none_found 4 found (then x f))
-    go true (Found.At i) = refl
-    go true Found.Nothing = refl
+    go : (t : Bool) (found : Option ℕ) → then (need {A = A} t 3 (suc k) (none_found 4 found x)) f ≡ need {A = B} t 3 (suc k) (none_found 4 found (then x f))
+    go true (Some i) = refl
+    go true None = refl
     go false found = refl
 
 module _ {P : Type 0} (f : P → Standing) (k : ℕ) where

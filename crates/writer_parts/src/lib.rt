@@ -7,8 +7,9 @@ ghost use Rattle.judge_parts.specs.Written.{text_of, written_headers, written_it
 ghost use Rattle.writer_parts.specs.Step.{line_as, longest, turn_as, turned, allowed_as, Next, place_of, judged, ends_as, written_from};
 ghost use Rattle.writer_parts.specs.NeverRefused.{Taking};
 
-use line_text::{HeaderJudged, ItemRead, ValueRead};
-use text::{Found, LineAt};
+use judge_line::Refusal;
+use line_text::{ItemLine, ValueKind};
+use text::LineAt;
 
 // What a part is found to be: the length of its canonical text, or the first refusal.
 #[derive(Drop)]
@@ -55,11 +56,11 @@ fn first_turn(line: &[u8]) -> Turn
     ensures { result ≡ turned (line_as Place.First line.now) }
 {
     match line_text::first_header(line) {
-        HeaderJudged::Good => Turn::Next {
+        Ok(()) => Turn::Next {
             place: Place::Second,
             size: line.len() + 1,
         },
-        HeaderJudged::Bad { no, column } => Turn::Bad { no, column },
+        Err(Refusal { no, column }) => Turn::Bad { no, column },
     }
 }
 
@@ -69,12 +70,12 @@ fn item_turn(line: &[u8]) -> Turn
     ensures { result ≡ turned (line_as Place.Items line.now) }
 {
     match line_text::item_line(line) {
-        ItemRead::Title { from, to } => Turn::Next {
+        Ok(ItemLine::Title { from, to }) => Turn::Next {
             place: Place::Values,
             size: to - from + 6,
         },
-        ItemRead::Close => Turn::Bad { no: 16, column: 1 },
-        ItemRead::Bad { no, column } => Turn::Bad { no, column },
+        Ok(ItemLine::Close) => Turn::Bad { no: 16, column: 1 },
+        Err(Refusal { no, column }) => Turn::Bad { no, column },
     }
 }
 
@@ -84,15 +85,15 @@ fn value_turn(line: &[u8]) -> Turn
     ensures { result ≡ turned (line_as Place.Values line.now) }
 {
     match line_text::value_line(line) {
-        ValueRead::Value => Turn::Next {
+        Ok(ValueKind::Value) => Turn::Next {
             place: Place::Values,
             size: line.len() + 1,
         },
-        ValueRead::Blank => Turn::Next {
+        Ok(ValueKind::Blank) => Turn::Next {
             place: Place::Items,
             size: 1,
         },
-        ValueRead::Bad { no, column } => Turn::Bad { no, column },
+        Err(Refusal { no, column }) => Turn::Bad { no, column },
     }
 }
 
@@ -123,8 +124,8 @@ fn allowed_turn(place: Place, line: &[u8]) -> Turn
     ensures { result ≡ turned (allowed_as place line.now) }
 {
     match text::bad_column(line) {
-        Found::At(column) => Turn::Bad { no: 4, column },
-        Found::Nothing => good_turn(place, line),
+        Some(column) => Turn::Bad { no: 4, column },
+        None => good_turn(place, line),
     }
 }
 
@@ -175,6 +176,7 @@ fn judge_part(s: &[u8], start: Place) -> PartJudged
     let mut at: usize = 0;
     let mut line: usize = 1;
     let mut size: usize = 0;
+    // The place jumps by lines of any length: a `for` would need an iterator over them, with a proof of its own.
     while at < s.len() {
         let LineAt::Line { end, next } = text::line_at(s, at) else {
             return cut_short(line);
@@ -262,6 +264,7 @@ pub fn size_headers(s: &[u8]) -> usize
 {
     let mut at: usize = 0;
     let mut size: usize = 0;
+    // The place jumps by lines of any length: a `for` would need an iterator over them, with a proof of its own.
     while at < s.len() {
         let line = line_judged::whole_line(s, at);
         size += line.end - at + 1;
@@ -278,6 +281,7 @@ pub fn size_items(s: &[u8]) -> usize
     let mut inside = false;
     let mut at: usize = 0;
     let mut size: usize = 0;
+    // The place jumps by lines of any length: a `for` would need an iterator over them, with a proof of its own.
     while at < s.len() {
         let line = line_judged::whole_line(s, at);
         let end = line.end;

@@ -84,6 +84,7 @@ pub fn put_headers(s: &[u8], room: &mut [u8], at: usize) -> usize
 {
     let mut i: usize = 0;
     let mut e = at;
+    // The place jumps by lines of any length: a `for` would need an iterator over them, with a proof of its own.
     while i < s.len() {
         let line = line_judged::whole_line(s, i);
         let end = line.end;
@@ -101,6 +102,7 @@ pub fn put_items(s: &[u8], room: &mut [u8], at: usize) -> usize
     let mut inside = false;
     let mut i: usize = 0;
     let mut e = at;
+    // The place jumps by lines of any length: a `for` would need an iterator over them, with a proof of its own.
     while i < s.len() {
         let line = line_judged::whole_line(s, i);
         let end = line.end;

@@ -1,13 +1,13 @@
 -- One test after the other, as the code goes.
-use Prim.Native.Nat.{ℕ, ◌+◌, ◌≤◌, ◌<◌}
+use Prim.Native.Nat.{ℕ, ◌≤◌, ◌<◌}
 use native.Mathlib.Omega.{arith}
 use mathlib.Core.Path.{◌≡◌, refl, sym, ap, ◌∙◌}
-use mathlib.Core.Bool.{Bool, true, false, not, ◌&&◌}
-use mathlib.Core.List.{List, map}
-use native.Mathlib.Numerals.{add-one}
+use mathlib.Core.Bool.{Bool, true, false, cond, not, ◌&&◌, ◌||◌}
+use mathlib.Core.List.{List, [], ◌∷◌, map}
 use lib.Dec.{eqb}
-use lib.ListN.{length, get_or, drop}
-use lib.Seq.{drop-cons, drop-length}
+use Rattle.std.specs.List.{list_any}
+use Rattle.std.specs.Ordering.{int_eq}
+use Rattle.std.proofs.lemmas.Bool.Decides.{Decides-int_eq}
 use lib.IntN.{ℤ, pos, negsuc}
 use lib.Signed.{lt_z, le_z}
 use borrow.Author.Tests.{eqb-true, eqb-false, lt-leb, le-leb, ltb-true, ltb-false, not-true, not-false}
@@ -79,31 +79,23 @@ module _ (x y : ℤ) (f : SFits w32 x) (g : SFits w32 y) where
 
 -- ---- A number is sought in a list
 
-pub record Seeking (z : ℤ) (list : List ℤ) (i : ℕ) : Type 0 where
-  pub within : i ≤ length list
-  pub same : elem_signed z list ≡ elem_signed z (drop i list)
+sought : (z x : ℤ) → int_eq x z ≡ same_integer z x
+sought z x = go (int_eq x z) refl (same_integer z x) refl
+  where
+    go : (t : Bool) → int_eq x z ≡ t → (u : Bool) → same_integer z x ≡ u → t ≡ u
+    go true e true f = refl
+    go false e false f = refl
+    go true e false f = sym (ap (same_integer z) ((Decides-int_eq x z).0 e) ∙ integer_same z) ∙ f
+    go false e true f = sym e ∙ (Decides-int_eq x z).1 (sym (same_integer_lem z x f))
 
-module _ (z : ℤ) (list : List ℤ) where
-  pub seeking_start : Seeking z list 0
-  seeking_start = record { within = omega arith; same = refl }
-
-  module _ (i : ℕ) (w : Seeking z list i) where
-    pub seeking_next : i < length list → SFits w32 z → SFits w32 (get_or list i (pos 0)) → (of_z w32 z ≡ of_z w32 (get_or list i (pos 0)) → ⊥) → Seeking z list (i + 1)
-    unfolding elem_signed
-    seeking_next h f g k =
-        record { within = omega arith; same = w.same ∙ rw (drop-cons list i (pos 0) h, bits_apart z (get_or list i (pos 0)) f g k, add-one i) }
-
-    pub seeking_found : i < length list → SFits w32 z → SFits w32 (get_or list i (pos 0)) → of_z w32 z ≡ of_z w32 (get_or list i (pos 0)) → true ≡ elem_signed z list
-    unfolding elem_signed
-    seeking_found h f g k = rw (w.same, drop-cons list i (pos 0) h, bits_same z (get_or list i (pos 0)) f g k)
-
-    pub seeking_end : length list ≤ i → false ≡ elem_signed z list
-    unfolding elem_signed
-    seeking_end h =
-        let e : i ≡ length list = omega (arith, w.within) in
-        rw (w.same, e, drop-length list)
-
-pub ruleset seeking = (seeking_start, seeking_next, seeking_found, seeking_end)
+pub contained : (z : ℤ) (list : List ℤ) → list_any (λ x. int_eq x z) list ≡ elem_signed z list
+unfolding elem_signed
+contained z [] = refl
+contained z (x ∷ xs) = rw (sought z x, contained z xs) (either (same_integer z x) (elem_signed z xs))
+  where
+    either : (t u : Bool) → (t || u) ≡ cond t true u
+    either true u = refl
+    either false u = refl
 
 -- ---- The list that a bond's type names
 

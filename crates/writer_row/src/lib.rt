@@ -118,15 +118,7 @@ fn one_of(row: &[i32], k: usize, list: &[i32]) -> bool
     requires { k < length row.now }
     ensures { result ≡ elem_signed (get_or row.now k (pos 0)) list.now }
 {
-    let v = row[k];
-    let mut i = 0;
-    while i < list.len() {
-        if v == list[i] {
-            return true;
-        }
-        i += 1;
-    }
-    false
+    list.contains(&row[k])
 }
 
 fn stereo_holds(row: &[i32]) -> bool

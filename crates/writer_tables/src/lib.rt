@@ -28,16 +28,15 @@ fn atom_at(atoms: &[i32], i: u32, n: u32) -> bool
     writer_row::atom_holds(&atoms[at..end], n)
 }
 
+#[tactic(auto, using(crate::proofs::Loops::walking))]
 fn atoms_hold(atoms: &[i32], n: u32) -> bool
     requires { (16 * limit ≤ length atoms.now) × (n ≤ limit) }
     ensures { result ≡ atoms_hold n (rows_of 16 n atoms.now) }
 {
-    let mut atom = 0;
-    while atom < n {
+    for atom in 0..n {
         if !atom_at(atoms, atom, n) {
             return false;
         }
-        atom += 1;
     }
     true
 }
@@ -52,16 +51,15 @@ fn bond_at(bonds: &[i32], i: u32, n: u32) -> bool
     writer_row::bond_holds(&bonds[at..end], n)
 }
 
+#[tactic(auto, using(crate::proofs::Loops::walking))]
 fn bonds_hold(bonds: &[i32], n: u32, m: u32) -> bool
     requires { (6 * limit ≤ length bonds.now) × ((n ≤ limit) × (m ≤ limit)) }
     ensures { result ≡ bonds_hold n (rows_of 6 m bonds.now) }
 {
-    let mut bond = 0;
-    while bond < m {
+    for bond in 0..m {
         if !bond_at(bonds, bond, n) {
             return false;
         }
-        bond += 1;
     }
     true
 }
@@ -111,31 +109,26 @@ fn key_at(bonds: &[i32], i: usize) -> u32
 }
 
 // The first bond that joins the pair of an earlier one, with the first such. Earlier bonds are passed in blocks by their keys.
+#[tactic(auto, using(crate::proofs::Pairs::walking))]
 pub fn repeated_pair(bonds: &[i32], m: u32) -> Repeat
     requires { (6 * limit ≤ length bonds.now) × (m ≤ limit) }
     ensures { result ≡ first_repeat bonds.now m }
 {
     let count = m as usize;
     let mut keys = [0u32; KEYS];
-    let mut i = 0;
-    'walk: loop {
-        if count <= i {
-            break 'walk Repeat::Nothing;
-        }
+    for i in 0..count {
         let key = key_at(bonds, i);
-        let mut j = reader_pairs::near_key(&keys, i, key);
-        while j < i {
+        for j in reader_pairs::near_key(&keys, i, key)..i {
             if same_at(bonds, i, j) {
-                break 'walk Repeat::Pair {
+                return Repeat::Pair {
                     earlier: j + 1,
                     later: i + 1,
                 };
             }
-            j += 1;
         }
         keys[i] = key;
-        i += 1;
     }
+    Repeat::Nothing
 }
 
 // The number at k of atom i, counted from 0, is 0.
@@ -148,16 +141,15 @@ fn zero_at(atoms: &[i32], i: u32, k: usize) -> bool
 }
 
 // The number at k is 0 in every atom.
+#[tactic(auto, using(crate::proofs::Loops::walking))]
 fn all_zero(atoms: &[i32], n: u32, k: usize) -> bool
     requires { (16 * limit ≤ length atoms.now) × ((n ≤ limit) × (k < 16)) }
     ensures { result ≡ all_zero k (rows_of 16 n atoms.now) }
 {
-    let mut i = 0;
-    while i < n {
+    for i in 0..n {
         if !zero_at(atoms, i, k) {
             return false;
         }
-        i += 1;
     }
     true
 }

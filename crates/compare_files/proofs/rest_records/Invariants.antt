@@ -1,10 +1,6 @@
-use Prim.Native.Nat.{◌-◌}
 use Rattle.compare_rules.specs.Log.{log}
 use Rattle.compare_files.specs.Walking.{Resting}
 use Rattle.compare_files.proofs.rest_records.Given as goal
 
 abbrev pub invariant-loop-k : goal.invariant-loop-k
 invariant-loop-k l = Resting l.side l.from l.to (log l.initial.list l.initial.c) (log l.list l.c) l.k
-
-abbrev pub decreases-loop-k : goal.decreases-loop-k
-decreases-loop-k l = l.to - l.k

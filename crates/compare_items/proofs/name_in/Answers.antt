@@ -1,12 +1,12 @@
+use Rattle.std.proofs.Common.{rules, ap, ◌∙◌, Ok}
 use Rattle.compare_items.specs.Items.{name_laws}
-use borrow.Author.Rules.{rules}
 use Rattle.compare_items.proofs.name_in.Goals as goal
 
-pub returns-in-Title : goal.returns-in-Title
-returns-in-Title c = search (rules, name_laws)
+pub returns-in-Ok-Title : goal.returns-in-Ok-Title
+returns-in-Ok-Title c = search (rules, name_laws, c.in-Ok-Title.is ∙ ap Ok c.in-Ok-Title.field-0-is)
 
-pub returns-in-Close : goal.returns-in-Close
-returns-in-Close c = search (rules, name_laws)
+pub returns-in-Ok-Close : goal.returns-in-Ok-Close
+returns-in-Ok-Close c = search (rules, name_laws, c.in-Ok-Close.is ∙ ap Ok c.in-Ok-Close.field-0-is)
 
-pub returns-in-Bad : goal.returns-in-Bad
-returns-in-Bad c = search (rules, name_laws)
+pub returns-in-Err : goal.returns-in-Err
+returns-in-Err c = search (rules, name_laws)

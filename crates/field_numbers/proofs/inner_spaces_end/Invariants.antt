@@ -1,10 +1,5 @@
-use Prim.Native.Nat.{◌-◌}
-use borrow.Author.Rules.{rules}
-use Rattle.field_numbers.proofs.Fields.{Passing, passing_laws}
+use Rattle.field_numbers.proofs.Fields.{Passing}
 use Rattle.field_numbers.proofs.inner_spaces_end.Given as goal
 
 abbrev pub invariant-loop-a : goal.invariant-loop-a
 invariant-loop-a l = Passing l.line l.i l.e l.a
-
-abbrev pub decreases-loop-a : goal.decreases-loop-a
-decreases-loop-a l = l.e - l.a

@@ -1,19 +1,9 @@
--- `field_numbers::sized_digits` meets its contract.
-use borrow.Author.Rules.{rules}
-use Rattle.field_numbers.proofs.Fields.{sign_laws}
+-- `field_numbers_read::sized_digits` meets its contract.
+use Rattle.field_numbers.proofs.Fields.{sign_case, sign_none}
 use Rattle.field_numbers_read.proofs.sized_digits.Goals as goal
 
-pub inner_digits-requires : goal.inner_digits-requires
-inner_digits-requires c = search (rules, sign_laws)
+pub returns-in_err-size : goal.returns-in_err-size
+returns-in_err-size c = rw c.from_residual.ensures (sign_none _ _ _ c.inner_digits.ensures c.in_err-size.was)
 
-pub enum_known-k : goal.enum_known-k
-enum_known-k c = search (rules, sign_laws)
-
-pub enum_told-1 : goal.enum_told-1
-enum_told-1 c = search (rules, sign_laws)
-
-pub returns-in-Is : goal.returns-in-Is
-returns-in-Is c = search (rules, sign_laws)
-
-pub returns-in-Malformed : goal.returns-in-Malformed
-returns-in-Malformed c = search (rules, sign_laws)
+pub returns : goal.returns
+returns c = sign_case _ _ _ _ c.inner_digits.ensures c.in_ok-size.was

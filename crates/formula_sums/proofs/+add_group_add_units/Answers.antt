@@ -1,3 +1,4 @@
+use Rattle.std.specs.Prelude.{Some}
 use Prim.Native.Nat.{ℕ, ◌+◌, ◌*◌}
 use mathlib.Core.Path.{ap, ◌∙◌}
 use borrow.Author.Rules.{rules}
@@ -34,7 +35,7 @@ add_group-overflow_add-e t c =
     let a = c.args.at in
     let w = c.requires.0 in
     let r = c.requires.1 in
-    let l = inner_within s d a w r c.if-depth-eq0.false c.units-u.ensures c.in-At.e c.in-At.is in
+    let l = inner_within s d a w r c.if-depth-eq0.false c.units-u.ensures c.in-Some.e c.in-Some.is in
     search (rules, l)
 
 pub add_group-count_value-c-requires : goal.add_group-count_value-c-requires
@@ -44,11 +45,11 @@ add_group-count_value-c-requires t c =
     let a = c.args.at in
     let w = c.requires.0 in
     let r = c.requires.1 in
-    inner_within s d a w r c.if-depth-eq0.false c.units-u.ensures c.in-At.e c.in-At.is
+    inner_within s d a w r c.if-depth-eq0.false c.units-u.ensures c.in-Some.e c.in-Some.is
 
 pub add_group-times_count-requires : goal.add_group-times_count-requires
 add_group-times_count-requires t c =
-    let l = value_le c.args.s.now (c.in-At.e + 1) in
+    let l = value_le c.args.s.now (c.in-Some.e + 1) in
     (c.requires.2, omega (arith, c.count_value-c.ensures))
 
 pub add_group-add_units-requires : goal.add_group-add_units-requires
@@ -70,8 +71,8 @@ add_group-returns t c =
     let w = c.requires.0 in
     let r = c.requires.1 in
     let m = c.args.times in
-    let e = c.in-At.e in
-    group_added s d a w r c.if-depth-eq0.false c.units-u.ensures e c.in-At.is m c.times_count.result (c.times_count.ensures ∙ ap (λ (x : ℕ). sat (m * x)) c.count_value-c.ensures) c.args.counts.now _ c.add_units.ensures
+    let e = c.in-Some.e in
+    group_added s d a w r c.if-depth-eq0.false c.units-u.ensures e c.in-Some.is m c.times_count.result (c.times_count.ensures ∙ ap (λ (x : ℕ). sat (m * x)) c.count_value-c.ensures) c.args.counts.now _ c.add_units.ensures
 
 pub add_units-returns-in_default : goal.add_units-returns-in_default
 add_units-returns-in_default t c =
@@ -100,12 +101,12 @@ add_units-add_units-requires t c =
     let w = c.requires.0 in
     let r = c.requires.1 in
     let l = open_within s d a w c.byte_at-b.ensures c.if-b-eq40.true in
-    let n = c.in-At.n in
-    let e = group_ends s d (a + 1) n (omega arith) c.group-g.ensures c.in-At.is in (
+    let n = c.in-Some.n in
+    let e = group_ends s d (a + 1) n (omega arith) c.group-g.ensures c.in-Some.is in (
       omega (arith, c.decreases),
       (
         e.1,
-        open_more s d a w r c.byte_at-b.ensures c.if-b-eq40.true c.group-g.ensures n c.in-At.is,
+        open_more s d a w r c.byte_at-b.ensures c.if-b-eq40.true c.group-g.ensures n c.in-Some.is,
         c.requires.2,
         below_unit c.args.times (group_of s d (a + 1)) c.args.counts.now _ c.requires.3 c.add_group.ensures,
       ),
@@ -166,12 +167,12 @@ add_units-add_units-requires-then-in_range t c =
     let w = c.requires.0 in
     let r = c.requires.1 in
     let l = capital_within s d a w c.byte_at-b.ensures c.if-b-eq40.false c.in_range.ensures c.if-in_range.true in
-    let n = c.in-At-y.n in
-    let e = symbol_ends s a n l c.symbol_at-y.ensures c.in-At-y.is in (
+    let n = c.in-Some-y.n in
+    let e = symbol_ends s a n l c.symbol_at-y.ensures c.in-Some-y.is in (
       omega (arith, c.decreases),
       (
         e.1,
-        symbol_more s d a w r c.byte_at-b.ensures c.if-b-eq40.false c.in_range.ensures c.if-in_range.true c.symbol_at-y.ensures n c.in-At-y.is,
+        symbol_more s d a w r c.byte_at-b.ensures c.if-b-eq40.false c.in_range.ensures c.if-in_range.true c.symbol_at-y.ensures n c.in-Some-y.is,
         c.requires.2,
         below_at c.args.counts.now _ c.place.result c.times_count.result c.requires.3 c.add_at.ensures,
       ),
@@ -184,9 +185,9 @@ add_units-returns-then-in_range t c =
     let a = c.args.at in
     let w = c.requires.0 in
     let r = c.requires.1 in
-    let n = c.in-At-y.n in
+    let n = c.in-Some-y.n in
     let m = c.args.times in
-    symbol_added s d a w r c.byte_at-b.ensures c.if-b-eq40.false c.in_range.ensures c.if-in_range.true c.symbol_at-y.ensures n c.in-At-y.is m c.args.counts.now _ _
+    symbol_added s d a w r c.byte_at-b.ensures c.if-b-eq40.false c.in_range.ensures c.if-in_range.true c.symbol_at-y.ensures n c.in-Some-y.is m c.args.counts.now _ _
     (symbol_set s a c.args.counts.now _ m c.place.result c.times_count.result c.symbol_count-c.result c.add_at.ensures c.place.ensures c.times_count.ensures c.symbol_count-c.ensures)
     c.add_units-then-in_range.ensures
 

@@ -1,27 +1,11 @@
-use borrow.Author.Rules.{rules}
-use Rattle.formula_sums.specs.Adds.{crowds}
+use Rattle.std.proofs.Common.{rules, arith, ltb, sym, ◌∙◌}
+use Rattle.std.proofs.lemmas.Iterator.{YieldsList-from_slice}
+use Rattle.std.proofs.lemmas.Iterator.Search.{any_from_yields_List}
+use borrow.Author.Tests.{tests}
+use Rattle.formula_sums.specs.Adds.{crowded_any}
 use Rattle.formula_sums.proofs.too_many.Goals as goal
 
-pub loop-i-init : goal.loop-i-init
-loop-i-init c = search (rules, crowds)
-
-pub offset_bounds-counts-i : goal.offset_bounds-counts-i
-offset_bounds-counts-i c = search (rules, crowds)
-
-pub bounds-counts-i : goal.bounds-counts-i
-bounds-counts-i c = search (rules, crowds)
-
-pub returns-then-counts-i-gt-MOST : goal.returns-then-counts-i-gt-MOST
-returns-then-counts-i-gt-MOST c = search (rules, crowds)
-
-pub overflow_add-i : goal.overflow_add-i
-overflow_add-i c = search (rules, crowds)
-
-pub loop-i-smaller : goal.loop-i-smaller
-loop-i-smaller c = search (rules, crowds)
-
-pub loop-i-preserved : goal.loop-i-preserved
-loop-i-preserved c = search (rules, crowds)
-
 pub returns : goal.returns
-returns c = search (rules, crowds)
+returns c =
+    any_from_yields_List (λ x. ltb 9999 x) _ _ c.any.result c.any.ensures.ran (YieldsList-from_slice _ c.iter.ensures.rest) (λ x b q k. search (rules, tests))
+    ∙ sym (crowded_any c.args.counts.now 1 118 (omega arith))

@@ -1,3 +1,4 @@
+use Rattle.std.specs.Prelude.{Some}
 use Prim.Native.Nat.{◌+◌}
 use borrow.Author.Rules.{rules}
 use native.Mathlib.Omega.{arith}
@@ -33,7 +34,7 @@ units-returns-in_default t c = search (rules, units_laws)
 pub units-units-requires : goal.units-units-requires
 units-units-requires t c =
     let h = open_within c.args.s.now c.args.depth c.args.at c.requires c.byte_at-b.ensures c.if-b-eq40.true in
-    let e = group_ends c.args.s.now c.args.depth (c.args.at + 1) c.in-At.n (omega arith) c.group-g.ensures c.in-At.is in
+    let e = group_ends c.args.s.now c.args.depth (c.args.at + 1) c.in-Some.n (omega arith) c.group-g.ensures c.in-Some.is in
     (omega (arith, c.decreases), e.1)
 
 pub units-returns-then-b-eq40 : goal.units-returns-then-b-eq40
@@ -48,7 +49,7 @@ units-returns-in_default-y t c = search (rules, units_laws)
 pub units-units-requires-then-in_range : goal.units-units-requires-then-in_range
 units-units-requires-then-in_range t c =
     let h = capital_within c.args.s.now c.args.depth c.args.at c.requires c.byte_at-b.ensures c.if-b-eq40.false c.in_range.ensures c.if-in_range.true in
-    let e = symbol_ends c.args.s.now c.args.at c.in-At-y.n h c.symbol_at-y.ensures c.in-At-y.is in
+    let e = symbol_ends c.args.s.now c.args.at c.in-Some-y.n h c.symbol_at-y.ensures c.in-Some-y.is in
     (omega (arith, c.decreases), e.1)
 
 pub units-returns-then-in_range : goal.units-returns-then-in_range

@@ -1,21 +1,20 @@
 -- `line_atom::any_position` meets its contract.
-use borrow.Author.Rules.{rules}
 use Rattle.line_fields.specs.Steps.{steps}
 use Rattle.line_atom.specs.Answer.{position_of}
 use Rattle.line_atom.proofs.any_position.Goals as goal
 
-pub returns-in-Bad : goal.returns-in-Bad
+pub returns-in_err-x : goal.returns-in_err-x
 unfolding position_of
-returns-in-Bad c = search steps depth 24 fits 20000
+returns-in_err-x c = search (steps, c.in_err-x.was) depth 24 fits 20000
 
-pub returns-in-Bad-coordinate_field : goal.returns-in-Bad-coordinate_field
+pub returns-in_err-y : goal.returns-in_err-y
 unfolding position_of
-returns-in-Bad-coordinate_field c = search steps depth 24 fits 20000
+returns-in_err-y c = search (steps, c.in_ok-x.was, c.in_err-y.was) depth 24 fits 20000
 
-pub returns-in-Is-coordinate_field-2 : goal.returns-in-Is-coordinate_field-2
+pub returns-in_err-z : goal.returns-in_err-z
 unfolding position_of
-returns-in-Is-coordinate_field-2 c = search steps depth 24 fits 20000
+returns-in_err-z c = search (steps, c.in_ok-x.was, c.in_ok-y.was, c.in_err-z.was) depth 24 fits 20000
 
-pub returns-in-Bad-coordinate_field-2 : goal.returns-in-Bad-coordinate_field-2
+pub returns : goal.returns
 unfolding position_of
-returns-in-Bad-coordinate_field-2 c = search steps depth 24 fits 20000
+returns c = search (steps, c.in_ok-x.was, c.in_ok-y.was, c.in_ok-z.was) depth 24 fits 20000

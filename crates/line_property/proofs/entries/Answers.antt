@@ -1,35 +1,16 @@
--- `line_property::entries` meets its contract.
-use borrow.Author.Rules.{rules}
-use Rattle.line_property.specs.Entering.{Entering, entering}
-use Rattle.line_property.specs.Answer.{kind_is}
+use Rattle.std.proofs.Common.{◌≡◌, ◌+◌, ◌*◌, ◌-◌, arith, rules}
+use Rattle.line_property.specs.Entering.{entering, entry_refused}
 use Rattle.line_property.proofs.entries.Goals as goal
 
-pub loop-left-init : goal.loop-left-init
-loop-left-init c = search (rules, entering)
+pub returns-in_err-entry : goal.returns-in_err-entry
+returns-in_err-entry c = record {
+  listed_after = entry_refused _ _ _ _ c.from_residual.ensures.1 (search (rules, entering, c.in_err-entry.was));
+  listed_len_unchanged = search (rules, entering);
+}
 
-pub entry-requires : goal.entry-requires
-entry-requires c = search (rules, entering)
-
-pub enum_told-1 : goal.enum_told-1
-enum_told-1 c = search (rules, entering)
-
-pub enum_known-no : goal.enum_known-no
-enum_known-no c = search (rules, entering)
-
-pub returns-in-Bad : goal.returns-in-Bad
-returns-in-Bad c = search (rules, entering)
-
-pub overflow_add-i : goal.overflow_add-i
-overflow_add-i c = search (rules, entering)
-
-pub overflow_sub-left : goal.overflow_sub-left
-overflow_sub-left c = search (rules, entering)
-
-pub loop-left-smaller : goal.loop-left-smaller
-loop-left-smaller c = search (rules, entering)
-
-pub loop-left-preserved : goal.loop-left-preserved
-loop-left-preserved c = search (rules, entering)
-
-pub returns : goal.returns
-returns c = search (rules, entering)
+pub loop-k-preserved : goal.loop-k-preserved
+loop-k-preserved c =
+    let k = c.loop-k.k in
+    let i : 10 + 8 * (k + 1) ≡ 10 + 8 * k + 8 = omega arith in
+    let left : c.args.count - (k + 1) ≡ c.args.count - k - 1 = omega arith in
+    rw (i, left) (search (rules, entering, c.in_ok-entry.was))

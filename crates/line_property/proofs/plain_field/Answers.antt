@@ -1,17 +1,17 @@
 -- `line_property::plain_field` meets its contract.
+use Rattle.std.proofs.Common.{rules}
 use Rattle.line_fields.specs.Steps.{steps}
 use Rattle.line_property.specs.Entering.{plain_fits}
 use Rattle.line_property.specs.Answer.{plain_at}
-use borrow.Author.Rules.{rules}
 use Rattle.line_property.proofs.plain_field.Goals as goal
 
+pub returns-in_err-k : goal.returns-in_err-k
+unfolding plain_at
+returns-in_err-k c = search (steps, c.in_err-k.was) depth 24 fits 20000
+
 pub overflow_add-result : goal.overflow_add-result
-overflow_add-result c = search (rules, plain_fits)
+overflow_add-result c = search (rules, plain_fits, c.in_ok-k.was)
 
-pub returns-in-Is : goal.returns-in-Is
+pub returns : goal.returns
 unfolding plain_at
-returns-in-Is c = search steps depth 24 fits 20000
-
-pub returns-in-Bad : goal.returns-in-Bad
-unfolding plain_at
-returns-in-Bad c = search steps depth 24 fits 20000
+returns c = search (steps, c.in_ok-k.was) depth 24 fits 20000

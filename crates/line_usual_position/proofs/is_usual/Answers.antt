@@ -9,8 +9,8 @@ use Rattle.line_usual_position.proofs.is_usual.Goals as goal
 pub returns-then-line-lt30 : goal.returns-then-line-lt30
 returns-then-line-lt30 c = false_true
 
-pub returns-then-outside-ne0 : goal.returns-then-outside-ne0
-returns-then-outside-ne0 c = false_true
+pub returns-then-outside : goal.returns-then-outside
+returns-then-outside c = false_true
 
 pub has_lead-requires : goal.has_lead-requires
 has_lead-requires c = (omega arith, omega arith, search rules, (lead_bound c.args.line.now (search rules) (c.outside.ensures (search rules))).0)

@@ -32,32 +32,26 @@ slice_bounds-judge_line-end c = search (rules, mending_laws)
 pub judge_line-requires : goal.judge_line-requires
 judge_line-requires c = search (rules, mending_laws)
 
-pub enum_known-j : goal.enum_known-j
-enum_known-j c = search (rules, mending_laws)
-
 pub keep_line-m-requires : goal.keep_line-m-requires
 keep_line-m-requires c = record {
   at_le_next = (piece_next _ _ _ c.piece_at-p.ensures, piece_within _ _ _ c.piece_at-p.ensures);
-  can_keep = keep_fits _ _ _ _ _ _ _ _ _ _ c.loop-m.invariant (search rules) _ c.piece_at-p.ensures _ c.deed_at.ensures c.in-Keep.is _ _ _ c.judge_line.ensures _ c.in-On.is;
+  can_keep = keep_fits _ _ _ _ _ _ _ _ _ _ c.loop-m.invariant (search rules) _ c.piece_at-p.ensures _ c.deed_at.ensures c.in-Keep.is _ _ _ c.judge_line.ensures _ c.in-Ok.is;
 }
 
-pub loop-m-smaller-in-On : goal.loop-m-smaller-in-On
-loop-m-smaller-in-On c = search (rules, mending_laws)
+pub loop-m-smaller-in-Ok : goal.loop-m-smaller-in-Ok
+loop-m-smaller-in-Ok c = search (rules, mending_laws)
 
-pub loop-m-preserved-in-On : goal.loop-m-preserved-in-On
-loop-m-preserved-in-On c = mending_kept _ _ _ _ _ _ _ _ _ _ c.loop-m.invariant (search rules) _ c.piece_at-p.ensures _ c.deed_at.ensures c.in-Keep.is _ _ _ c.judge_line.ensures _ c.in-On.is _ _ _ c.keep_line-m.ensures
+pub loop-m-preserved-in-Ok : goal.loop-m-preserved-in-Ok
+loop-m-preserved-in-Ok c = mending_kept _ _ _ _ _ _ _ _ _ _ c.loop-m.invariant (search rules) _ c.piece_at-p.ensures _ c.deed_at.ensures c.in-Keep.is _ _ _ c.judge_line.ensures _ c.in-Ok.is _ _ _ c.keep_line-m.ensures
 
-pub enum_known-no : goal.enum_known-no
-enum_known-no c = search (rules, mending_laws)
+pub shape_of-room-in-Err : goal.shape_of-room-in-Err
+shape_of-room-in-Err c = search (rules, mending_laws)
 
-pub shape_of-room-in-Refused : goal.shape_of-room-in-Refused
-shape_of-room-in-Refused c = search (rules, mending_laws)
+pub shape_of-list-in-Err : goal.shape_of-list-in-Err
+shape_of-list-in-Err c = search (rules, mending_laws)
 
-pub shape_of-list-in-Refused : goal.shape_of-list-in-Refused
-shape_of-list-in-Refused c = search (rules, mending_laws)
-
-pub returns-in-Refused : goal.returns-in-Refused
-returns-in-Refused c = search (rules, mending_laws)
+pub returns-in-Err : goal.returns-in-Err
+returns-in-Err c = search (rules, mending_laws)
 
 pub enum_told-in-Put : goal.enum_told-in-Put
 enum_told-in-Put c = search (rules, mending_laws)

@@ -1,11 +1,5 @@
-use Prim.Native.Nat.{◌-◌}
-use lib.ListN.{length}
-use Rattle.mend_lines.specs.Deeds.{scan_less}
-use borrow.Author.Rules.{rules}
+use Rattle.std.proofs.Common.{◌-◌, length}
 use Rattle.program_mend.proofs.is_blank.Given as goal
-
-abbrev pub invariant-loop-at : goal.invariant-loop-at
-invariant-loop-at l = Unit {0}
 
 abbrev pub decreases-loop-at : goal.decreases-loop-at
 decreases-loop-at l = length l.s - l.at

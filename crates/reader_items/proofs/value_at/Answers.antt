@@ -1,10 +1,13 @@
 -- `reader_items::value_at` meets its contract.
-use Rattle.reader_items.specs.Titles.{value_laws}
-use borrow.Author.Rules.{rules}
+use Rattle.std.proofs.Common.{rules, ap, ◌∙◌}
+use Rattle.judge_line.specs.Got.{is_err_of}
+use Rattle.line_text.specs.Answer.{value_got}
+use Rattle.reader_items.specs.Titles.{value_laws, line_no_value}
 use Rattle.reader_items.proofs.value_at.Goals as goal
 
-pub returns-in-Good : goal.returns-in-Good
-returns-in-Good c = search (rules, value_laws)
+pub returns-in_err-line_judged : goal.returns-in_err-line_judged
+returns-in_err-line_judged c =
+    ap value_got (is_err_of _ _ c.from_residual.ensures.1) ∙ line_no_value _ _ c.line_judged.ensures _ c.in_err-line_judged.was
 
-pub returns-in-Bad : goal.returns-in-Bad
-returns-in-Bad c = search (rules, value_laws)
+pub returns : goal.returns
+returns c = search (rules, value_laws, c.in_ok-line_judged.was)

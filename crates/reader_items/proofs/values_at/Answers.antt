@@ -1,5 +1,5 @@
 -- `reader_items::values_at` meets its contract.
-use borrow.Author.Rules.{rules}
+use Rattle.std.proofs.Common.{rules, ap, ◌∙◌, Ok}
 use Prim.Native.Nat.{◌-◌}
 use lib.ListN.{length}
 use Rattle.reader_items.specs.Running.{Running}
@@ -11,12 +11,6 @@ loop-end-init c = search (rules, running_laws)
 
 pub line_at-requires : goal.line_at-requires
 line_at-requires c = search (rules, running_laws)
-
-pub enum_known-end : goal.enum_known-end
-enum_known-end c = search (rules, running_laws)
-
-pub enum_told-1 : goal.enum_told-1
-enum_told-1 c = search (rules, running_laws)
 
 pub returns-in_default : goal.returns-in_default
 returns-in_default c = search (rules, running_laws)
@@ -33,9 +27,6 @@ slice_bounds-value_at-end c = search (rules, running_laws)
 pub value_at-requires : goal.value_at-requires
 value_at-requires c = search (rules, running_laws)
 
-pub enum_told-in-Value : goal.enum_told-in-Value
-enum_told-in-Value c = search (rules, running_laws)
-
 pub overflow_add-line : goal.overflow_add-line
 overflow_add-line c = search (rules, running_laws)
 
@@ -43,16 +34,10 @@ pub loop-end-smaller : goal.loop-end-smaller
 loop-end-smaller c = search (rules, running_laws)
 
 pub loop-end-preserved : goal.loop-end-preserved
-loop-end-preserved c = search (rules, running_laws)
+loop-end-preserved c = search (rules, running_laws, c.in-Ok-Value.is ∙ ap Ok c.in-Ok-Value.field-0-is)
 
-pub enum_told-in-Blank : goal.enum_told-in-Blank
-enum_told-in-Blank c = search (rules, running_laws)
+pub returns-in-Ok-Blank : goal.returns-in-Ok-Blank
+returns-in-Ok-Blank c = search (rules, running_laws, c.in-Ok-Blank.is ∙ ap Ok c.in-Ok-Blank.field-0-is)
 
-pub returns-in-Blank : goal.returns-in-Blank
-returns-in-Blank c = search (rules, running_laws)
-
-pub enum_known-no : goal.enum_known-no
-enum_known-no c = search (rules, running_laws)
-
-pub returns-in-Bad : goal.returns-in-Bad
-returns-in-Bad c = search (rules, running_laws)
+pub returns-in-Err : goal.returns-in-Err
+returns-in-Err c = search (rules, running_laws)

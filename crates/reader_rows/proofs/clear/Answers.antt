@@ -1,30 +1,13 @@
 -- `reader_rows::clear` meets its contract.
-use Rattle.reader_rows.specs.Says.{row_places}
-use Prim.Native.Nat.{◌-◌}
-use borrow.Author.Rules.{rules}
-use Rattle.reader_rows.proofs.Clearing.{Clearing, clearing_laws}
+use Rattle.std.proofs.Common.{ℕ, ◌≡◌, ◌∙◌, ap, List, ◌++◌, rules, drop, replicate, length-take-le}
+use Rattle.reader_rows.specs.Says.{row_places, emptied}
 use Rattle.reader_rows.proofs.clear.Goals as goal
 
-pub loop-i-init : goal.loop-i-init
-loop-i-init c = search (rules, clearing_laws)
-
-pub offset_bounds-rows-i : goal.offset_bounds-rows-i
-offset_bounds-rows-i c = search (rules, clearing_laws)
-
-pub bounds-rows-i : goal.bounds-rows-i
-bounds-rows-i c = search (rules, clearing_laws)
-
-pub overflow_add-i : goal.overflow_add-i
-overflow_add-i c = search (rules, clearing_laws)
-
-pub loop-i-smaller : goal.loop-i-smaller
-loop-i-smaller c = search (rules, clearing_laws)
-
-pub loop-i-preserved : goal.loop-i-preserved
-loop-i-preserved c = search (rules, clearing_laws)
-
-pub shape_of-rows : goal.shape_of-rows
-shape_of-rows c = search (rules, clearing_laws)
+emptied_by : (ws zs : List ℕ) → zs ≡ replicate row_places 0 → zs ++ drop row_places ws ≡ emptied ws
+unfolding emptied
+emptied_by ws zs e = rw e
 
 pub returns : goal.returns
-returns c = search (rules, clearing_laws)
+returns c =
+    emptied_by c.args.rows.now c.fill.new.self
+    (c.fill.ensures.after (λ y h. search rules) ∙ ap (λ (k : ℕ). replicate k 0) (length-take-le row_places c.args.rows.now c.requires))

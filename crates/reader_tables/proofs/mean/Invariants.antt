@@ -1,10 +1,5 @@
-use borrow.Author.Rules.{rules}
-use Prim.Native.Nat.{◌-◌}
-use Rattle.reader_tables.proofs.Rows.{Meaning, meanings}
+use Rattle.reader_tables.proofs.Rows.{Meaning}
 use Rattle.reader_tables.proofs.mean.Given as goal
 
 abbrev pub invariant-loop-i : goal.invariant-loop-i
 invariant-loop-i l = Meaning l.initial.atoms l.atoms l.listed l.over l.n l.i
-
-abbrev pub decreases-loop-i : goal.decreases-loop-i
-decreases-loop-i l = l.n - l.i

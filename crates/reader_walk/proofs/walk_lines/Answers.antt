@@ -1,10 +1,9 @@
 -- `reader_walk::walk_lines` meets its contract.
 use borrow.Author.Rules.{rules}
-use Prim.Native.Nat.{◌-◌}
-use lib.ListN.{length}
-use mathlib.Core.Path.{refl, sym, ◌∙◌}
-use Rattle.reader_walk.specs.Walking.{Walking, line_laws, bonds_room, bonds_size, rows_size, fits_next, walking_less, bond_beside, took_size}
-use Rattle.reader_walk.specs.Pairing.{Pairing, pair_laws, first_small, second_small, pair_asks, pairing_start, pairing_keeps, pairing_fits, pairing_end, pairing_found, repeat_fits, found_asked, found_left, found_rows}
+use Rattle.std.proofs.Common.{ap, Ok}
+use mathlib.Core.Path.{sym, ◌∙◌}
+use Rattle.reader_walk.specs.Walking.{line_laws, bonds_room, bonds_size, rows_size, fits_next, walking_less, bond_beside, took_size}
+use Rattle.reader_walk.specs.Pairing.{pair_laws, first_small, second_small, pair_asks, pairing_start, pairing_keeps, pairing_fits, pairing_end, pairing_found, repeat_fits, found_asked, found_left, found_rows}
 use Rattle.reader_walk.specs.AtEnd.{end_asked, at_end_laws}
 use Rattle.reader_walk.proofs.walk_lines.Goals as goal
 
@@ -53,24 +52,24 @@ take_line-requires c = search (rules, line_laws)
 pub overflow_add-line : goal.overflow_add-line
 overflow_add-line c = search (rules, line_laws)
 
-pub walk-smaller-in-Next : goal.walk-smaller-in-Next
-walk-smaller-in-Next c = walking_less _ _ _ _ _ c.line_at.ensures c.in-Line.is
+pub walk-smaller-in-Ok-Next : goal.walk-smaller-in-Ok-Next
+walk-smaller-in-Ok-Next c = walking_less _ _ _ _ _ c.line_at.ensures c.in-Line.is
 
-pub walk-preserved-in-Next : goal.walk-preserved-in-Next
-walk-preserved-in-Next c = search (rules, line_laws)
+pub walk-preserved-in-Ok-Next : goal.walk-preserved-in-Ok-Next
+walk-preserved-in-Ok-Next c = search (rules, line_laws, c.in-Ok-Next.is ∙ ap Ok c.in-Ok-Next.field-0-is)
 
 pub pair_key-key-requires : goal.pair_key-key-requires
 pair_key-key-requires c = (
-  first_small _ _ _ _ _ _ _ _ _ _ _ _ _ _ c.walk.invariant _ _ _ c.line_at.ensures c.in-Line.is _ _ _ _ _ c.take_line.ensures c.in-Bond.is,
-  second_small _ _ _ _ _ _ _ _ _ _ _ _ _ _ c.walk.invariant _ _ _ c.line_at.ensures c.in-Line.is _ _ _ _ _ c.take_line.ensures c.in-Bond.is,
+  first_small _ _ _ _ _ _ _ _ _ _ _ _ _ _ c.walk.invariant _ _ _ c.line_at.ensures c.in-Line.is _ _ _ _ _ c.take_line.ensures (c.in-Ok-Bond.is ∙ ap Ok c.in-Ok-Bond.field-0-is),
+  second_small _ _ _ _ _ _ _ _ _ _ _ _ _ _ c.walk.invariant _ _ _ c.line_at.ensures c.in-Line.is _ _ _ _ _ c.take_line.ensures (c.in-Ok-Bond.is ∙ ap Ok c.in-Ok-Bond.field-0-is),
 )
 
 pub first_key-j-requires : goal.first_key-j-requires
-first_key-j-requires c = pair_asks _ _ _ _ _ _ _ _ _ _ _ _ _ _ c.walk.invariant _ _ _ c.line_at.ensures c.in-Line.is _ _ _ _ _ c.take_line.ensures c.in-Bond.is _ c.pair_key-key.ensures
+first_key-j-requires c = pair_asks _ _ _ _ _ _ _ _ _ _ _ _ _ _ c.walk.invariant _ _ _ c.line_at.ensures c.in-Line.is _ _ _ _ _ c.take_line.ensures (c.in-Ok-Bond.is ∙ ap Ok c.in-Ok-Bond.field-0-is) _ c.pair_key-key.ensures
 
 pub loop-j-init : goal.loop-j-init
 loop-j-init c = pairing_start _ _ _ _ _ _ _ _ _ _ _ _ _ _ c.walk.invariant _ _ _ c.line_at.ensures c.in-Line.is _ _ _ _ _
-    c.take_line.ensures c.in-Bond.is _ _ c.pair_key-key.ensures c.first_key-j.ensures
+    c.take_line.ensures (c.in-Ok-Bond.is ∙ ap Ok c.in-Ok-Bond.field-0-is) _ _ c.pair_key-key.ensures c.first_key-j.ensures
 
 pub offset_bounds-keys-j : goal.offset_bounds-keys-j
 offset_bounds-keys-j c = search (rules, pair_laws)
@@ -84,9 +83,6 @@ overflow_add-repeat c = search (rules, pair_laws)
 pub overflow_add-repeat-then-keys-j : goal.overflow_add-repeat-then-keys-j
 overflow_add-repeat-then-keys-j c = search (rules, pair_laws)
 
-pub overflow_add-j : goal.overflow_add-j
-overflow_add-j c = search (rules, pair_laws)
-
 pub loop-j-preserved : goal.loop-j-preserved
 loop-j-preserved c = search (rules, pair_laws)
 
@@ -96,46 +92,46 @@ keep_bond-notes-requires c = pairing_keeps _ _ _ _ _ _ _ _ _ _ _ _ _ _ _ c.loop-
 pub mark-requires : goal.mark-requires
 mark-requires c = pairing_fits _ _ _ _ _ _ _ _ _ _ _ _ _ _ _ c.loop-j.invariant
 
-pub overflow_add-line-in-Bond : goal.overflow_add-line-in-Bond
-overflow_add-line-in-Bond c = fits_next _ _ _ _ _ _ _ _ _ _ _ _ _ _ c.walk.invariant
+pub overflow_add-line-in-Ok-Bond : goal.overflow_add-line-in-Ok-Bond
+overflow_add-line-in-Ok-Bond c = fits_next _ _ _ _ _ _ _ _ _ _ _ _ _ _ c.walk.invariant
 
 pub walk-smaller : goal.walk-smaller
 walk-smaller c = walking_less _ _ _ _ _ c.line_at.ensures c.in-Line.is
 
 pub walk-preserved : goal.walk-preserved
 walk-preserved c = pairing_end _ _ _ _ _ _ _ _ _ _ _ _ _ _ _ c.loop-j.invariant c.loop-j-test.false _ _ _ c.walk.invariant.rowed
-    (bond_beside _ _ _ _ _ _ _ _ _ _ _ _ _ _ c.walk.invariant _ _ _ c.line_at.ensures c.in-Line.is _ _ _ _ _ c.take_line.ensures c.in-Bond.is)
+    (bond_beside _ _ _ _ _ _ _ _ _ _ _ _ _ _ c.walk.invariant _ _ _ c.line_at.ensures c.in-Line.is _ _ _ _ _ c.take_line.ensures (c.in-Ok-Bond.is ∙ ap Ok c.in-Ok-Bond.field-0-is))
     c.walk.invariant.bonds_beside _ _ _ _ c.keep_bond-notes.ensures.value c.keep_bond-notes.ensures.keys_after c.keep_bond-notes.ensures.bonds_after c.mark.ensures
 
-pub shape_of-atoms-in-Done : goal.shape_of-atoms-in-Done
-shape_of-atoms-in-Done c = search (rules, line_laws)
+pub shape_of-atoms-in-Ok-Done : goal.shape_of-atoms-in-Ok-Done
+shape_of-atoms-in-Ok-Done c = search (rules, line_laws)
 
-pub shape_of-bonds-in-Done : goal.shape_of-bonds-in-Done
-shape_of-bonds-in-Done c = search (rules, line_laws)
+pub shape_of-bonds-in-Ok-Done : goal.shape_of-bonds-in-Ok-Done
+shape_of-bonds-in-Ok-Done c = search (rules, line_laws)
 
-pub shape_of-rows-in-Done : goal.shape_of-rows-in-Done
-shape_of-rows-in-Done c = search (rules, line_laws)
+pub shape_of-rows-in-Ok-Done : goal.shape_of-rows-in-Ok-Done
+shape_of-rows-in-Ok-Done c = search (rules, line_laws)
 
-pub returns-in-Done : goal.returns-in-Done
-returns-in-Done c = record {
-  walked_value = search (rules, line_laws);
-  asked_value = search (rules, line_laws);
-  left = search (rules, line_laws);
+pub returns-in-Ok-Done : goal.returns-in-Ok-Done
+returns-in-Ok-Done c = record {
+  walked_value = search (rules, line_laws, c.in-Ok-Done.is ∙ ap Ok c.in-Ok-Done.field-0-is);
+  asked_value = search (rules, line_laws, c.in-Ok-Done.is ∙ ap Ok c.in-Ok-Done.field-0-is);
+  left = search (rules, line_laws, c.in-Ok-Done.is ∙ ap Ok c.in-Ok-Done.field-0-is);
   keys_len = search (rules, line_laws);
-  rows_marked = search (rules, line_laws);
+  rows_marked = search (rules, line_laws, c.in-Ok-Done.is ∙ ap Ok c.in-Ok-Done.field-0-is);
 }
 
-pub shape_of-atoms-in-Refused : goal.shape_of-atoms-in-Refused
-shape_of-atoms-in-Refused c = search (rules, line_laws)
+pub shape_of-atoms-in-Err : goal.shape_of-atoms-in-Err
+shape_of-atoms-in-Err c = search (rules, line_laws)
 
-pub shape_of-bonds-in-Refused : goal.shape_of-bonds-in-Refused
-shape_of-bonds-in-Refused c = search (rules, line_laws)
+pub shape_of-bonds-in-Err : goal.shape_of-bonds-in-Err
+shape_of-bonds-in-Err c = search (rules, line_laws)
 
-pub shape_of-rows-in-Refused : goal.shape_of-rows-in-Refused
-shape_of-rows-in-Refused c = search (rules, line_laws)
+pub shape_of-rows-in-Err : goal.shape_of-rows-in-Err
+shape_of-rows-in-Err c = search (rules, line_laws)
 
-pub returns-in-Refused : goal.returns-in-Refused
-returns-in-Refused c = record {
+pub returns-in-Err : goal.returns-in-Err
+returns-in-Err c = record {
   walked_value = search (rules, line_laws);
   asked_value = search (rules, line_laws);
   left = search (rules, line_laws);
@@ -161,7 +157,7 @@ returns c = record {
   asked_value = found_asked _ _ _ _ _ _ _ _ _ _ _ _ _ _ _ c.loop-j.invariant c.loop-j-test.true c.if-keys-j.true _ c.repeated.ensures.asked_value;
   left =
       found_left _ _ _ _ _ _ _ _ _ _ _ _ _ _ _ c.loop-j.invariant c.loop-j-test.true c.if-keys-j.true _ _
-      (bond_beside _ _ _ _ _ _ _ _ _ _ _ _ _ _ c.walk.invariant _ _ _ c.line_at.ensures c.in-Line.is _ _ _ _ _ c.take_line.ensures c.in-Bond.is)
+      (bond_beside _ _ _ _ _ _ _ _ _ _ _ _ _ _ c.walk.invariant _ _ _ c.line_at.ensures c.in-Line.is _ _ _ _ _ c.take_line.ensures (c.in-Ok-Bond.is ∙ ap Ok c.in-Ok-Bond.field-0-is))
       c.walk.invariant.bonds_beside;
   keys_len = c.walk.invariant.key_room;
   rows_marked = found_rows _ _ _ _ _ _ _ _ _ _ _ _ _ _ _ c.loop-j.invariant c.loop-j-test.true c.if-keys-j.true _ c.walk.invariant.rowed;

@@ -1,13 +1,9 @@
--- `store_lots::find_block` meets its contract.
-use Rattle.store_lots.specs.Looking.{block_laws}
-use borrow.Author.Rules.{rules}
+use Rattle.std.proofs.Common.{refl}
+use Rattle.store_lots.specs.Looking.{second_missed, first_missed}
 use Rattle.store_lots.proofs.find_block.Goals as goal
 
-pub returns-then-word_in_block-eq0 : goal.returns-then-word_in_block-eq0
-returns-then-word_in_block-eq0 c = search (rules, block_laws)
+pub returns-then-not-word_in_block : goal.returns-then-not-word_in_block
+returns-then-not-word_in_block c = second_missed _ _ _ 0 (λ _. c.if-not-word_in_block.ensures refl) refl
 
-pub returns-then-word_in_block-eq0-2 : goal.returns-then-word_in_block-eq0-2
-returns-then-word_in_block-eq0-2 c = search (rules, block_laws)
-
-pub returns : goal.returns
-returns c = search (rules, block_laws)
+pub returns-then-not-word_in_block-2 : goal.returns-then-not-word_in_block-2
+returns-then-not-word_in_block-2 c = first_missed _ _ _ 0 (λ _. c.if-not-word_in_block-2.ensures refl) refl

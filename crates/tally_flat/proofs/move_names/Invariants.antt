@@ -4,6 +4,3 @@ use Rattle.tally_flat.proofs.move_names.Given as goal
 
 abbrev pub invariant-loop-j : goal.invariant-loop-j
 invariant-loop-j l = Moving longest l.k l.from l.initial.names l.names l.j
-
-abbrev pub decreases-loop-j : goal.decreases-loop-j
-decreases-loop-j l = l.j

@@ -1,10 +1,5 @@
 use Rattle.tally_flat.specs.Steps.{Putting}
-use Prim.Native.Nat.{◌-◌}
-use Rattle.tally_rules.specs.Tally.{longest}
 use Rattle.tally_flat.proofs.put_name.Given as goal
 
 abbrev pub invariant-loop-j : goal.invariant-loop-j
 invariant-loop-j l = Putting l.at l.name l.initial.names l.names l.j
-
-abbrev pub decreases-loop-j : goal.decreases-loop-j
-decreases-loop-j l = longest - l.j

@@ -1,9 +1,5 @@
 use Rattle.tally_good.specs.Steps.{Adding}
-use Prim.Native.Nat.{◌-◌}
 use Rattle.tally_good.proofs.adds_up.Given as goal
 
 abbrev pub invariant-loop-i : goal.invariant-loop-i
 invariant-loop-i l = Adding l.counts l.used l.missing l.total l.left l.i
-
-abbrev pub decreases-loop-i : goal.decreases-loop-i
-decreases-loop-i l = l.used - l.i

@@ -1,9 +1,5 @@
 use Rattle.tally_good.specs.Steps.{Risen}
-use Prim.Native.Nat.{◌-◌}
 use Rattle.tally_good.proofs.rising_names.Given as goal
 
 abbrev pub invariant-loop-i : goal.invariant-loop-i
 invariant-loop-i l = Risen l.names l.lengths l.used l.i
-
-abbrev pub decreases-loop-i : goal.decreases-loop-i
-decreases-loop-i l = l.used - l.i

@@ -1,49 +1,44 @@
--- `tally_list::find` meets its contract: what stands at i is the head of what is left of the list.
-use Rattle.std.proofs.Common.{ℕ, suc, ◌+◌, ◌≡◌, ◌≤◌, ◌<◌, ◌∷◌, Bool, true, false, sym, ap, ◌∙◌, arith, add-one, length, get_or, take, drop, get_or-take, length-take-le}
-use Rattle.std.proofs.lemmas.List.{get_or_default}
-use lib.ListN.{drop_of_length-le}
-use lib.Seq.{drop-cons}
-use mathlib.Core.List.{List}
+-- `tally_list::find` meets its contract: the place is the first position whose name does not come before.
+use Rattle.std.proofs.Common.{ℕ, suc, ◌+◌, ◌≡◌, ◌≤◌, refl, ap, ◌∙◌, arith, Bool, true, false, cond, not, nat_lt, length, take, List, [], ◌∷◌, length-take-le}
+use Rattle.std.specs.List.{position_or_len}
+use Rattle.std.proofs.lemmas.List.Sums.{prefix_len-le-length}
+use Rattle.std.specs.Option.{unwrap_or}
+use Rattle.std.specs.declared.option.Option.{Option}
+use Rattle.std.specs.declared.option.Option.TheVariants.{Some, None}
+use borrow.Author.Tests.{ltb-false}
+use Rattle.text.specs.Text.{Bytes}
 use Rattle.tally_rules.specs.declared.Tally.{Tally}
-use Rattle.tally_flat.specs.Slots.{no_tally}
 use Rattle.tally_list.specs.Tallies.{is_before, place_from}
 use Rattle.tally_list.proofs.find.Goals as goal
 
--- ---- the place of a name, from tally i on
-module _ (ns : List ℕ) (ys : List Tally) (used : ℕ) (few : used ≤ length ys) where
-  abbrev From : ℕ → ℕ
-  From i = place_from ns i (drop i (take used ys))
+abbrev first : Bytes → List Tally → ℕ
+first n ts = position_or_len (λ t. not (is_before t n)) ts
 
-  here : (i : ℕ) → i < used → drop i (take used ys) ≡ get_or ys i no_tally ∷ drop (suc i) (take used ys)
-  here i h =
-      let l : length (take used ys) ≡ used = length-take-le used ys few in
-      drop-cons (take used ys) i no_tally (omega arith) ∙ ap (λ (x : Tally). x ∷ drop (suc i) (take used ys)) (get_or-take used ys i no_tally h)
+place_is : (n : Bytes) (i : ℕ) (ts : List Tally) → i + first n ts ≡ place_from n i ts
+unfolding place_from
+place_is n i [] = omega arith
+place_is n i (t ∷ ts) = go (is_before t n) (place_is n (suc i) ts)
+  where
+    go : (b : Bool) → suc i + first n ts ≡ place_from n (suc i) ts → i + cond (not (not b)) (1 + first n ts) 0 ≡ cond b (place_from n (suc i) ts) i
+    go true h = let e : i + (1 + first n ts) ≡ suc i + first n ts = omega arith in e ∙ h
+    go false h = omega arith
 
-  told : (i : ℕ) (d : Tally) (b : Bool) → i < used → b ≡ is_before (get_or ys i d) ns → is_before (get_or ys i no_tally) ns ≡ b
-  told i d b h e = ap (λ (t : Tally). is_before t ns) (get_or_default ys i no_tally d (omega arith)) ∙ sym e
-
-  from_more : (i : ℕ) (d : Tally) → i < used → true ≡ is_before (get_or ys i d) ns → From i ≡ From (i + 1)
-  unfolding place_from
-  from_more i d h e = let a = told i d true h e in rw (here i h, a, add-one)
-
-  from_here : (i : ℕ) (d : Tally) → i < used → false ≡ is_before (get_or ys i d) ns → From i ≡ i
-  unfolding place_from
-  from_here i d h e = let a = told i d false h e in rw (here i h, a)
-
-  from_end : (i : ℕ) → used ≤ i → From i ≡ i
-  unfolding place_from
-  from_end i h = let l : length (take used ys) ≡ used = length-take-le used ys few in rw (drop_of_length-le (take used ys) {i = i} (omega arith))
-
-pub loop-i-preserved : goal.loop-i-preserved
-loop-i-preserved c = record {
-  within = omega arith;
-  same = c.loop-i.invariant.same ∙ from_more c.args.name.now c.args.list.now c.args.used c.requires c.loop-i.i _ c.loop-i-test.true c.if-before.ensures;
-}
-
-pub returns-else-before : goal.returns-else-before
-returns-else-before c = sym (c.loop-i.invariant.same ∙ from_here c.args.name.now c.args.list.now c.args.used c.requires c.loop-i.i _ c.loop-i-test.true c.if-before.ensures)
+unwrapped : (used k : ℕ) → k ≤ used → unwrap_or (cond (nat_lt k used) (Some k) None) used ≡ k
+unwrapped used k h = go (nat_lt k used) refl
+  where
+    go : (b : Bool) → nat_lt k used ≡ b → unwrap_or (cond b (Some k) None) used ≡ k
+    go true e = refl
+    go false e = omega (arith, ltb-false k used e, h)
 
 pub returns : goal.returns
 returns c =
-    let e : c.loop-i.i ≡ c.args.used = omega arith in
-    sym (c.loop-i.invariant.same ∙ from_end c.args.name.now c.args.list.now c.args.used c.requires c.loop-i.i c.loop-i-test.false ∙ e)
+    let used = c.args.used in
+    let ts = take used c.args.list.now in
+    let k = first c.args.name.now ts in
+    let l : length ts ≡ used = length-take-le used c.args.list.now c.requires in
+    let h : k ≤ used = omega (arith, l, prefix_len-le-length (λ t. not (not (is_before t c.args.name.now))) ts) in
+    let z : k ≡ 0 + k = omega arith in
+    c.unwrap_or.ensures
+    ∙ ap (λ (r : Option ℕ). unwrap_or r used) c.first_not_before.ensures
+    ∙ ap (λ (m : ℕ). unwrap_or (cond (nat_lt k m) (Some k) None) used) l
+    ∙ unwrapped used k h ∙ z ∙ place_is c.args.name.now 0 ts

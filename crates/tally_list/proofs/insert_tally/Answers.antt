@@ -26,13 +26,15 @@ shift_end : (start j : ℕ) (zs : List Tally) → j ≤ start → shifted (j - s
 unfolding shifted
 shift_end start j zs h = let a : j - start ≡ 0 = omega arith in rw a
 
-pub loop-j-preserved : goal.loop-j-preserved
-loop-j-preserved c = record {
+pub loop-k-preserved : goal.loop-k-preserved
+loop-k-preserved c = record {
   low = omega arith;
   high = omega arith;
-  same = c.loop-j.invariant.same ∙ shift_at c.args.from c.loop-j.j _ c.loop-j.list c.loop-j-test.true (omega arith);
+  same =
+      let e : c.loop-k.k - 1 + 1 ≡ c.loop-k.k = omega arith in
+      rw e (c.loop-k.invariant.same ∙ shift_at c.args.from c.loop-k.k _ c.loop-k.list c.loop-k-test.true (omega arith));
 }
 
 pub returns : goal.returns
 returns c =
-    ap (λ (zs : List Tally). set zs c.args.from c.args.t) (sym (c.loop-j.invariant.same ∙ shift_end c.args.from c.loop-j.j c.loop-j.list c.loop-j-test.false))
+    ap (λ (zs : List Tally). set zs c.args.from c.args.t) (sym (c.loop-k.invariant.same ∙ shift_end c.args.from c.loop-k.k c.loop-k.list c.loop-k-test.false))

@@ -2,36 +2,18 @@
 use borrow.Author.Rules.{rules}
 use mathlib.Core.Path.{refl}
 use Rattle.tally_flat.specs.Flat.{memory}
-use Rattle.tally_report.specs.Steps.{putting_start, putting_end, putting_size, putting_lengths, putting_counts, putting_cast, putting_sum, putting_bytes, putting_room, putting_next}
+use Rattle.tally_report.specs.Steps.{putting_start, putting_end, putting_room, putting_next}
 use Rattle.tally_report.proofs.put_suppliers.Goals as goal
 
 pub loop-i-init : goal.loop-i-init
 loop-i-init c = let st = c in
     putting_start (memory st.args.names.now st.args.lengths.now st.args.counts.now) st.args.used st.args.room.now st.requires
 
-pub bounds-lengths-i : goal.bounds-lengths-i
-bounds-lengths-i c = putting_lengths _ _ _ _ _ _ c.loop-i.invariant (search rules)
-
-pub overflow_cast-to : goal.overflow_cast-to
-overflow_cast-to c = putting_cast _ _ _ _ _ _ c.loop-i.invariant (search rules)
-
-pub overflow_add-to : goal.overflow_add-to
-overflow_add-to c = putting_sum _ _ _ _ _ _ c.loop-i.invariant (search rules)
-
-pub bounds-counts-i : goal.bounds-counts-i
-bounds-counts-i c = putting_counts _ _ _ _ _ _ c.loop-i.invariant (search rules)
-
-pub slice_bounds-put_line-end : goal.slice_bounds-put_line-end
-slice_bounds-put_line-end c = let h = putting_bytes _ _ _ _ _ _ c.loop-i.invariant (search rules) in search (rules, h)
-
 pub put_line-e-requires : goal.put_line-e-requires
 put_line-e-requires c = putting_room _ _ _ _ _ _ c.loop-i.invariant (search rules) _ refl
 
 pub loop-i-preserved : goal.loop-i-preserved
 loop-i-preserved c = putting_next _ _ _ _ _ _ c.loop-i.invariant (search rules) _ refl _ _ c.put_line-e.ensures
-
-pub shape_of-room : goal.shape_of-room
-shape_of-room c = putting_size _ _ _ _ _ _ c.loop-i.invariant
 
 pub returns : goal.returns
 returns c = putting_end _ _ _ _ _ _ c.loop-i.invariant (search rules)

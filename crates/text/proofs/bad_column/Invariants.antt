@@ -1,13 +1,6 @@
-use Prim.Native.Nat.{◌-◌}
-use lib.ListN.{length}
-use borrow.Author.Rules.{rules}
 use Rattle.text.specs.Find.{is_bad}
 use Rattle.text.specs.Search.{Passed}
-use Rattle.text.proofs.Passing.{bad_laws}
 use Rattle.text.proofs.bad_column.Given as goal
 
 abbrev pub invariant-loop-i : goal.invariant-loop-i
 invariant-loop-i l = Passed is_bad l.line 0 l.i
-
-abbrev pub decreases-loop-i : goal.decreases-loop-i
-decreases-loop-i l = length l.line - l.i

@@ -1,13 +1,7 @@
-use Prim.Native.Nat.{◌-◌, ◌≤◌}
-use lib.ListN.{length}
-use borrow.Author.Rules.{rules}
+use Rattle.std.proofs.Common.{◌+◌, ◌*◌}
 use Rattle.text.specs.Find.{is_lf}
 use Rattle.text.specs.Search.{Passed}
-use Rattle.text.proofs.Passing.{passed_start, passed_join}
 use Rattle.text.proofs.near_lf.Given as goal
 
-abbrev pub invariant-loop-i : goal.invariant-loop-i
-invariant-loop-i l = (l.i ≤ length l.s) × Passed is_lf l.s l.at l.i
-
-abbrev pub decreases-loop-i : goal.decreases-loop-i
-decreases-loop-i l = length l.s - l.i
+abbrev pub invariant-loop-b : goal.invariant-loop-b
+invariant-loop-b l = Passed is_lf l.s l.at (l.at + 16 * l.b-counter)

@@ -1,10 +1,5 @@
-use borrow.Author.Rules.{rules}
-use Prim.Native.Nat.{◌-◌}
-use Rattle.writer_lines.specs.Zeros.{Looking, zeros_laws}
+use Rattle.writer_lines.specs.Zeros.{Looking}
 use Rattle.writer_lines.proofs.are_zeros.Given as goal
 
 abbrev pub invariant-loop-k : goal.invariant-loop-k
 invariant-loop-k l = Looking l.row l.i l.e l.k l.zeros
-
-abbrev pub decreases-loop-k : goal.decreases-loop-k
-decreases-loop-k l = l.e - l.k

@@ -1,11 +1,6 @@
-use borrow.Author.Rules.{rules}
-use Prim.Native.Nat.{◌-◌}
 use Rattle.writer_lines.specs.Lines.{bond_line}
-use Rattle.writer_lines.specs.Walks.{Laying, laying_laws}
+use Rattle.writer_lines.specs.Walks.{Laying}
 use Rattle.writer_lines.proofs.put_bonds.Given as goal
 
 abbrev pub invariant-loop-i : goal.invariant-loop-i
 invariant-loop-i l = Laying bond_line 6 22 l.bonds l.m l.initial.room l.room l.at l.i l.e
-
-abbrev pub decreases-loop-i : goal.decreases-loop-i
-decreases-loop-i l = l.m - l.i

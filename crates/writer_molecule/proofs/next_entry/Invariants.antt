@@ -1,10 +1,5 @@
-use borrow.Author.Rules.{rules}
-use Prim.Native.Nat.{◌-◌}
-use Rattle.writer_molecule.specs.Listing.{Seeking, seeking_laws}
+use Rattle.writer_molecule.specs.Listing.{Seeking}
 use Rattle.writer_molecule.proofs.next_entry.Given as goal
 
 abbrev pub invariant-loop-j : goal.invariant-loop-j
 invariant-loop-j l = Seeking l.kind l.n l.atoms l.i l.j
-
-abbrev pub decreases-loop-j : goal.decreases-loop-j
-decreases-loop-j l = l.n - l.j

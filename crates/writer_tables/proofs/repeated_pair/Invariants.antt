@@ -1,16 +1,8 @@
-use Prim.Native.Nat.{◌-◌}
-use Rattle.writer_tables.proofs.Pairs.{Walk, Search, walking}
-use borrow.Author.Rules.{rules}
+use Rattle.writer_tables.proofs.Pairs.{Walk, Search}
 use Rattle.writer_tables.proofs.repeated_pair.Given as goal
 
 abbrev pub invariant-loop-j : goal.invariant-loop-j
 invariant-loop-j l = Search l.bonds l.m l.keys l.key l.i l.j
 
-abbrev pub decreases-loop-j : goal.decreases-loop-j
-decreases-loop-j l = l.i - l.j
-
-abbrev pub invariant-walk : goal.invariant-walk
-invariant-walk l = Walk l.bonds l.m l.keys l.i
-
-abbrev pub decreases-walk : goal.decreases-walk
-decreases-walk l = l.m - l.i
+abbrev pub invariant-loop-i : goal.invariant-loop-i
+invariant-loop-i l = Walk l.bonds l.m l.keys l.i

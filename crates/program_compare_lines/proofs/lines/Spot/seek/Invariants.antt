@@ -1,8 +1,0 @@
-use borrow.Author.Rules.{rules}
-use Rattle.program_compare_lines.proofs.lines.Spot.seek.Given as goal
-
-abbrev pub invariant-loop-turns : goal.invariant-loop-turns
-invariant-loop-turns l = Unit {0}
-
-abbrev pub decreases-loop-turns : goal.decreases-loop-turns
-decreases-loop-turns l = l.turns

@@ -1,8 +1,0 @@
-use borrow.Author.Rules.{rules}
-use Rattle.program_compare_lines.proofs.lines.line_of.Given as goal
-
-abbrev pub invariant-loop-left : goal.invariant-loop-left
-invariant-loop-left l = Unit {0}
-
-abbrev pub decreases-loop-left : goal.decreases-loop-left
-decreases-loop-left l = l.left
