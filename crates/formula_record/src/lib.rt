@@ -9,14 +9,19 @@ ghost use Rattle.formula_record.specs.Said.{zeros, by_verdict, said_of, told_of,
 ghost use Rattle.formula_record.specs.Promise.{ComparePromise};
 ghost use Rattle.formula_record.specs.Ready.{Ready};
 
-use judge_file::TextRefusal;
 use formula_drawn::FOUND;
 use formula_sums::PLACES;
+use judge_file::TextRefusal;
 use reader_first_line::FirstLine;
 use reader_record::RecordRead;
 
 // A line held against n atoms in a table.
-fn compare_line(line: &[u8], n: usize, atoms: &[i32], found: &mut [u32; FOUND]) -> Result<usize, TextRefusal>
+fn compare_line(
+    line: &[u8],
+    n: usize,
+    atoms: &[i32],
+    found: &mut [u32; FOUND],
+) -> Result<usize, TextRefusal>
     requires { (16 * n ≤ length atoms.now) × (n ≤ 9999) × (found.old ≡ zeros) }
     ensures value { result ≡ told_of (by_verdict (symbols_from atoms.now 0 n) (verdict_of line.now)) }
     ensures found_after { found.new ≡ found_in (by_verdict (symbols_from atoms.now 0 n) (verdict_of line.now)) }
@@ -43,7 +48,12 @@ fn compare_line(line: &[u8], n: usize, atoms: &[i32], found: &mut [u32; FOUND]) 
 }
 
 // A good record, whose rows stand in the table: its formula is the first value line of its first item of that name.
-fn compare_read(s: &[u8], n: u32, atoms: &[i32], found: &mut [u32; FOUND]) -> Result<usize, TextRefusal>
+fn compare_read(
+    s: &[u8],
+    n: u32,
+    atoms: &[i32],
+    found: &mut [u32; FOUND],
+) -> Result<usize, TextRefusal>
     requires { Ready s.now atoms.now n }
     ensures value { result ≡ told_of (said_of s.now) }
     ensures found_after { found.new ≡ found_in (said_of s.now) }
@@ -69,8 +79,13 @@ fn compare_read(s: &[u8], n: u32, atoms: &[i32], found: &mut [u32; FOUND]) -> Re
 }
 
 // The record's own refusal. After 2 no memory changes; after any other the list is empty.
-fn refuse(no: u8, line: usize, column: usize, found: &mut [u32; FOUND]) -> Result<usize, TextRefusal>
-    ensures value { result ≡ Compared.Refused no line column }
+fn refuse(
+    no: u8,
+    line: usize,
+    column: usize,
+    found: &mut [u32; FOUND],
+) -> Result<usize, TextRefusal>
+    ensures value { result ≡ Err (record { no = no; line = line; column = column }) }
     ensures found_after { found.new ≡ cond (eqb no 2) found.old zeros }
 {
     if no == 2 {

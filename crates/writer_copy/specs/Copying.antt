@@ -80,7 +80,7 @@ module _ (g : Given) (s : Sound g) (taken lines : ℕ) (r₀ : Bytes) (j : Resul
 
   pub sound_refused : (r : TextRefusal) → j ≡ Err r → PutRead g taken lines r₀ (Copied.Refused r.no r.line r.column) r₀
   sound_refused r h =
-      record { w = Err r; said = refl; written = promise_refused g r₀ j r.no r.line r.column (sound_judged g s (length r₀) j e) h }
+      record { w = Err r; said = refl; written = promise_refused g r₀ j r (sound_judged g s (length r₀) j e) h }
 
 -- ---- Room that surely suffices
 

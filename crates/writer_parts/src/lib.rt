@@ -139,7 +139,7 @@ fn line_turn(place: Place, line: &[u8]) -> Turn
 
 // A part that is not whole. The next line would be `line`.
 fn cut_short(line: usize) -> Result<usize, TextRefusal>
-    ensures { result ≡ PartJudged.Refused 19 line 1 }
+    ensures { result ≡ Err (record { no = 19; line = line; column = 1 }) }
 {
     Err(TextRefusal {
         no: 19,

@@ -213,16 +213,15 @@ module _ (v : Verdict Bytes) (x : Result ℕ TextRefusal) (j : x ≡ judged v) w
       q ∙ ap (λ (t : ℕ). sized (headers + t + size + 5) k) e
       ∙ long_by size v refl (sym h ∙ j) (λ t. sized (headers + molecule + t + 5) k) (after_items headers molecule k) (λ bs. refl)
 
-  pub items_bad : (headers molecule k e line column : ℕ) → x ≡ Err (record { no = e; line = line; column = column }) → Err (record { no = e; line = line; column = column }) ≡ after_items headers molecule k v
-  items_bad headers molecule k e line column h = stop_by_lem e line column v refl (sym h ∙ j) (after_items headers molecule k) (λ n i c. refl)
+  pub items_bad : (headers molecule k : ℕ) (r : TextRefusal) → x ≡ Err r → Err r ≡ after_items headers molecule k v
+  items_bad headers molecule k r h = stop_by_lem r.no r.line r.column v refl (sym h ∙ j) (after_items headers molecule k) (λ n i c. refl)
 
   pub headers_good : (molecule k size : ℕ) (items : Verdict Bytes) (r : Result ℕ TextRefusal) → x ≡ Ok size → r ≡ after_items size molecule k items →
       r ≡ after_headers molecule k items v
   headers_good molecule k size items r h q = q ∙ long_by size v refl (sym h ∙ j) (λ t. after_items t molecule k items) (after_headers molecule k items) (λ bs. refl)
 
-  pub headers_bad : (molecule k e line column : ℕ) (items : Verdict Bytes) → x ≡ Err (record { no = e; line = line; column = column }) →
-      Err (record { no = e; line = line; column = column }) ≡ after_headers molecule k items v
-  headers_bad molecule k e line column items h = stop_by_lem e line column v refl (sym h ∙ j) (after_headers molecule k items) (λ n i c. refl)
+  pub headers_bad : (molecule k : ℕ) (items : Verdict Bytes) (r : TextRefusal) → x ≡ Err r → Err r ≡ after_headers molecule k items v
+  headers_bad molecule k items r h = stop_by_lem r.no r.line r.column v refl (sym h ∙ j) (after_headers molecule k items) (λ n i c. refl)
 
 pub ruleset part_laws = (items_good, items_bad, headers_good, headers_bad)
 

@@ -14,7 +14,12 @@ use judge_file::TextRefusal;
 use rules::{ATOMS, BONDS};
 
 // Whether room of so many bytes holds header lines, molecule, items and the line that ends the record. Sums of lengths can wrap, so it is asked by subtractions.
-fn measured(room: usize, headers: usize, molecule: usize, items: usize) -> Result<usize, TextRefusal>
+fn measured(
+    room: usize,
+    headers: usize,
+    molecule: usize,
+    items: usize,
+) -> Result<usize, TextRefusal>
     ensures { result ≡ sized (headers + molecule + items + 5) room }
 {
     if room < headers {
@@ -49,32 +54,40 @@ fn measured(room: usize, headers: usize, molecule: usize, items: usize) -> Resul
 }
 
 // Items, then the room, once the header lines are good and so long.
-fn judge_tail(atoms: &[i32], n: u32, m: u32, items: &[u8], headers: usize, room: usize) -> Result<usize, TextRefusal>
+fn judge_tail(
+    atoms: &[i32],
+    n: u32,
+    m: u32,
+    items: &[u8],
+    headers: usize,
+    room: usize,
+) -> Result<usize, TextRefusal>
     requires { (16 * n ≤ length atoms.now) × ((n ≤ limit) × (m ≤ limit)) }
     ensures { result ≡ after_items headers (body_size n m atoms.now) room (written_items items.now) }
 {
-    match writer_parts::judge_items(items) {
-        Ok(size) => {
-            measured(
-                room,
-                headers,
-                writer_molecule::molecule_size(atoms, n, m),
-                size,
-            )
-        }
-        Err(refusal) => Err(refusal),
-    }
+    let size = writer_parts::judge_items(items)?;
+    measured(
+        room,
+        headers,
+        writer_molecule::molecule_size(atoms, n, m),
+        size,
+    )
 }
 
 // Header lines, items, then the room, of tables that can be written.
-fn judge_parts(atoms: &[i32], n: u32, m: u32, headers: &[u8], items: &[u8], room: usize) -> Result<usize, TextRefusal>
+fn judge_parts(
+    atoms: &[i32],
+    n: u32,
+    m: u32,
+    headers: &[u8],
+    items: &[u8],
+    room: usize,
+) -> Result<usize, TextRefusal>
     requires { (16 * n ≤ length atoms.now) × ((n ≤ limit) × (m ≤ limit)) }
     ensures { result ≡ after_headers (body_size n m atoms.now) room (written_items items.now) (written_headers headers.now) }
 {
-    match writer_parts::judge_headers(headers) {
-        Ok(size) => judge_tail(atoms, n, m, items, size, room),
-        Err(refusal) => Err(refusal),
-    }
+    let size = writer_parts::judge_headers(headers)?;
+    judge_tail(atoms, n, m, items, size, room)
 }
 
 // Only the room, of a record that was read: its header lines and items were judged then.
@@ -181,8 +194,6 @@ pub fn write_record(
 ) -> Result<usize, TextRefusal>
     ensures { Promise (record { atoms = atoms.entry.now; bonds = bonds.now; n = n; m = m; chiral = chiral; headers = headers.now; items = items.now }) room.old result room.new }
 {
-    match judge_record(atoms, bonds, n, m, chiral, headers, items, room.len()) {
-        Ok(_) => Ok(lay_record(atoms, bonds, n, m, chiral, headers, items, room)),
-        Err(refusal) => Err(refusal),
-    }
+    judge_record(atoms, bonds, n, m, chiral, headers, items, room.len())?;
+    Ok(lay_record(atoms, bonds, n, m, chiral, headers, items, room))
 }
