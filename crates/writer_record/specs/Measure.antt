@@ -130,7 +130,7 @@ pub record Ready (g : Given) (k : ℕ) : Type 0 where
   pub enough : length (text_of (written_headers g.headers)) + body_size g.n g.m g.atoms + length (text_of (written_items g.items)) + 5 ≤ k
   pub text : text_for g k ≡ accepted (record_text g)
 
-pub refused_done : {X : Type 0} {e line column l : ℕ} → Err (record { no = e; line = line; column = column }) ≡ Ok l → X
+pub refused_done : {X : Type 0} {e line column l : ℕ} → ◌≡◌ {A = Result ℕ TextRefusal} (Err (record { no = e; line = line; column = column })) (Ok l) → X
 refused_done h = absurd (let z : ◌≡◌ {A = ℕ} 0 1 = cc in omega arith)
 
 module _ (g : Given) (k : ℕ) (h : Headers) (is : List Item) (a : roomy g.atoms g.bonds ≡ true) (b : writable_tables g.n g.m g.chiral g.atoms g.bonds ≡ true) (p : headers_verdict g.headers ≡ accepted h) (q : items_verdict g.items ≡ accepted is) (t : leb (length (canon_text (handed g h is))) k ≡ true) where
@@ -203,9 +203,9 @@ module _ (v : Verdict Bytes) (x : Result ℕ TextRefusal) (j : x ≡ judged v) w
   long_by size (refused e line column) q h A B f = absurd (let z : ◌≡◌ {A = ℕ} 0 1 = cc in omega arith)
 
   stop_by_lem : (r : TextRefusal) (w : Verdict Bytes) → w ≡ v → Err r ≡ judged w → (B : Verdict Bytes → Result ℕ TextRefusal) →
-      ((why : TextRefusal) → B (refused why.no why.line why.column) ≡ Err why) → Err r ≡ B v
+      ((n i c : ℕ) → B (refused n i c) ≡ Err (record { no = n; line = i; column = c })) → Err r ≡ B v
   stop_by_lem r (accepted bs) q h B f = absurd (let z : ◌≡◌ {A = ℕ} 0 1 = cc in omega arith)
-  stop_by_lem r (refused why) q h B f = let y : Err r ≡ Err why = cc in y ∙ sym (f why.no why.line why.column) ∙ ap B q
+  stop_by_lem r (refused n i c) q h B f = h ∙ sym (f n i c) ∙ ap B q
 
   pub items_good : (headers molecule k size s : ℕ) (r : Result ℕ TextRefusal) → x ≡ Ok size → s ≡ molecule → r ≡ sized (headers + s + size + 5) k →
       r ≡ after_items headers molecule k v
@@ -214,14 +214,14 @@ module _ (v : Verdict Bytes) (x : Result ℕ TextRefusal) (j : x ≡ judged v) w
       ∙ long_by size v refl (sym h ∙ j) (λ t. sized (headers + molecule + t + 5) k) (after_items headers molecule k) (λ bs. refl)
 
   pub items_bad : (headers molecule k : ℕ) (r : TextRefusal) → x ≡ Err r → Err r ≡ after_items headers molecule k v
-  items_bad headers molecule k r h = stop_by_lem r.no r.line r.column v refl (sym h ∙ j) (after_items headers molecule k) (λ n i c. refl)
+  items_bad headers molecule k r h = stop_by_lem r v refl (sym h ∙ j) (after_items headers molecule k) (λ n i c. refl)
 
   pub headers_good : (molecule k size : ℕ) (items : Verdict Bytes) (r : Result ℕ TextRefusal) → x ≡ Ok size → r ≡ after_items size molecule k items →
       r ≡ after_headers molecule k items v
   headers_good molecule k size items r h q = q ∙ long_by size v refl (sym h ∙ j) (λ t. after_items t molecule k items) (after_headers molecule k items) (λ bs. refl)
 
   pub headers_bad : (molecule k : ℕ) (items : Verdict Bytes) (r : TextRefusal) → x ≡ Err r → Err r ≡ after_headers molecule k items v
-  headers_bad molecule k items r h = stop_by_lem r.no r.line r.column v refl (sym h ∙ j) (after_headers molecule k items) (λ n i c. refl)
+  headers_bad molecule k items r h = stop_by_lem r v refl (sym h ∙ j) (after_headers molecule k items) (λ n i c. refl)
 
 pub ruleset part_laws = (items_good, items_bad, headers_good, headers_bad)
 

@@ -237,8 +237,9 @@ module _ (g : Given) where
     -- there is one refusal at most
     pub refusal_one : {e i c e' i' c' : ℕ} → Refusal g k e i c → Refusal g k e' i' c' → (e ≡ e') × (i ≡ i') × (c ≡ c')
     refusal_one {e} {i} {c} {e'} {i'} {c'} p q =
-        let z : Err (record { no = e; line = i; column = c }) ≡ Err (record { no = e'; line = i'; column = c' }) = sym (refusal_answer p) ∙ refusal_answer q in
-        (cc, cc, cc)
+        let z : ◌≡◌ {A = Result ℕ TextRefusal} (Err (record { no = e; line = i; column = c })) (Err (record { no = e'; line = i'; column = c' })) = sym (refusal_answer p) ∙ refusal_answer q in
+        let w : ◌≡◌ {A = TextRefusal} (record { no = e; line = i; column = c }) (record { no = e'; line = i'; column = c' }) = cc in
+        (ap (λ (r : TextRefusal). r.no) w, ap (λ (r : TextRefusal). r.line) w, ap (λ (r : TextRefusal). r.column) w)
 
 -- ---- The promise
 
