@@ -286,7 +286,7 @@ module _ (g : Given) (r₀ : Bytes) where
         );
         written = λ x b h. f ∙ ap (W.room r₀) (text_of g (length r₀) x b h);
         refused = λ n line column h.
-            let k = refused_by n line column (text_for g (length r₀)) (told_text g (length r₀)) (sym e ∙ same_written a (Err (record { no = n; line = line; column = column })) h) in
+            let k = refused_by (record { no = n; line = line; column = column }) (text_for g (length r₀)) (told_text g (length r₀)) (sym e ∙ same_written a (Err (record { no = n; line = line; column = column })) h) in
             (f ∙ k.0, k.1);
         refuses = λ n line column h. ap numbers_of (e ∙ refusal_answer g (length r₀) h);
       }
