@@ -4,8 +4,10 @@
 mod channel;
 mod system;
 
-ghost use Rattle.std.specs.Prelude.{◌≡◌, true, ◌+◌, ◌-◌, ◌<◌, ◌≤◌, length};
+ghost use Rattle.std.specs.Prelude.{◌≡◌, true, false, ◌+◌, ◌-◌, ◌<◌, ◌≤◌, ◌^◌, ◌⊎◌, nat_lt, length, take, drop, IfOk};
+ghost use Rattle.std.specs.Fmt.{WritesText};
 ghost use Rattle.program_io.specs.Moved.{moved};
+ghost use Rattle.program_io.specs.Said.{said, said_byte};
 
 use std::fmt;
 use std::fmt::Write;
@@ -13,19 +15,27 @@ use std::io::Stdout;
 pub use system::{Input, Reason, System, Target, go_back, has_place};
 
 // The first n bytes of a buffer; all of it where n is more.
-pub fn front(buf: &[u8], n: usize) -> &[u8] {
+#[tactic(auto, using(std::proofs::lemmas::List::take_min))]
+pub fn front(buf: &[u8], n: usize) -> &[u8]
+    ensures { result.now ≡ take n buf.now }
+{
     &buf[..n.min(buf.len())]
 }
 
 // What stands from `from` on; nothing where that lies past the end.
-pub fn tail(buf: &[u8], from: usize) -> &[u8] {
+#[tactic(auto, using(std::proofs::lemmas::List::drop_min))]
+pub fn tail(buf: &[u8], from: usize) -> &[u8]
+    ensures { result.now ≡ drop from buf.now }
+{
     &buf[from.min(buf.len())..]
 }
 
 // Reads until the buffer is full, the input ends or a read fails; the first `from` bytes stand there already. Answers
 // how many stand there then: fewer than the buffer holds once the input has ended.
 // A read that a signal interrupts is made again; turns are counted so that the loop ends, and no run uses them up.
-pub fn fill(input: Input<'_>, buf: &mut [u8], from: usize) -> Result<usize, Reason> {
+pub fn fill(input: Input<'_>, buf: &mut [u8], from: usize) -> Result<usize, Reason>
+    ensures { IfOk result (λ n. n ≤ length buf.new) }
+{
     let mut at = from;
     for _ in 0..u64::MAX {
         if buf.len() <= at {
@@ -68,7 +78,9 @@ pub struct Window {
 
 impl Window {
     // Before anything is read.
-    pub fn new() -> Window {
+    pub fn new() -> Window
+        ensures { (result.at ≡ 0) × (result.filled ≡ 0) × (result.ended ≡ false) }
+    {
         Window {
             at: 0,
             filled: 0,
@@ -76,12 +88,17 @@ impl Window {
         }
     }
 
-    pub fn of(self, buf: &[u8]) -> &[u8] {
+    pub fn of(self, buf: &[u8]) -> &[u8]
+        ensures { result.now ≡ drop self.at (take self.filled buf.now) }
+    {
         tail(front(buf, self.filled), self.at)
     }
 
     // Behind so many bytes of it.
-    pub fn past(self, n: usize) -> Window {
+    pub fn past(self, n: usize) -> Window
+        ensures at_after { self.at + n < 2 ^ 64 → result.at ≡ self.at + n }
+        ensures rest { (result.filled ≡ self.filled) × (result.ended ≡ self.ended) }
+    {
         Window {
             at: self.at.saturating_add(n),
             ..self
@@ -89,12 +106,17 @@ impl Window {
     }
 
     // Whether the buffer has no room for more of the input, even if what was read is given up.
-    pub fn is_full(self, buf: &[u8]) -> bool {
+    pub fn is_full(self, buf: &[u8]) -> bool
+        ensures full { result ≡ true → (self.at ≡ 0) × (length buf.now ≤ self.filled) }
+        ensures room { result ≡ false → self.at ≡ 0 → self.filled < length buf.now }
+    {
         self.at == 0 && buf.len() <= self.filled
     }
 
     // What is not read yet moved to the front, and more of the input behind it.
-    pub fn refill(self, input: Input<'_>, buf: &mut [u8]) -> Result<Window, Reason> {
+    pub fn refill(self, input: Input<'_>, buf: &mut [u8]) -> Result<Window, Reason>
+        ensures { IfOk result (λ w. (w.at ≡ 0) × (w.filled ≤ length buf.new) × (w.ended ≡ nat_lt w.filled (length buf.new))) }
+    {
         let kept = keep(buf, self.at, self.filled);
         let filled = fill(input, buf, kept)?;
         Ok(Window {
@@ -130,7 +152,10 @@ impl Text {
         }
     }
 
-    pub fn byte(mut self, b: u8) -> Text {
+    #[tactic(auto, using(crate::specs::Said::said_room, crate::specs::Said::said_full))]
+    pub fn byte(mut self, b: u8) -> Text
+        ensures { result ≡ said_byte self b }
+    {
         let at = self.used;
         if at < SHORT {
             self.bytes[at] = b;
@@ -139,21 +164,30 @@ impl Text {
         self
     }
 
-    pub fn word(mut self, word: &[u8]) -> Text {
+    #[tactic(auto, using(crate::specs::Said::said_none, crate::specs::Said::room_next, crate::specs::Said::full_next))]
+    pub fn word(self, word: &[u8]) -> Text
+        ensures { result ≡ said self word.now }
+    {
+        let mut text = self;
         for b in word {
-            let at = self.used;
+            let at = text.used;
             if at < SHORT {
-                self.bytes[at] = *b;
-                self.used = at + 1;
+                text.bytes[at] = *b;
+                text.used = at + 1;
             }
         }
-        self
+        text
     }
 
-    // What a value shows, or several in a format.
-    pub fn print(mut self, what: impl fmt::Display + Drop) -> Text {
-        let _ = write!(self, "{what}");
-        self
+    // What a value shows, or several in a format; what cannot be shown says nothing.
+    pub fn print<D: fmt::Display + Drop>(self, what: D) -> Text
+        ensures { (result ≡ self) ⊎ WritesText (λ t s u. u ≡ said t s) self (D.output what) result }
+    {
+        let mut text = self;
+        match fmt::Write::write(&mut text, what) {
+            Ok(()) => text,
+            Err(_) => self,
+        }
     }
 
     // A number in decimal digits.
@@ -177,6 +211,8 @@ impl Text {
 }
 
 impl fmt::Write for Text {
+    ghost write_str_gives = { λ t s u. u ≡ said t s };
+
     fn write_str(&mut self, s: &str) -> fmt::Result {
         *self = self.word(s.as_bytes());
         Ok(())

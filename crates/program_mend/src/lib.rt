@@ -125,6 +125,7 @@ fn refill(file: &File, buf: &mut [u8; BUFFER], pass: Pass) -> ControlFlow<Verdic
 }
 
 // Whether only blank lines are left, none of them whole perhaps. A line has at least one byte, so the bytes are more turns than are needed.
+// A `while`, since it goes by pieces: a `for` would count turns that nothing needs.
 #[tactic(auto, using(mend_lines::specs::Deeds::scan_less))]
 fn is_blank(s: &[u8]) -> bool {
     let mut at: usize = 0;

@@ -127,7 +127,7 @@ fn put_lot(out: Out, room: &mut [u8; SIZE], key: &[u8; 12], paper: u32) -> Out {
     begun.to(put_bytes(room, papered, b"}\n"))
 }
 
-// The lots in order of their first receipts.
+// The lots in order of their first receipts. A key stands in three columns, as `store_lots` fills them.
 pub fn put_lots(
     out: Out,
     room: &mut [u8; SIZE],

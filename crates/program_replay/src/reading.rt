@@ -1,4 +1,6 @@
 // A log that is read through one buffer: where the replay stands in it, and how it ends.
+ghost use Rattle.std.specs.Prelude.{◌≡◌};
+
 use program_io::Input;
 use program_verdict::Verdict;
 use store_replay::Replay;
@@ -48,7 +50,10 @@ impl Reading {
     }
 
     // At a refused event: the verdict's line is its number, and its column 0.
-    pub fn refused(self, no: u8, event: usize) -> Reading {
+    pub fn refused(self, no: u8, event: usize) -> Reading
+        ensures over { result.over ≡ Some (Verdict.Refused no event 0) }
+        ensures state { result.state ≡ self.state }
+    {
         let verdict = Verdict::Refused {
             no,
             line: event,
@@ -61,7 +66,10 @@ impl Reading {
     }
 
     // Behind the last event.
-    pub fn done(self) -> Reading {
+    pub fn done(self) -> Reading
+        ensures over { result.over ≡ Some (Verdict.Accepted self.state.events) }
+        ensures state { result.state ≡ self.state }
+    {
         let records = self.state.events;
         Reading {
             over: Some(Verdict::Accepted { records }),

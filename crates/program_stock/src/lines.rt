@@ -82,6 +82,7 @@ fn lot_line(counted: Option<Counted>, records: u64) -> Line {
     }
 }
 
+// The tables have their columns one behind the other, as `store_lots`, `stock_counts` and `stock_join` fill them.
 pub fn row_of(
     i: usize,
     keys: &[u32; KEYS],
