@@ -296,7 +296,7 @@ module _ (g : Given) (r₀ : Bytes) where
   promise_done j l r e q h p = let y = ready g (length r₀) l (sym q ∙ h) in promise (Ok e) r (done_answer g r₀ r e y p) (done_room g r₀ r e y p)
 
   pub promise_refused : (j : Result ℕ TextRefusal) (r : TextRefusal) → j ≡ write_of g (length r₀) → j ≡ Err r → Promise g r₀ (Err r) r₀
-  promise_refused j r q h = promise (Err r) r₀ (sym h ∙ q) (refused_room g r₀ r.no r.line r.column (sym q ∙ h))
+  promise_refused j r q h = promise (Err r) r₀ (sym h ∙ q) (refused_room g r₀ r (sym q ∙ h))
 
 -- ---- What is known to be good is laid without being judged
 
