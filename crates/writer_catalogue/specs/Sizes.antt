@@ -96,7 +96,7 @@ module _ (n m : ℕ) (atoms : List ℤ) (headers items : Bytes) (k : ℕ) (g : M
       unfolding sized
       done = go (leb size (k - needed)) refl (sym is ∙ q)
         where
-          go : (b : Bool) → leb size (k - needed) ≡ b → cond b (Ok size) (Err (record { no = 20; line = 0; column = 0 })) ≡ Ok l → (l ≡ size) × (size ≤ k - needed)
+          go : (b : Bool) → leb size (k - needed) ≡ b → cond {A = Result ℕ TextRefusal} b (Ok size) (Err (record { no = 20; line = 0; column = 0 })) ≡ Ok l → (l ≡ size) × (size ≤ k - needed)
           go true e z = (cc, leb-true size (k - needed) e)
           go false e z = absurd (let z : ◌≡◌ {A = ℕ} 0 1 = cc in omega arith)
 
@@ -110,7 +110,7 @@ module _ (n m : ℕ) (atoms : List ℤ) (headers items : Bytes) (k : ℕ) (g : M
     unfolding sized
     over_is r q = go (leb size (k - needed)) refl (sym is ∙ q)
       where
-        go : (b : Bool) → leb size (k - needed) ≡ b → cond b (Ok size) (Err (record { no = 20; line = 0; column = 0 })) ≡ Err r → k + 1 ≡ up_to k (needed + size)
+        go : (b : Bool) → leb size (k - needed) ≡ b → cond {A = Result ℕ TextRefusal} b (Ok size) (Err (record { no = 20; line = 0; column = 0 })) ≡ Err r → k + 1 ≡ up_to k (needed + size)
         go true o z = absurd (let z : ◌≡◌ {A = ℕ} 0 1 = cc in omega arith)
         go false o z = sym (up_over k (needed + size) (omega (arith, leb-false size (k - needed) o)))
 

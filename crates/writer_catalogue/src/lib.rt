@@ -74,11 +74,13 @@ fn measure_parts(
 {
     match writer_record::measure_parts(atoms, n, m, headers, items, room - needed) {
         Ok(length) => needed + length,
-        Err(TextRefusal {
-            no: _,
-            line: _,
-            column: _,
-        }) => room + 1,
+        Err(
+            TextRefusal {
+                no: _,
+                line: _,
+                column: _,
+            },
+        ) => room + 1,
     }
 }
 
