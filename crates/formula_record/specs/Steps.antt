@@ -209,10 +209,10 @@ module _ (s : Bytes) (t : List ℤ) (n : ℕ) (d : Ready s t n) (r : FirstLine) 
   said_none (FirstAt.refused h) a b c q = none_here h
 
   pub empty_said : r ≡ FirstLine.Empty → (f : List ℕ) → f ≡ zeros → (Err (record { no = 31; line = 0; column = 0 }) ≡ told_of (said_of s)) × (f ≡ found_in (said_of s))
-  empty_said e f ef = nothing_said 31 0 0 (said_empty p.first e) f ef
+  empty_said e f ef = nothing_said (record { no = 31; line = 0; column = 0 }) (said_empty p.first e) f ef
 
   pub none_said : (e i c : ℕ) → r ≡ FirstLine.Refused e i c → (f : List ℕ) → f ≡ zeros → (Err (record { no = 22; line = 0; column = 0 }) ≡ told_of (said_of s)) × (f ≡ found_in (said_of s))
-  none_said e i c h f ef = nothing_said 22 0 0 (said_none p.first e i c h) f ef
+  none_said e i c h f ef = nothing_said (record { no = 22; line = 0; column = 0 }) (said_none p.first e i c h) f ef
 
 -- ---- The record
 
@@ -236,16 +236,16 @@ module _ (s : Bytes) (ta tb : List ℤ) (f : List ℕ) (q : RecordRead) (ta' tb'
         let o = with_room ta tb (read_room s ta tb q ta' tb' p reply (ap numbers_of e)) in
         kept r u (er ∙ rw o) (eu ∙ rw o)
 
-  pub refused_kept : (why : TextRefusal) → q ≡ RecordRead.Refused why.no why.line why.column → (r : Result ℕ TextRefusal) (u : List ℕ) → r ≡ Err why → u ≡ cond (eqb why.no 2) f zeros → Kept r u
+  pub refused_kept : (e i c : ℕ) → q ≡ RecordRead.Refused e i c → (r : Result ℕ TextRefusal) (u : List ℕ) → r ≡ Err (record { no = e; line = i; column = c }) → u ≡ cond (eqb e 2) f zeros → Kept r u
   unfolding answer_of found_after
-  refused_kept why h r u er eu = go (room (length ta) (length tb)) refl
+  refused_kept e i c h r u er eu = go (room (length ta) (length tb)) refl
     where
-      no_space : room (length ta) (length tb) ≡ false → (why.no ≡ 2) × (why.line ≡ 0) × (why.column ≡ 0) → Kept r u
+      no_space : room (length ta) (length tb) ≡ false → (e ≡ 2) × (i ≡ 0) × (c ≡ 0) → Kept r u
       no_space o z =
           let x = z.0 in
           let y = z.1 in
           let w = z.2 in
-          kept r u (er ∙ rw (x, y, w, o)) (eu ∙ rw (eq-eqb why.no 2 x, o))
+          kept r u (er ∙ rw (x, y, w, o)) (eu ∙ rw (eq-eqb e 2 x, o))
 
       go : (b : Bool) → room (length ta) (length tb) ≡ b → Kept r u
       go true o =
