@@ -62,7 +62,7 @@ module _ (s : Bytes) (ta tb : List ℤ) (f : List ℕ) where
   tells : (r : Result ℕ TextRefusal) (ta' tb' : List ℤ) (f' : List ℕ) → ComparePromise s ta tb f r ta' tb' f' → compared_told (compared_numbers r) ≡ r
   unfolding compared_numbers compared_told
   tells (Ok count) ta' tb' f' p = refl
-  tells (Err w) ta' tb' f' p = first_refused w.no (Ok w.line) (λ (n : ℕ). Err (record { no = n; line = w.line; column = w.column })) (numbered w.no w.line w.column ta' tb' f' p)
+  tells (Err w) ta' tb' f' p = first_refused w.no (Ok w.line) (λ (n : ℕ). Err (record { no = n; line = w.line; column = w.column })) (numbered w ta' tb' f' p)
 
   pub compared_told_lem : (r : Result ℕ TextRefusal) (ta' tb' : List ℤ) (f' out : List ℕ) → out ≡ compared_numbers r → ComparePromise s ta tb f r ta' tb' f' → ComparePromise s ta tb f (compared_told out) ta' tb' f'
   compared_told_lem r ta' tb' f' out e p = subst (λ (x : Result ℕ TextRefusal). ComparePromise s ta tb f x ta' tb' f') (sym (ap compared_told e ∙ tells r ta' tb' f' p)) p

@@ -6,7 +6,6 @@ ghost use Rattle.capellanote.specs.Compare.{files_numbers, files_told};
 
 use judge_file::TextRefusal;
 
-
 fn of_files(r: Result<usize, TextRefusal>) -> [u64; 3]
     ensures { result ≡ files_numbers r }
 {

@@ -5,8 +5,8 @@ ghost use Rattle.formula_record.specs.Said.{answer_of, found_after};
 ghost use Rattle.formula_record.specs.Promise.{ComparePromise};
 ghost use Rattle.capellanote.specs.Formula.{compared_numbers, compared_told};
 
-use judge_file::TextRefusal;
 use formula_drawn::FOUND;
+use judge_file::TextRefusal;
 
 fn of_compared(r: Result<usize, TextRefusal>) -> [u64; 3]
     ensures { result ≡ compared_numbers r }
