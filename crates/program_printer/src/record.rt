@@ -1,7 +1,7 @@
 // One record of the second reading, written.
-use judge_file::TextRefusal;
 use crate::{Pass, Stepped, Task};
 use formula_drawn::FOUND;
+use judge_file::TextRefusal;
 use piece_record::RecordSplit;
 use program_io::Out;
 use program_json::{End, Place, Reading};
@@ -238,11 +238,13 @@ fn put_formula(
             let out = program_formula::put_differences(pass.out, room, number, count, &found);
             behind(told_apart(pass, count == 0), length, lines, out)
         }
-        Err(TextRefusal {
-            no,
-            line: _,
-            column: _,
-        }) => {
+        Err(
+            TextRefusal {
+                no,
+                line: _,
+                column: _,
+            },
+        ) => {
             if no < NO_SUCH_ITEM {
                 Err(Verdict::Changed)
             } else {
