@@ -1,7 +1,6 @@
 // One record of the second reading, written.
 use crate::{Pass, Stepped, Task};
 use formula_drawn::FOUND;
-use judge_file::TextRefusal;
 use piece_record::RecordSplit;
 use program_io::Out;
 use program_json::{End, Place, Reading};
@@ -238,17 +237,11 @@ fn put_formula(
             let out = program_formula::put_differences(pass.out, room, number, count, &found);
             behind(told_apart(pass, count == 0), length, lines, out)
         }
-        Err(
-            TextRefusal {
-                no,
-                line: _,
-                column: _,
-            },
-        ) => {
-            if no < NO_SUCH_ITEM {
+        Err(refusal) => {
+            if refusal.no < NO_SUCH_ITEM {
                 Err(Verdict::Changed)
             } else {
-                let out = program_formula::put_refused(pass.out, room, number, no);
+                let out = program_formula::put_refused(pass.out, room, number, refusal.no);
                 behind(told_apart(pass, false), length, lines, out)
             }
         }
