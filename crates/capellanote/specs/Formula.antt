@@ -1,5 +1,5 @@
 -- The answer of the comparison of a formula: what the array holds, and what it tells in the words of the rules.
-use Rattle.std.specs.Prelude.{ℕ, ◌≤◌, ◌≡◌, List, [], ◌∷◌, length, ℤ}
+use Rattle.std.specs.Prelude.{Result, Ok, Err, ℕ, ◌≤◌, ◌≡◌, List, [], ◌∷◌, length, ℤ}
 use Rattle.std.proofs.Common.{arith, sym, ◌∙◌, subst}
 use Rattle.std.proofs.Math.Path.{refl, ap}
 use Rattle.text.specs.Text.{Bytes, Line}
@@ -7,7 +7,7 @@ use Rattle.judge_file.specs.Verdict.{accepted, refused, mapped}
 use Rattle.judge_file.specs.SameVerdict.{accepted_refused, same_numbers}
 use Rattle.formula_rules.specs.Verdict.{Judged}
 use Rattle.formula_rules.specs.Verdict as W
-use Rattle.formula_record.specs.declared.Compared.{Compared}
+use Rattle.judge_file.specs.declared.TextRefusal.{TextRefusal}
 use Rattle.formula_record.specs.Said.{Said}
 use Rattle.formula_record.specs.Promise.{Compares, ComparePromise}
 use Rattle.formula_record.specs.Agree.{record_number}
@@ -15,24 +15,24 @@ use Rattle.capellanote.specs.Answer.{number, by_first, first_refused}
 use Rattle.capellanote.specs.Read.{by_room_lem}
 
 -- 0, elements that differ, 0
-unfoldable pub compared_numbers : Compared → List ℕ
-compared_numbers (Compared.Differ count) = 0 ∷ (count ∷ (0 ∷ []))
-compared_numbers (Compared.Refused e i column) = e ∷ (i ∷ (column ∷ []))
+unfoldable pub compared_numbers : Result ℕ TextRefusal → List ℕ
+compared_numbers (Ok count) = 0 ∷ (count ∷ (0 ∷ []))
+compared_numbers (Err r) = r.no ∷ (r.line ∷ (r.column ∷ []))
 
 -- what an array tells
-unfoldable pub compared_told : List ℕ → Compared
-compared_told a = by_first (number a 0) (Compared.Differ (number a 1)) (λ e. Compared.Refused e (number a 1) (number a 2))
+unfoldable pub compared_told : List ℕ → Result ℕ TextRefusal
+compared_told a = by_first (number a 0) (Ok (number a 1)) (λ e. Err (record { no = e; line = (number a 1); column = (number a 2) }))
 
 -- ---- The array, of the answer
 
-module _ (r : Compared) where
-  pub compared_differ : (count : ℕ) → r ≡ Compared.Differ count → 0 ∷ (count ∷ (0 ∷ [])) ≡ compared_numbers r
+module _ (r : Result ℕ TextRefusal) where
+  pub compared_differ : (count : ℕ) → r ≡ Ok count → 0 ∷ (count ∷ (0 ∷ [])) ≡ compared_numbers r
   unfolding compared_numbers
   compared_differ count h = ap compared_numbers (sym h)
 
-  pub compared_refused : (e i column : ℕ) → r ≡ Compared.Refused e i column → e ∷ (i ∷ (column ∷ [])) ≡ compared_numbers r
+  pub compared_refused : (f : TextRefusal) → r ≡ Err f → f.no ∷ (f.line ∷ (f.column ∷ [])) ≡ compared_numbers r
   unfolding compared_numbers
-  compared_refused e i column h = ap compared_numbers (sym h)
+  compared_refused f h = ap compared_numbers (sym h)
 
 pub ruleset compared_array = (compared_differ, compared_refused)
 
@@ -55,17 +55,17 @@ told_number s e i column (accepted ds) c h = accepted_refused (sym h)
 told_number s e i column (refused n j d) c h = let z = same_numbers h in omega (arith, z.0, said_number c)
 
 module _ (s : Bytes) (ta tb : List ℤ) (f : List ℕ) where
-  numbered : (e i column : ℕ) (ta' tb' : List ℤ) (f' : List ℕ) → ComparePromise s ta tb f (Compared.Refused e i column) ta' tb' f' → 1 ≤ e
-  numbered e i column ta' tb' f' p =
-      by_room_lem ta tb (λ y. let w = p.compares y in told_number s e i column w.0 w.1 w.2) (λ n. let z = same_numbers (p.no_room n).0 in omega (arith, z.0))
+  numbered : (r : TextRefusal) (ta' tb' : List ℤ) (f' : List ℕ) → ComparePromise s ta tb f (Err r) ta' tb' f' → 1 ≤ r.no
+  numbered r ta' tb' f' p =
+      by_room_lem ta tb (λ y. let w = p.compares y in told_number s r.no r.line r.column w.0 w.1 w.2) (λ n. let z = same_numbers (p.no_room n).0 in omega (arith, z.0))
 
-  tells : (r : Compared) (ta' tb' : List ℤ) (f' : List ℕ) → ComparePromise s ta tb f r ta' tb' f' → compared_told (compared_numbers r) ≡ r
+  tells : (r : Result ℕ TextRefusal) (ta' tb' : List ℤ) (f' : List ℕ) → ComparePromise s ta tb f r ta' tb' f' → compared_told (compared_numbers r) ≡ r
   unfolding compared_numbers compared_told
-  tells (Compared.Differ count) ta' tb' f' p = refl
-  tells (Compared.Refused e i column) ta' tb' f' p = first_refused e (Compared.Differ i) (λ (n : ℕ). Compared.Refused n i column) (numbered e i column ta' tb' f' p)
+  tells (Ok count) ta' tb' f' p = refl
+  tells (Err w) ta' tb' f' p = first_refused w.no (Ok w.line) (λ (n : ℕ). Err (record { no = n; line = w.line; column = w.column })) (numbered w ta' tb' f' p)
 
-  pub compared_told_lem : (r : Compared) (ta' tb' : List ℤ) (f' out : List ℕ) → out ≡ compared_numbers r → ComparePromise s ta tb f r ta' tb' f' → ComparePromise s ta tb f (compared_told out) ta' tb' f'
-  compared_told_lem r ta' tb' f' out e p = subst (λ (x : Compared). ComparePromise s ta tb f x ta' tb' f') (sym (ap compared_told e ∙ tells r ta' tb' f' p)) p
+  pub compared_told_lem : (r : Result ℕ TextRefusal) (ta' tb' : List ℤ) (f' out : List ℕ) → out ≡ compared_numbers r → ComparePromise s ta tb f r ta' tb' f' → ComparePromise s ta tb f (compared_told out) ta' tb' f'
+  compared_told_lem r ta' tb' f' out e p = subst (λ (x : Result ℕ TextRefusal). ComparePromise s ta tb f x ta' tb' f') (sym (ap compared_told e ∙ tells r ta' tb' f' p)) p
 
-pub compared_held : (x y : Compared) (out : List ℕ) → out ≡ compared_numbers x → x ≡ y → out ≡ compared_numbers y
+pub compared_held : (x y : Result ℕ TextRefusal) (out : List ℕ) → out ≡ compared_numbers x → x ≡ y → out ≡ compared_numbers y
 compared_held x y out e h = e ∙ ap compared_numbers h

@@ -4,14 +4,14 @@ ghost use Rattle.compare_files.specs.Compare.{Work, compared_for, answer_by};
 ghost use Rattle.compare_files.specs.Promise.{Promise};
 ghost use Rattle.capellanote.specs.Compare.{files_numbers, files_told};
 
-use compare_files::Compared;
+use judge_file::TextRefusal;
 
-fn of_files(r: Compared) -> [u64; 3]
+fn of_files(r: Result<usize, TextRefusal>) -> [u64; 3]
     ensures { result ≡ files_numbers r }
 {
     match r {
-        Compared::Done { count } => [0, count as u64, 0],
-        Compared::Refused { no, line, column } => [no as u64, line as u64, column as u64],
+        Ok(count) => [0, count as u64, 0],
+        Err(TextRefusal { no, line, column }) => [no as u64, line as u64, column as u64],
     }
 }
 

@@ -6,14 +6,14 @@ ghost use Rattle.formula_record.specs.Promise.{ComparePromise};
 ghost use Rattle.capellanote.specs.Formula.{compared_numbers, compared_told};
 
 use formula_drawn::FOUND;
-use formula_record::Compared;
+use judge_file::TextRefusal;
 
-fn of_compared(r: Compared) -> [u64; 3]
+fn of_compared(r: Result<usize, TextRefusal>) -> [u64; 3]
     ensures { result ≡ compared_numbers r }
 {
     match r {
-        Compared::Differ { count } => [0, count as u64, 0],
-        Compared::Refused { no, line, column } => [no as u64, line as u64, column as u64],
+        Ok(count) => [0, count as u64, 0],
+        Err(TextRefusal { no, line, column }) => [no as u64, line as u64, column as u64],
     }
 }
 

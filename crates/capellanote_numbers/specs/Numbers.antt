@@ -12,7 +12,6 @@ use Rattle.reader_cursor.specs.declared.Cursor.{Cursor}
 use Rattle.reader_file.specs.declared.Next.{Next}
 use Rattle.reader_feed.specs.declared.Counter.{Counter}
 use Rattle.reader_feed.specs.declared.Fed.{Fed}
-use Rattle.writer_record.specs.declared.Written.{Written}
 use Rattle.writer_answer.specs.declared.Copied.{Copied}
 use Rattle.writer_answer.specs.declared.Catalogue.{Catalogue}
 
@@ -74,18 +73,18 @@ pub ruleset found_array = (found_item, found_refused)
 -- ---- The writing of a record
 
 -- 0, length, 0
-unfoldable pub written_numbers : Written → List ℕ
-written_numbers (Written.Done length) = 0 ∷ (length ∷ (0 ∷ []))
-written_numbers (Written.Refused e i column) = e ∷ (i ∷ (column ∷ []))
+unfoldable pub written_numbers : Result ℕ TextRefusal → List ℕ
+written_numbers (Ok length) = 0 ∷ (length ∷ (0 ∷ []))
+written_numbers (Err r) = r.no ∷ (r.line ∷ (r.column ∷ []))
 
-module _ (x : Written) where
-  pub written_done : (length : ℕ) → x ≡ Written.Done length → 0 ∷ (length ∷ (0 ∷ [])) ≡ written_numbers x
+module _ (x : Result ℕ TextRefusal) where
+  pub written_done : (length : ℕ) → x ≡ Ok length → 0 ∷ (length ∷ (0 ∷ [])) ≡ written_numbers x
   unfolding written_numbers
   written_done length h = ap written_numbers (sym h)
 
-  pub written_refused : (e i column : ℕ) → x ≡ Written.Refused e i column → e ∷ (i ∷ (column ∷ [])) ≡ written_numbers x
+  pub written_refused : (r : TextRefusal) → x ≡ Err r → r.no ∷ (r.line ∷ (r.column ∷ [])) ≡ written_numbers x
   unfolding written_numbers
-  written_refused e i column h = ap written_numbers (sym h)
+  written_refused r h = ap written_numbers (sym h)
 
 pub ruleset written_array = (written_done, written_refused)
 

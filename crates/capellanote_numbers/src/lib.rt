@@ -13,7 +13,6 @@ use reader_feed::Fed;
 use reader_file::Next;
 use reader_item::Found;
 use writer_answer::{Catalogue, Copied};
-use writer_record::Written;
 
 pub fn of_check(a: Result<usize, TextRefusal>) -> [u64; 3]
     ensures { result ≡ check_numbers (numbers_of a) }
@@ -75,12 +74,12 @@ pub fn of_found(f: Found) -> [u64; 3]
     }
 }
 
-pub fn of_written(w: Written) -> [u64; 3]
+pub fn of_written(w: Result<usize, TextRefusal>) -> [u64; 3]
     ensures { result ≡ written_numbers w }
 {
     match w {
-        Written::Done { length } => [0, length as u64, 0],
-        Written::Refused { no, line, column } => [no as u64, line as u64, column as u64],
+        Ok(length) => [0, length as u64, 0],
+        Err(TextRefusal { no, line, column }) => [no as u64, line as u64, column as u64],
     }
 }
 

@@ -1,5 +1,5 @@
 -- What comes of two files and a lent list: all differences, or the first refusal; from that the answer, and what the list and the work tables then hold.
-use Rattle.std.specs.Prelude.{ℕ, ◌*◌, List, [], ◌++◌, Bool, cond, ◌&&◌, leb, length, drop, ℤ}
+use Rattle.std.specs.Prelude.{Result, Ok, Err, ℕ, ◌*◌, List, [], ◌++◌, Bool, cond, ◌&&◌, leb, length, drop, ℤ}
 use Rattle.text.specs.Text.{Bytes}
 use Rattle.rules.specs.Record.{Raw, limit, atom_places, bond_places}
 use Rattle.judge_file.specs.Place.{sdfile}
@@ -8,7 +8,7 @@ use Rattle.reader_answer.specs.Read.{rows_in}
 use Rattle.compare_rules.specs.Differences.{Difference}
 use Rattle.compare_rules.specs.Files.{files_apart}
 use Rattle.compare_rules.specs.Listed.{flat}
-use Rattle.compare_files.specs.declared.Compared.{Compared}
+use Rattle.judge_file.specs.declared.TextRefusal.{TextRefusal}
 
 -- ---- One test after the other
 
@@ -49,9 +49,9 @@ compared_for w a b k = cond (roomy w) (files_for a b k) (refused 2 0 0)
 
 -- ---- The answer, the list, the work tables
 
-abbrev pub answer_by : Verdict (List Difference) → Compared
-answer_by (accepted ds) = Compared.Done (length ds)
-answer_by (refused e line column) = Compared.Refused e line column
+abbrev pub answer_by : Verdict (List Difference) → Result ℕ TextRefusal
+answer_by (accepted ds) = Ok (length ds)
+answer_by (refused e line column) = Err (record { no = e; line = line; column = column })
 
 -- the differences at the front and all else as it was; after a refusal, all as it was
 abbrev pub list_by : List ℤ → Verdict (List Difference) → List ℤ

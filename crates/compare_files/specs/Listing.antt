@@ -1,5 +1,5 @@
 -- Counted, then listed; judged before, and the work tables emptied behind: laws for the code.
-use Rattle.std.specs.Prelude.{ℕ, ◌+◌, ◌*◌, ◌/◌, ◌≤◌, ◌<◌, ◌^◌, List, [], ◌∷◌, ◌++◌, Bool, leb, length, drop, ℤ}
+use Rattle.std.specs.Prelude.{Result, Ok, Err, ℕ, ◌+◌, ◌*◌, ◌/◌, ◌≤◌, ◌<◌, ◌^◌, List, [], ◌∷◌, ◌++◌, Bool, leb, length, drop, ℤ}
 use Rattle.std.proofs.Common.{arith, sym, ap, ap₂, ◌∙◌, subst, length-append}
 use Rattle.std.proofs.Math.Path.{◌≡◌, refl}
 use Rattle.std.proofs.Math.Bool.{true, false, cond}
@@ -17,7 +17,7 @@ use Rattle.compare_rules.specs.Differences.{Difference, row}
 use Rattle.compare_rules.specs.Files.{files_apart}
 use Rattle.compare_rules.specs.Log.{Log, log, seen, noted}
 use Rattle.compare_rules.specs.Listed.{flat, stored_exact, room_told}
-use Rattle.compare_files.specs.declared.Compared.{Compared}
+use Rattle.judge_file.specs.declared.TextRefusal.{TextRefusal}
 use Rattle.compare_files.specs.declared.Judged.{Judged}
 use Rattle.compare_files.specs.Compare.{within, first, files_for, Work, work, answer_by, list_by, emptied}
 use Rattle.compare_files.specs.Judging.{judged_by, short_by}
@@ -65,7 +65,7 @@ module _ (a : Bytes) (n : ℕ) (b : Bytes) (m : ℕ) (w : Work) (g : GoodFiles a
             go true e = absurd (f (leb-true (7 * length ds) (length l) e))
             go false e = leb-false (7 * length ds) (length l) e
 
-    pub list_short : Compared.Refused 39 0 0 ≡ answer_by (files_for a b (length l))
+    pub list_short : Err (record { no = 39; line = 0; column = 0 }) ≡ answer_by (files_for a b (length l))
     list_short = sym (ap answer_by short)
 
     pub list_kept : l ≡ list_by l (files_for a b (length l))
@@ -85,8 +85,8 @@ module _ (a : Bytes) (n : ℕ) (b : Bytes) (m : ℕ) (w : Work) (g : GoodFiles a
         ∙ stored_exact l 0 ds (omega (arith, fits)) (omega (arith, small))
         ∙ ap (λ (k : ℕ). log (sets l 0 (flat ds)) (seen k)) z
 
-    pub list_done : Compared.Done r'.seen ≡ answer_by (files_for a b (length l))
-    list_done = ap (λ (f : Log). Compared.Done f.count.seen) all ∙ sym (ap answer_by long)
+    pub list_done : Ok r'.seen ≡ answer_by (files_for a b (length l))
+    list_done = ap (λ (f : Log). Ok f.count.seen) all ∙ sym (ap answer_by long)
 
     pub list_written : l' ≡ list_by l (files_for a b (length l))
     list_written =
@@ -123,7 +123,7 @@ module _ (a b : Bytes) (j : Judged) (ej : j ≡ judged_by (verdict sdfile limit 
             let t : d ≡ c = cc in
             rw (o, s, t)
 
-    pub judged_bad : Compared.Refused e i c ≡ answer_by (files_for a b (length l))
+    pub judged_bad : Err (record { no = e; line = i; column = c }) ≡ answer_by (files_for a b (length l))
     judged_bad = sym (ap answer_by stopped)
 
     pub judged_kept : l ≡ list_by l (files_for a b (length l))
@@ -159,10 +159,10 @@ module _ (ta tb ua ub : List ℤ) (t : Bool) (et : t ≡ short_by (length ta) (l
           }
 
 module _ (a b : Bytes) (ta tb ua ub l : List ℤ) (t : Bool) (et : t ≡ short_by (length ta) (length tb) (length ua) (length ub)) where
-  pub files_short : t ≡ true → Promise a b (work ta tb ua ub) l (Compared.Refused 2 0 0) (work ta tb ua ub) l
+  pub files_short : t ≡ true → Promise a b (work ta tb ua ub) l (Err (record { no = 2; line = 0; column = 0 })) (work ta tb ua ub) l
   files_short h = promise_short a b (work ta tb ua ub) l (short_rooms ta tb ua ub t et h)
 
-  pub files_long : t ≡ false → (r : Compared) (l' ta' tb' ua' ub' ta'' tb'' ua'' ub'' : List ℤ) →
+  pub files_long : t ≡ false → (r : Result ℕ TextRefusal) (l' ta' tb' ua' ub' ta'' tb'' ua'' ub'' : List ℤ) →
       r ≡ answer_by (files_for a b (length l)) → l' ≡ list_by l (files_for a b (length l)) →
       Kept (work ta tb ua ub) (work ta' tb' ua' ub') → ta'' ≡ zeroed ta' 0 atom_places → tb'' ≡ zeroed tb' 0 bond_places → ua'' ≡ zeroed ua' 0 atom_places → ub'' ≡ zeroed ub' 0 bond_places →
       Promise a b (work ta tb ua ub) l r (work ta'' tb'' ua'' ub'') l'

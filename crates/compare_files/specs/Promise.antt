@@ -1,6 +1,6 @@
 -- What comparing two files promises, in the words of the rules: when all differences are listed, what then stands in the list, and what each refusal means.
 -- For every two files, and whatever list and work tables were lent, there is one answer and one memory after it.
-use Rattle.std.specs.Prelude.{ℕ, zero, suc, ◌+◌, ◌*◌, ◌≤◌, ◌<◌, ◌≡◌, ◌↔◌, Bool, ltb, drop, ℤ}
+use Rattle.std.specs.Prelude.{Result, Ok, Err, ℕ, zero, suc, ◌+◌, ◌*◌, ◌≤◌, ◌<◌, ◌≡◌, ◌↔◌, Bool, ltb, drop, ℤ}
 use Rattle.std.proofs.Common.{arith, sym, ap₂, ◌∙◌, leb-true, leb-false, le-leb}
 use Rattle.std.proofs.Math.Path.{refl, ap}
 use Rattle.std.proofs.Math.Bool.{true, false, cond}
@@ -24,27 +24,27 @@ use Rattle.compare_rules.specs.Differences.{Difference, exchanged}
 use Rattle.compare_rules.specs.Files.{files_apart}
 use Rattle.compare_rules.proofs.Files.{none_same_files, exchange_files}
 use Rattle.compare_rules.specs.Listed.{flat}
-use Rattle.compare_files.specs.declared.Compared.{Compared}
+use Rattle.judge_file.specs.declared.TextRefusal.{TextRefusal}
 use Rattle.compare_files.specs.Compare.{within, first, files_for, Work, roomy, compared_for, answer_by, list_by, emptied, work_after}
 
 -- ---- What an answer says: how many differences, or number, line and column of a refusal
 
-abbrev pub numbers_of : Compared → Verdict ℕ
-numbers_of (Compared.Done count) = accepted count
-numbers_of (Compared.Refused e line column) = refused e line column
+abbrev pub numbers_of : Result ℕ TextRefusal → Verdict ℕ
+numbers_of (Ok count) = accepted count
+numbers_of (Err r) = refused r.no r.line r.column
 
-back_of : Verdict ℕ → Compared
-back_of (accepted count) = Compared.Done count
-back_of (refused e line column) = Compared.Refused e line column
+back_of : Verdict ℕ → Result ℕ TextRefusal
+back_of (accepted count) = Ok count
+back_of (refused e line column) = Err (record { no = e; line = line; column = column })
 
 -- two answers that say the same are the same
-same_answer : (r s : Compared) → numbers_of r ≡ numbers_of s → r ≡ s
+same_answer : (r s : Result ℕ TextRefusal) → numbers_of r ≡ numbers_of s → r ≡ s
 unfolding back_of
 same_answer r s e = sym (back r) ∙ ap back_of e ∙ back s
   where
-    back : (r : Compared) → back_of (numbers_of r) ≡ r
-    back (Compared.Done count) = refl
-    back (Compared.Refused e line column) = refl
+    back : (r : Result ℕ TextRefusal) → back_of (numbers_of r) ≡ r
+    back (Ok count) = refl
+    back (Err f) = refl
 
 -- ---- The promise
 
@@ -61,7 +61,7 @@ pub data Refusal (a b : Bytes) (w : Work) (k : ℕ) : ℕ → ℕ → ℕ → Ty
   list : {xs ys : List Raw} → Rooms w → GoodSDfile a xs → GoodSDfile b ys → k < 7 * length (files_apart xs ys) → Refusal a b w k 39 0 0
 
 -- tables w₀ and list l₀ were lent, r is the answer, and they are then w and l
-pub record Promise (a b : Bytes) (w₀ : Work) (l₀ : List ℤ) (r : Compared) (w : Work) (l : List ℤ) : Type 0 where
+pub record Promise (a b : Bytes) (w₀ : Work) (l₀ : List ℤ) (r : Result ℕ TextRefusal) (w : Work) (l : List ℤ) : Type 0 where
   pub answer : r ≡ answer_by (compared_for w₀ a b (length l₀))
   pub list : l ≡ list_by l₀ (compared_for w₀ a b (length l₀))
   pub tables : w ≡ work_after w₀
@@ -76,13 +76,13 @@ pub record Promise (a b : Bytes) (w₀ : Work) (l₀ : List ℤ) (r : Compared) 
   pub kept : ¬ Rooms w₀ → w ≡ w₀
 
 -- no two answers, and no two memories
-pub one_promise : {a b : Bytes} {w₀ : Work} {l₀ : List ℤ} {r s : Compared} {w v : Work} {l m : List ℤ} →
+pub one_promise : {a b : Bytes} {w₀ : Work} {l₀ : List ℤ} {r s : Result ℕ TextRefusal} {w v : Work} {l m : List ℤ} →
     Promise a b w₀ l₀ r w l → Promise a b w₀ l₀ s v m → (r ≡ s) × (w ≡ v) × (l ≡ m)
 one_promise p q = (p.answer ∙ sym q.answer, p.tables ∙ sym q.tables, p.list ∙ sym q.list)
 
 -- ---- What follows from it, for two good files and enough room
 
-module _ {a b : Bytes} {w₀ : Work} {l₀ : List ℤ} {r : Compared} {w : Work} {l : List ℤ} (p : Promise a b w₀ l₀ r w l) (rooms : Rooms w₀) (xs ys : List Raw)
+module _ {a b : Bytes} {w₀ : Work} {l₀ : List ℤ} {r : Result ℕ TextRefusal} {w : Work} {l : List ℤ} (p : Promise a b w₀ l₀ r w l) (rooms : Rooms w₀) (xs ys : List Raw)
     (ga : GoodSDfile a xs) (gb : GoodSDfile b ys) where
   -- no difference exactly if the readings are the same
   pub none_alike : (numbers_of r ≡ accepted 0) ↔ (map meaning xs ≡ map meaning ys)
@@ -104,7 +104,7 @@ module _ {a b : Bytes} {w₀ : Work} {l₀ : List ℤ} {r : Compared} {w : Work}
           (p.done 0).1 (xs, ys, rooms, ga, gb, sym (ap length n), omega arith)
 
   -- the other way round: as many, with their sides exchanged
-  pub turned_alike : {v₀ v : Work} {m₀ m : List ℤ} {s : Compared} → Promise b a v₀ m₀ s v m → Rooms v₀ →
+  pub turned_alike : {v₀ v : Work} {m₀ m : List ℤ} {s : Result ℕ TextRefusal} → Promise b a v₀ m₀ s v m → Rooms v₀ →
       7 * length (files_apart xs ys) ≤ length l₀ → 7 * length (files_apart xs ys) ≤ length m₀ →
       (r ≡ s) × (l ≡ flat (files_apart xs ys) ++ drop (7 * length (files_apart xs ys)) l₀)
       × (m ≡ flat (map exchanged (files_apart xs ys)) ++ drop (7 * length (files_apart xs ys)) m₀)
@@ -226,7 +226,7 @@ list_by_lem l n j d (accepted ds) q = accepted_refused q
 list_by_lem l n j d (refused e i c) q = refl
 
 module _ (a b : Bytes) (w₀ : Work) (l₀ : List ℤ) where
-  promise : (r : Compared) (w : Work) (l : List ℤ) → r ≡ answer_by (compared_for w₀ a b (length l₀)) → l ≡ list_by l₀ (compared_for w₀ a b (length l₀)) → w ≡ work_after w₀ → Promise a b w₀ l₀ r w l
+  promise : (r : Result ℕ TextRefusal) (w : Work) (l : List ℤ) → r ≡ answer_by (compared_for w₀ a b (length l₀)) → l ≡ list_by l₀ (compared_for w₀ a b (length l₀)) → w ≡ work_after w₀ → Promise a b w₀ l₀ r w l
   unfolding work_after
   promise r w l e f g =
       let k = length l₀ in
@@ -248,13 +248,13 @@ module _ (a b : Bytes) (w₀ : Work) (l₀ : List ℤ) where
         kept = λ y. g ∙ ap (λ (t : Bool). cond t (emptied w₀) w₀) (roomy_false w₀ y);
       }
 
-  pub promise_short : ¬ Rooms w₀ → Promise a b w₀ l₀ (Compared.Refused 2 0 0) w₀ l₀
+  pub promise_short : ¬ Rooms w₀ → Promise a b w₀ l₀ (Err (record { no = 2; line = 0; column = 0 })) w₀ l₀
   unfolding work_after
   promise_short h =
       let v = by_tables a b w₀ (length l₀) h in
-      promise (Compared.Refused 2 0 0) w₀ l₀ (sym (ap answer_by v)) (sym (ap (list_by l₀) v)) (sym (ap (λ (t : Bool). cond t (emptied w₀) w₀) (roomy_false w₀ h)))
+      promise (Err (record { no = 2; line = 0; column = 0 })) w₀ l₀ (sym (ap answer_by v)) (sym (ap (list_by l₀) v)) (sym (ap (λ (t : Bool). cond t (emptied w₀) w₀) (roomy_false w₀ h)))
 
-  pub promise_long : Rooms w₀ → (r : Compared) (l : List ℤ) → r ≡ answer_by (files_for a b (length l₀)) → l ≡ list_by l₀ (files_for a b (length l₀)) → Promise a b w₀ l₀ r (emptied w₀) l
+  pub promise_long : Rooms w₀ → (r : Result ℕ TextRefusal) (l : List ℤ) → r ≡ answer_by (files_for a b (length l₀)) → l ≡ list_by l₀ (files_for a b (length l₀)) → Promise a b w₀ l₀ r (emptied w₀) l
   unfolding work_after compared_for
   promise_long y r l e f =
       let t = (roomy_agrees w₀).1 y in

@@ -19,13 +19,6 @@ use reader_cursor::Cursor;
 use reader_record::RecordRead;
 use rules::{ATOMS, BONDS};
 
-// What is answered: the number of differences, or the first refusal.
-#[derive(Drop)]
-pub enum Compared {
-    Done { count: usize },
-    Refused { no: u8, line: usize, column: usize },
-}
-
 // Both files, judged: the number of records of either.
 #[derive(Drop)]
 enum Judged {
@@ -279,7 +272,7 @@ fn list_files(
     ua: &mut [i32],
     ub: &mut [i32],
     list: &mut [i64],
-) -> Compared
+) -> Result<usize, TextRefusal>
     requires { GoodFiles old.now n new.now m (work ta.old tb.old ua.old ub.old) }
     ensures value { result ≡ answer_by (files_for old.now new.now (length list.old)) }
     ensures list_after { list.new ≡ list_by list.old (files_for old.now new.now (length list.old)) }
@@ -288,14 +281,14 @@ fn list_files(
     let mut none = [0i64; 1];
     let counted = files_apart(old, n, new, m, ta, tb, ua, ub, &mut none);
     if list.len() / 7 < counted.seen {
-        return Compared::Refused {
+        return Err(TextRefusal {
             no: 39,
             line: 0,
             column: 0,
-        };
+        });
     }
     let listed = files_apart(old, n, new, m, ta, tb, ua, ub, list);
-    Compared::Done { count: listed.seen }
+    Ok(listed.seen)
 }
 
 // Two files, with work tables that have room.
@@ -307,7 +300,7 @@ fn compare_judged(
     ua: &mut [i32],
     ub: &mut [i32],
     list: &mut [i64],
-) -> Compared
+) -> Result<usize, TextRefusal>
     requires { Rooms (work ta.old tb.old ua.old ub.old) }
     ensures value { result ≡ answer_by (files_for old.now new.now (length list.old)) }
     ensures list_after { list.new ≡ list_by list.old (files_for old.now new.now (length list.old)) }
@@ -315,7 +308,7 @@ fn compare_judged(
 {
     match judge(old, new) {
         Judged::Good { old: n, new: m } => list_files(old, n, new, m, ta, tb, ua, ub, list),
-        Judged::Bad { no, line, column } => Compared::Refused { no, line, column },
+        Judged::Bad { no, line, column } => Err(TextRefusal { no, line, column }),
     }
 }
 
@@ -345,15 +338,15 @@ pub fn compare_files(
     ua: &mut [i32],
     ub: &mut [i32],
     list: &mut [i64],
-) -> Compared
+) -> Result<usize, TextRefusal>
     ensures { Promise old.now new.now (work ta.old tb.old ua.old ub.old) list.old result (work ta.new tb.new ua.new ub.new) list.new }
 {
     if is_short(ta.len(), tb.len(), ua.len(), ub.len()) {
-        return Compared::Refused {
+        return Err(TextRefusal {
             no: 2,
             line: 0,
             column: 0,
-        };
+        });
     }
     let answer = compare_judged(old, new, ta, tb, ua, ub, list);
     reader_clear::zero_rows(ta, 0, ATOMS);

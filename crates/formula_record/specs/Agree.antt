@@ -1,5 +1,5 @@
 -- What is said keeps the promise, and nothing else does.
-use Rattle.std.specs.Prelude.{ℕ, ◌*◌, ◌≤◌, ◌<◌, ◌≡◌, List, [], ◌∷◌, Bool, true, false, cond, ◌&&◌, leb, length, ℤ}
+use Rattle.std.specs.Prelude.{Result, Err, ℕ, ◌*◌, ◌≤◌, ◌<◌, ◌≡◌, List, [], ◌∷◌, Bool, true, false, cond, ◌&&◌, leb, length, ℤ}
 use Rattle.std.proofs.Common.{arith, sym, ap, ◌∙◌, subst, le-leb, leb-true}
 use Rattle.std.proofs.Math.Path.{refl}
 use Rattle.text.specs.Text.{Bytes, Line}
@@ -29,7 +29,7 @@ use Rattle.formula_drawn.specs.Drawn.{only_elements, how_many}
 use Rattle.formula_record.specs.Said.{Said, formula_name, symbols, Value, nowhere, none, first, value_in, value_of, by_verdict, by_value, by_outcome, said_of, told_of, found_in, room, answer_of, found_after}
 use Rattle.formula_record.specs.Promise.{numbers_of, OnlyElements, Compares, ComparePromise}
 use Rattle.formula_record.specs.Values.{Valued, valued, value_none, value_first, only_elements_lem, elements_only}
-use Rattle.formula_record.specs.declared.Compared.{Compared}
+use Rattle.judge_file.specs.declared.TextRefusal.{TextRefusal}
 
 -- ---- A good record
 
@@ -129,7 +129,7 @@ module _ (ta tb : List ℤ) where
       go true e = absurd (n (has_room e))
       go false e = e
 
-pub promised : (s : Bytes) (ta tb : List ℤ) (f : List ℕ) (r : Compared) (ta' tb' : List ℤ) (f' : List ℕ) →
+pub promised : (s : Bytes) (ta tb : List ℤ) (f : List ℕ) (r : Result ℕ TextRefusal) (ta' tb' : List ℤ) (f' : List ℕ) →
     r ≡ answer_of (length ta) (length tb) s → f' ≡ found_after (length ta) (length tb) s f → (q : RecordRead) → ReadPromise 1 s ta tb q ta' tb' →
     ComparePromise s ta tb f r ta' tb' f'
 unfolding answer_of found_after
@@ -137,7 +137,7 @@ promised s ta tb f r ta' tb' f' er ef q p =
     record {
       tables = (q, p);
       no_room = λ n.
-          let z : r ≡ Compared.Refused 2 0 0 = er ∙ rw (without_room ta tb n) in
+          let z : r ≡ Err (record { no = 2; line = 0; column = 0 }) = er ∙ rw (without_room ta tb n) in
           (ap numbers_of z, ef ∙ rw (without_room ta tb n));
       compares = λ y.
           let z : r ≡ told_of (said_of s) = er ∙ rw (with_room ta tb y) in

@@ -1,5 +1,5 @@
 -- The promise of a comparison, in the words of the rules.
-use Rattle.std.specs.Prelude.{ℕ, ◌≤◌, ◌≡◌, List, [], ◌∷◌, length, ℤ}
+use Rattle.std.specs.Prelude.{Result, Ok, Err, ℕ, ◌≤◌, ◌≡◌, List, [], ◌∷◌, length, ℤ}
 use Rattle.text.specs.Text.{Bytes, Line, Each}
 use Rattle.rules.specs.Record.{Raw}
 use Rattle.judge_file.specs.Place.{sdfile}
@@ -15,12 +15,12 @@ use Rattle.formula_rules.specs.Verdict.{counts, Judged, differences}
 use Rattle.formula_rules.specs.Verdict as W
 use Rattle.formula_drawn.specs.Drawn.{how_many}
 use Rattle.formula_record.specs.Said.{Said, formula_name, symbols, found_in}
-use Rattle.formula_record.specs.declared.Compared.{Compared}
+use Rattle.judge_file.specs.declared.TextRefusal.{TextRefusal}
 
 -- what an answer says: how many elements differ, or number, line and column of a refusal
-abbrev pub numbers_of : Compared → Verdict ℕ
-numbers_of (Compared.Differ count) = accepted count
-numbers_of (Compared.Refused e line column) = refused e line column
+abbrev pub numbers_of : Result ℕ TextRefusal → Verdict ℕ
+numbers_of (Ok count) = accepted count
+numbers_of (Err r) = refused r.no r.line r.column
 
 abbrev pub OnlyElements : List ℕ → Type 0
 OnlyElements ks = Each (λ k. k ≤ elements) ks
@@ -38,7 +38,7 @@ pub data Compares (s : Bytes) : Said → Type 0 where
       OnlyElements (symbols x.molecule.atoms) → Compares s (accepted (differences (count_trees ts) (how_many (symbols x.molecule.atoms))))
 
 -- The tables are as a reading of the record leaves them. Without room nothing changes; with room the list is what is said, zeros behind it, and after a refusal all zeros.
-pub record ComparePromise (s : Bytes) (ta tb : List ℤ) (f : List ℕ) (r : Compared) (ta' tb' : List ℤ) (f' : List ℕ) : Type 0 where
+pub record ComparePromise (s : Bytes) (ta tb : List ℤ) (f : List ℕ) (r : Result ℕ TextRefusal) (ta' tb' : List ℤ) (f' : List ℕ) : Type 0 where
   pub tables : (q : RecordRead) × ReadPromise 1 s ta tb q ta' tb'
   pub no_room : ¬ Roomy ta tb → (numbers_of r ≡ refused 2 0 0) × (f' ≡ f)
   pub compares : Roomy ta tb → (w : Said) × Compares s w × (numbers_of r ≡ mapped length w) × (f' ≡ found_in w)

@@ -1,5 +1,5 @@
 -- What a comparison says of a text, and what it leaves in the list.
-use Rattle.std.specs.Prelude.{ℕ, ◌*◌, List, [], ◌∷◌, map, Bool, cond, ◌&&◌, leb, length, replicate}
+use Rattle.std.specs.Prelude.{Result, Ok, Err, ℕ, ◌*◌, List, [], ◌∷◌, map, Bool, cond, ◌&&◌, leb, length, replicate}
 use Rattle.std.proofs.lemmas.List.Edits.{sets}
 use Rattle.text.specs.Text.{Bytes, Line, bytes}
 use Rattle.text.specs.Find.{same_bytes}
@@ -15,7 +15,7 @@ use Rattle.formula_rules.specs.Verdict.{Verdict, counts, Difference, differences
 use Rattle.formula_rules.specs.Verdict as W
 use Rattle.formula_rules.specs.Judged.{verdict_of}
 use Rattle.formula_drawn.specs.Drawn.{only_elements, how_many}
-use Rattle.formula_record.specs.declared.Compared.{Compared}
+use Rattle.judge_file.specs.declared.TextRefusal.{TextRefusal}
 
 abbrev pub Said : Type 0
 Said = J.Verdict (List Difference)
@@ -61,9 +61,9 @@ said_of s = by_outcome (outcome_of sdfile s)
 
 -- ---- The answer and the list
 
-abbrev pub told_of : Said → Compared
-told_of (accepted ds) = Compared.Differ (length ds)
-told_of (refused e i column) = Compared.Refused e i column
+abbrev pub told_of : Said → Result ℕ TextRefusal
+told_of (accepted ds) = Ok (length ds)
+told_of (refused e i column) = Err (record { no = e; line = i; column = column })
 
 -- kept shut, for it computes
 unfoldable pub zeros : List ℕ
@@ -77,8 +77,8 @@ found_in (refused e i column) = zeros
 abbrev pub room : ℕ → ℕ → Bool
 room la lb = leb (16 * limit) la && leb (6 * limit) lb
 
-unfoldable pub answer_of : ℕ → ℕ → Bytes → Compared
-answer_of la lb s = cond (room la lb) (told_of (said_of s)) (Compared.Refused 2 0 0)
+unfoldable pub answer_of : ℕ → ℕ → Bytes → Result ℕ TextRefusal
+answer_of la lb s = cond (room la lb) (told_of (said_of s)) (Err (record { no = 2; line = 0; column = 0 }))
 
 unfoldable pub found_after : ℕ → ℕ → Bytes → List ℕ → List ℕ
 found_after la lb s f = cond (room la lb) (found_in (said_of s)) f

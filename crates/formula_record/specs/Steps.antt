@@ -1,5 +1,5 @@
 -- The comparison in the facts that the code has.
-use Rattle.std.specs.Prelude.{ℕ, zero, suc, ◌+◌, ◌*◌, ◌-◌, ◌≤◌, ◌<◌, ◌≡◌, Bool, true, cond, eqb, length, take, drop, replicate, ℤ}
+use Rattle.std.specs.Prelude.{Result, Ok, Err, ℕ, zero, suc, ◌+◌, ◌*◌, ◌-◌, ◌≤◌, ◌<◌, ◌≡◌, Bool, true, cond, eqb, length, take, drop, replicate, ℤ}
 use Rattle.std.proofs.Common.{arith, sym, ap₂, ◌∙◌, subst, eq-eqb, ne_eqb}
 use Rattle.std.proofs.Math.Path.{refl, ap}
 use mathlib.Core.List.{List, [], ◌∷◌}
@@ -41,7 +41,7 @@ use Rattle.formula_record.specs.Promise.{ComparePromise}
 use Rattle.formula_record.specs.Values.{value_none, value_first}
 use Rattle.formula_record.specs.Agree.{good_said, record_number, refused_said, with_room, has_room, promised}
 use Rattle.formula_record.specs.Ready.{Ready, no_room, read_room, ready}
-use Rattle.formula_record.specs.declared.Compared.{Compared}
+use Rattle.judge_file.specs.declared.TextRefusal.{TextRefusal}
 
 -- ---- The list emptied
 
@@ -88,19 +88,19 @@ counted line h = go (verdict_of line) refl (judged line) h
     go v e (Judged.too_many f i n) q = absurd (omega arith)
 
 module _ (line : Bytes) (ks : List ℕ) {no : ℕ} (en : no ≡ number_of (verdict_of line)) where
-  pub line_refused : (no ≡ 0 → ⊥) → (f : List ℕ) → f ≡ zeros → (Compared.Refused no 0 0 ≡ told_of (by_verdict ks (verdict_of line))) × (f ≡ found_in (by_verdict ks (verdict_of line)))
+  pub line_refused : (no ≡ 0 → ⊥) → (f : List ℕ) → f ≡ zeros → (Err (record { no = no; line = 0; column = 0 }) ≡ told_of (by_verdict ks (verdict_of line))) × (f ≡ found_in (by_verdict ks (verdict_of line)))
   line_refused h f ef = go (verdict_of line) en
     where
-      go : (v : Verdict) → no ≡ number_of v → (Compared.Refused no 0 0 ≡ told_of (by_verdict ks v)) × (f ≡ found_in (by_verdict ks v))
+      go : (v : Verdict) → no ≡ number_of v → (Err (record { no = no; line = 0; column = 0 }) ≡ told_of (by_verdict ks v)) × (f ≡ found_in (by_verdict ks v))
       go (counts ts) q = absurd (h q)
-      go (W.refused n) q = (ap (λ (k : ℕ). Compared.Refused k 0 0) q, ef)
+      go (W.refused n) q = (ap (λ (k : ℕ). Err (record { no = k; line = 0; column = 0 })) q, ef)
 
   module _ (h : no ≡ 0) where
     it : Counted line
     it = counted line (sym en ∙ h)
 
     pub line_other : {b : Bool} → b ≡ only_elements ks → b ≡ false → (f : List ℕ) → f ≡ zeros →
-        (Compared.Refused 34 0 0 ≡ told_of (by_verdict ks (verdict_of line))) × (f ≡ found_in (by_verdict ks (verdict_of line)))
+        (Err (record { no = 34; line = 0; column = 0 }) ≡ told_of (by_verdict ks (verdict_of line))) × (f ≡ found_in (by_verdict ks (verdict_of line)))
     line_other eb hb f ef =
         let o : only_elements ks ≡ false = sym eb ∙ hb in
         let s : by_verdict ks (verdict_of line) ≡ refused 34 0 0 = ap (by_verdict ks) it.is ∙ rw o in
@@ -123,11 +123,11 @@ module _ (line : Bytes) (ks : List ℕ) {no : ℕ} (en : no ≡ number_of (verdi
       same = same_differing (entry w) (entry d) (count_trees it.ts) (how_many ks) 2 117 (λ j l m. (written_is j (record { low = omega arith; high = omega arith }), drawn_is j (omega arith)))
 
       pub line_differs : (c : ℕ) → c ≡ length (differences (entry w) (entry d)) → (f u : List ℕ) → f ≡ zeros → u ≡ sets f 0 (numbers (differences (entry w) (entry d))) →
-          (Compared.Differ c ≡ told_of (by_verdict ks (verdict_of line))) × (u ≡ found_in (by_verdict ks (verdict_of line)))
+          (Ok c ≡ told_of (by_verdict ks (verdict_of line))) × (u ≡ found_in (by_verdict ks (verdict_of line)))
       line_differs c ec f u ef eu =
           let o : only_elements ks ≡ true = sym eb ∙ hb in
           let s : by_verdict ks (verdict_of line) ≡ accepted (differences (entry w) (entry d)) = ap (by_verdict ks) it.is ∙ rw o (ap accepted (sym same)) in (
-            ap Compared.Differ ec ∙ sym (ap told_of s),
+            ap Ok ec ∙ sym (ap told_of s),
             eu ∙ ap (λ (x : List ℕ). sets x 0 (numbers (differences (entry w) (entry d)))) ef ∙ sym (ap found_in s),
           )
 
@@ -185,12 +185,12 @@ module _ (s : Bytes) (t : List ℤ) (n : ℕ) (d : Ready s t n) (r : FirstLine) 
         ∙ ap (λ (y : Raw). by_verdict (symbols y.molecule.atoms) (verdict_of h.l)) same
         ∙ ap₂ by_verdict (sym d.drawn) (ap verdict_of (sym h.bytes))
 
-    pub line_said : (o : Compared) (u : List ℕ) → o ≡ told_of (by_verdict (symbols_from t 0 n) (verdict_of (take (to - from) (drop from s)))) →
+    pub line_said : (o : Result ℕ TextRefusal) (u : List ℕ) → o ≡ told_of (by_verdict (symbols_from t 0 n) (verdict_of (take (to - from) (drop from s)))) →
         u ≡ found_in (by_verdict (symbols_from t 0 n) (verdict_of (take (to - from) (drop from s)))) → (o ≡ told_of (said_of s)) × (u ≡ found_in (said_of s))
     line_said o u eo eu = (eo ∙ sym (ap told_of said_line), eu ∙ sym (ap found_in said_line))
 
-  nothing_said : (i c k : ℕ) → said_of s ≡ refused i c k → (f : List ℕ) → f ≡ zeros → (Compared.Refused i c k ≡ told_of (said_of s)) × (f ≡ found_in (said_of s))
-  nothing_said i c k h f ef = (sym (ap told_of h), ef ∙ sym (ap found_in h))
+  nothing_said : (r : TextRefusal) → said_of s ≡ refused r.no r.line r.column → (f : List ℕ) → f ≡ zeros → (Err r ≡ told_of (said_of s)) × (f ≡ found_in (said_of s))
+  nothing_said r h f ef = (sym (ap told_of h), ef ∙ sym (ap found_in h))
 
   said_empty : {r : FirstLine} → FirstAt s formula_name r → r ≡ FirstLine.Empty → said_of s ≡ refused 31 0 0
   said_empty (FirstAt.line lines rec named o i e) q = absurd (let z : ◌≡◌ {A = ℕ} 0 1 = cc in omega arith)
@@ -208,19 +208,19 @@ module _ (s : Bytes) (t : List ℤ) (n : ℕ) (d : Ready s t n) (r : FirstLine) 
   said_none (FirstAt.empty lines rec named) a b c q = absurd (let z : ◌≡◌ {A = ℕ} 0 1 = cc in omega arith)
   said_none (FirstAt.refused h) a b c q = none_here h
 
-  pub empty_said : r ≡ FirstLine.Empty → (f : List ℕ) → f ≡ zeros → (Compared.Refused 31 0 0 ≡ told_of (said_of s)) × (f ≡ found_in (said_of s))
-  empty_said e f ef = nothing_said 31 0 0 (said_empty p.first e) f ef
+  pub empty_said : r ≡ FirstLine.Empty → (f : List ℕ) → f ≡ zeros → (Err (record { no = 31; line = 0; column = 0 }) ≡ told_of (said_of s)) × (f ≡ found_in (said_of s))
+  empty_said e f ef = nothing_said (record { no = 31; line = 0; column = 0 }) (said_empty p.first e) f ef
 
-  pub none_said : (e i c : ℕ) → r ≡ FirstLine.Refused e i c → (f : List ℕ) → f ≡ zeros → (Compared.Refused 22 0 0 ≡ told_of (said_of s)) × (f ≡ found_in (said_of s))
-  none_said e i c h f ef = nothing_said 22 0 0 (said_none p.first e i c h) f ef
+  pub none_said : (e i c : ℕ) → r ≡ FirstLine.Refused e i c → (f : List ℕ) → f ≡ zeros → (Err (record { no = 22; line = 0; column = 0 }) ≡ told_of (said_of s)) × (f ≡ found_in (said_of s))
+  none_said e i c h f ef = nothing_said (record { no = 22; line = 0; column = 0 }) (said_none p.first e i c h) f ef
 
 -- ---- The record
 
 module _ (s : Bytes) (ta tb : List ℤ) (f : List ℕ) (q : RecordRead) (ta' tb' : List ℤ) (p : ReadPromise 1 s ta tb q ta' tb') where
-  abbrev Kept : Compared → List ℕ → Type 0
+  abbrev Kept : Result ℕ TextRefusal → List ℕ → Type 0
   Kept r u = (r ≡ answer_of (length ta) (length tb) s) × (u ≡ found_after (length ta) (length tb) s f) × ComparePromise s ta tb f r ta' tb' u
 
-  kept : (r : Compared) (u : List ℕ) → r ≡ answer_of (length ta) (length tb) s → u ≡ found_after (length ta) (length tb) s f → Kept r u
+  kept : (r : Result ℕ TextRefusal) (u : List ℕ) → r ≡ answer_of (length ta) (length tb) s → u ≡ found_after (length ta) (length tb) s f → Kept r u
   kept r u er eu = (er, eu, promised s ta tb f r ta' tb' u er eu q p)
 
   module _ (n m chiral len k h a b : ℕ) (e : q ≡ RecordRead.Read n m chiral len k h a b) where
@@ -230,13 +230,13 @@ module _ (s : Bytes) (ta tb : List ℤ) (f : List ℕ) (q : RecordRead) (ta' tb'
     pub record_ready : Ready s ta' n
     record_ready = ready s ta tb q ta' tb' p reply (ap numbers_of e)
 
-    pub record_kept : (r : Compared) (u : List ℕ) → r ≡ told_of (said_of s) → u ≡ found_in (said_of s) → Kept r u
+    pub record_kept : (r : Result ℕ TextRefusal) (u : List ℕ) → r ≡ told_of (said_of s) → u ≡ found_in (said_of s) → Kept r u
     unfolding answer_of found_after
     record_kept r u er eu =
         let o = with_room ta tb (read_room s ta tb q ta' tb' p reply (ap numbers_of e)) in
         kept r u (er ∙ rw o) (eu ∙ rw o)
 
-  pub refused_kept : (e i c : ℕ) → q ≡ RecordRead.Refused e i c → (r : Compared) (u : List ℕ) → r ≡ Compared.Refused e i c → u ≡ cond (eqb e 2) f zeros → Kept r u
+  pub refused_kept : (e i c : ℕ) → q ≡ RecordRead.Refused e i c → (r : Result ℕ TextRefusal) (u : List ℕ) → r ≡ Err (record { no = e; line = i; column = c }) → u ≡ cond (eqb e 2) f zeros → Kept r u
   unfolding answer_of found_after
   refused_kept e i c h r u er eu = go (room (length ta) (length tb)) refl
     where

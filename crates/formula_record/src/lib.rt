@@ -11,18 +11,17 @@ ghost use Rattle.formula_record.specs.Ready.{Ready};
 
 use formula_drawn::FOUND;
 use formula_sums::PLACES;
+use judge_file::TextRefusal;
 use reader_first_line::FirstLine;
 use reader_record::RecordRead;
 
-// How many elements differ, or a refusal.
-#[derive(Drop)]
-pub enum Compared {
-    Differ { count: usize },
-    Refused { no: u8, line: usize, column: usize },
-}
-
 // A line held against n atoms in a table.
-fn compare_line(line: &[u8], n: usize, atoms: &[i32], found: &mut [u32; FOUND]) -> Compared
+fn compare_line(
+    line: &[u8],
+    n: usize,
+    atoms: &[i32],
+    found: &mut [u32; FOUND],
+) -> Result<usize, TextRefusal>
     requires { (16 * n ≤ length atoms.now) × (n ≤ 9999) × (found.old ≡ zeros) }
     ensures value { result ≡ told_of (by_verdict (symbols_from atoms.now 0 n) (verdict_of line.now)) }
     ensures found_after { found.new ≡ found_in (by_verdict (symbols_from atoms.now 0 n) (verdict_of line.now)) }
@@ -30,26 +29,31 @@ fn compare_line(line: &[u8], n: usize, atoms: &[i32], found: &mut [u32; FOUND]) 
     let mut written = [0u32; PLACES];
     let no = formula_sums::count_formula(line, &mut written);
     if no != 0 {
-        return Compared::Refused {
+        return Err(TextRefusal {
             no,
             line: 0,
             column: 0,
-        };
+        });
     }
     let mut drawn = [0u32; PLACES];
     if formula_drawn::count_drawn(atoms, n, &mut drawn) {
         let count = formula_drawn::list_differences(&written, &drawn, found);
-        return Compared::Differ { count };
+        return Ok(count);
     }
-    Compared::Refused {
+    Err(TextRefusal {
         no: 34,
         line: 0,
         column: 0,
-    }
+    })
 }
 
 // A good record, whose rows stand in the table: its formula is the first value line of its first item of that name.
-fn compare_read(s: &[u8], n: u32, atoms: &[i32], found: &mut [u32; FOUND]) -> Compared
+fn compare_read(
+    s: &[u8],
+    n: u32,
+    atoms: &[i32],
+    found: &mut [u32; FOUND],
+) -> Result<usize, TextRefusal>
     requires { Ready s.now atoms.now n }
     ensures value { result ≡ told_of (said_of s.now) }
     ensures found_after { found.new ≡ found_in (said_of s.now) }
@@ -57,33 +61,38 @@ fn compare_read(s: &[u8], n: u32, atoms: &[i32], found: &mut [u32; FOUND]) -> Co
     *found = [0u32; FOUND];
     match reader_first_line::first_line(s, b"FORMULA") {
         FirstLine::Line { from, to } => compare_line(&s[from..to], n as usize, atoms, found),
-        FirstLine::Empty => Compared::Refused {
+        FirstLine::Empty => Err(TextRefusal {
             no: 31,
             line: 0,
             column: 0,
-        },
+        }),
         FirstLine::Refused {
             no: _,
             line: _,
             column: _,
-        } => Compared::Refused {
+        } => Err(TextRefusal {
             no: 22,
             line: 0,
             column: 0,
-        },
+        }),
     }
 }
 
 // The record's own refusal. After 2 no memory changes; after any other the list is empty.
-fn refuse(no: u8, line: usize, column: usize, found: &mut [u32; FOUND]) -> Compared
-    ensures value { result ≡ Compared.Refused no line column }
+fn refuse(
+    no: u8,
+    line: usize,
+    column: usize,
+    found: &mut [u32; FOUND],
+) -> Result<usize, TextRefusal>
+    ensures value { result ≡ Err (record { no = no; line = line; column = column }) }
     ensures found_after { found.new ≡ cond (eqb no 2) found.old zeros }
 {
     if no == 2 {
-        return Compared::Refused { no, line, column };
+        return Err(TextRefusal { no, line, column });
     }
     *found = [0u32; FOUND];
-    Compared::Refused { no, line, column }
+    Err(TextRefusal { no, line, column })
 }
 
 // The formula of the record that the bytes begin with, held against its atoms: element, how many are written, how many are drawn, for each element but hydrogen that differs.
@@ -92,7 +101,7 @@ pub fn compare_formula(
     atoms: &mut [i32],
     bonds: &mut [i32],
     found: &mut [u32; FOUND],
-) -> Compared
+) -> Result<usize, TextRefusal>
     ensures value { result ≡ answer_of (length atoms.old) (length bonds.old) s.now }
     ensures found_after { found.new ≡ found_after (length atoms.old) (length bonds.old) s.now found.old }
     ensures atoms_after { atoms.new ≡ atoms_after 1 (length bonds.old) s.now atoms.old }

@@ -1,7 +1,6 @@
 // One record of the second reading, written.
 use crate::{Pass, Stepped, Task};
 use formula_drawn::FOUND;
-use formula_record::Compared;
 use piece_record::RecordSplit;
 use program_io::Out;
 use program_json::{End, Place, Reading};
@@ -234,19 +233,15 @@ fn put_formula(
     let mut found = [0u32; FOUND];
     let number = pass.records.saturating_add(1);
     match formula_record::compare_formula(record, atoms, bonds, &mut found) {
-        Compared::Differ { count } => {
+        Ok(count) => {
             let out = program_formula::put_differences(pass.out, room, number, count, &found);
             behind(told_apart(pass, count == 0), length, lines, out)
         }
-        Compared::Refused {
-            no,
-            line: _,
-            column: _,
-        } => {
-            if no < NO_SUCH_ITEM {
+        Err(refusal) => {
+            if refusal.no < NO_SUCH_ITEM {
                 Err(Verdict::Changed)
             } else {
-                let out = program_formula::put_refused(pass.out, room, number, no);
+                let out = program_formula::put_refused(pass.out, room, number, refusal.no);
                 behind(told_apart(pass, false), length, lines, out)
             }
         }

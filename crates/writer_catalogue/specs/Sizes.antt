@@ -1,5 +1,5 @@
 -- A record measured, as far as the room goes: laws for the code.
-use Rattle.std.specs.Prelude.{ℕ, ◌+◌, ◌-◌, ◌*◌, ◌≤◌, ◌<◌, ◌^◌, List, [], ◌∷◌, ◌++◌, map, Bool, take, drop, ℤ}
+use Rattle.std.specs.Prelude.{Result, Ok, Err, ℕ, ◌+◌, ◌-◌, ◌*◌, ◌≤◌, ◌<◌, ◌^◌, List, [], ◌∷◌, ◌++◌, map, Bool, take, drop, ℤ}
 use Rattle.std.proofs.Common.{arith, ap₂, ◌∙◌, append-nil, append_assoc, Fits}
 use Rattle.std.proofs.Math.Path.{◌≡◌, refl, sym, ap}
 use Rattle.std.proofs.Math.Bool.{true, false, cond}
@@ -19,7 +19,7 @@ use Rattle.reader_walk.specs.Outcome.{Outcome, whole, refused, outcome_of}
 use Rattle.reader_answer.specs.declared.RecordRead.{RecordRead}
 use Rattle.reader_answer.specs.Read.{read_as}
 use Rattle.reader_answer.specs.Rows.{RowsPromise}
-use Rattle.writer_record.specs.declared.Written.{Written}
+use Rattle.judge_file.specs.declared.TextRefusal.{TextRefusal}
 use Rattle.writer_record.specs.Write.{Given, canon_text}
 use Rattle.writer_record.specs.Measure.{sized, parts_size, GoodParts, text_length}
 use Rattle.writer_copy.specs.Bridge.{given_of, Front}
@@ -90,13 +90,13 @@ module _ (n m : ℕ) (atoms : List ℤ) (headers items : Bytes) (k : ℕ) (g : M
   pub over_fits : Fits w64 (k + 1)
   over_fits = record { fits = omega (arith, g.few) }
 
-  module _ (needed : ℕ) (h : needed ≤ k) (w : Written) (is : w ≡ sized size (k - needed)) where
-    module _ (l : ℕ) (q : w ≡ Written.Done l) where
+  module _ (needed : ℕ) (h : needed ≤ k) (w : Result ℕ TextRefusal) (is : w ≡ sized size (k - needed)) where
+    module _ (l : ℕ) (q : w ≡ Ok l) where
       done : (l ≡ size) × (size ≤ k - needed)
       unfolding sized
       done = go (leb size (k - needed)) refl (sym is ∙ q)
         where
-          go : (b : Bool) → leb size (k - needed) ≡ b → cond b (Written.Done size) (Written.Refused 20 0 0) ≡ Written.Done l → (l ≡ size) × (size ≤ k - needed)
+          go : (b : Bool) → leb size (k - needed) ≡ b → cond {A = Result ℕ TextRefusal} b (Ok size) (Err (record { no = 20; line = 0; column = 0 })) ≡ Ok l → (l ≡ size) × (size ≤ k - needed)
           go true e z = (cc, leb-true size (k - needed) e)
           go false e z = absurd (let z : ◌≡◌ {A = ℕ} 0 1 = cc in omega arith)
 
@@ -106,11 +106,11 @@ module _ (n m : ℕ) (atoms : List ℤ) (headers items : Bytes) (k : ℕ) (g : M
       pub within_is : needed + l ≡ up_to k (needed + size)
       within_is = let d = done in ap (λ (z : ℕ). needed + z) d.0 ∙ sym (up_in k (needed + size) (omega arith))
 
-    pub over_is : (e i c : ℕ) → w ≡ Written.Refused e i c → k + 1 ≡ up_to k (needed + size)
+    pub over_is : (r : TextRefusal) → w ≡ Err r → k + 1 ≡ up_to k (needed + size)
     unfolding sized
-    over_is e i c q = go (leb size (k - needed)) refl (sym is ∙ q)
+    over_is r q = go (leb size (k - needed)) refl (sym is ∙ q)
       where
-        go : (b : Bool) → leb size (k - needed) ≡ b → cond b (Written.Done size) (Written.Refused 20 0 0) ≡ Written.Refused e i c → k + 1 ≡ up_to k (needed + size)
+        go : (b : Bool) → leb size (k - needed) ≡ b → cond {A = Result ℕ TextRefusal} b (Ok size) (Err (record { no = 20; line = 0; column = 0 })) ≡ Err r → k + 1 ≡ up_to k (needed + size)
         go true o z = absurd (let z : ◌≡◌ {A = ℕ} 0 1 = cc in omega arith)
         go false o z = sym (up_over k (needed + size) (omega (arith, leb-false size (k - needed) o)))
 

@@ -1,5 +1,5 @@
 -- A record read and written into what remains of the room: laws for the code.
-use Rattle.std.specs.Prelude.{ℕ, ◌+◌, ◌-◌, ◌*◌, ◌≤◌, ◌<◌, ◌^◌, ◌≡◌, refl, List, ◌++◌, length, take, drop, ℤ}
+use Rattle.std.specs.Prelude.{Ok, ℕ, ◌+◌, ◌-◌, ◌*◌, ◌≤◌, ◌<◌, ◌^◌, ◌≡◌, refl, List, ◌++◌, length, take, drop, ℤ}
 use Rattle.std.proofs.Common.{arith, sym, ap, ◌∙◌, subst, append_assoc, append-nil, length-append, length-take, length-drop, take_all, drop-drop, Fits}
 use Rattle.std.proofs.lemmas.List.Edits.{sets, sets-eq}
 use Rattle.std.proofs.Math.Seq.{drop-length}
@@ -17,7 +17,7 @@ use Rattle.reader_answer.specs.declared.RecordRead.{RecordRead}
 use Rattle.reader_answer.specs.Read.{read_as}
 use Rattle.reader_answer.specs.Rows.{RowsPromise}
 use Rattle.reader_answer.specs.Told.{whole_raw, whole_lines}
-use Rattle.writer_record.specs.declared.Written.{Written}
+use Rattle.judge_file.specs.declared.TextRefusal.{TextRefusal}
 use Rattle.writer_record.specs.Write.{Given, canon_text}
 use Rattle.writer_record.specs.Measure.{record_text, Ready}
 use Rattle.writer_record.specs.Promise.{Accepted, Promise, accepted_one, accepted_ready, accepted_laid}
@@ -79,7 +79,7 @@ module _ (g : Given) (r : Bytes) (to : ℕ) (h : Handed g r to) where
   put_ready = accepted_ready g h.x h.accepted (length (take (length r - to) (drop to r))) few
 
   module _ (tail : Bytes) (v : ℕ) (l : Laid (take (length r - to) (drop to r)) tail 0 (record_text g) v) where
-    written : Promise g (take (length r - to) (drop to r)) (Written.Done v) tail
+    written : Promise g (take (length r - to) (drop to r)) (Ok v) tail
     written = accepted_laid g h.x h.accepted (take (length r - to) (drop to r)) tail v few l
 
     said : v ≡ length txt

@@ -16,11 +16,11 @@ ghost use Rattle.writer_catalogue.specs.Writing.{Handed, Put, Known, ReadAgain, 
 ghost use Rattle.writer_catalogue.specs.TwoPasses.{FileFits, text_in};
 ghost use Rattle.writer_answer.specs.CataloguePromise.{Promise};
 
+use judge_file::TextRefusal;
 use reader_cursor::Cursor;
 use reader_record::RecordRead;
 use rules::{ATOMS, BONDS};
 pub use writer_answer::Catalogue;
-use writer_record::Written;
 
 // A record at the front of a text: its bytes and lines, and how long the text of all records up to it is. What is longer than the room counts as one more
 // than the room.
@@ -73,12 +73,14 @@ fn measure_parts(
     ensures { result ≡ up_to room (needed + parts_size n m atoms.now headers.now items.now) }
 {
     match writer_record::measure_parts(atoms, n, m, headers, items, room - needed) {
-        Written::Done { length } => needed + length,
-        Written::Refused {
-            no: _,
-            line: _,
-            column: _,
-        } => room + 1,
+        Ok(length) => needed + length,
+        Err(
+            TextRefusal {
+                no: _,
+                line: _,
+                column: _,
+            },
+        ) => room + 1,
     }
 }
 

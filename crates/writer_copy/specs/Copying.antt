@@ -1,5 +1,5 @@
 -- A record read and then written: laws for the code.
-use Rattle.std.specs.Prelude.{ℕ, ◌*◌, ◌≤◌, ◌≡◌, List, Bool, cond, leb, length, ℤ}
+use Rattle.std.specs.Prelude.{Result, Ok, Err, ℕ, ◌*◌, ◌≤◌, ◌≡◌, List, Bool, cond, leb, length, ℤ}
 use Rattle.std.proofs.Common.{arith, ◌∙◌}
 use Rattle.std.proofs.Math.Path.{refl, sym, ap, subst}
 use Rattle.std.proofs.Math.Bool.{true, false}
@@ -18,7 +18,7 @@ use Rattle.reader_answer.specs.Promise.{Roomy, kind_number}
 use Rattle.reader_answer.specs.Rows.{RowsPromise}
 use Rattle.reader_answer.proofs.Promised.{after_left}
 use Rattle.writer_tables.specs.Tables.{writable_tables}
-use Rattle.writer_record.specs.declared.Written.{Written}
+use Rattle.judge_file.specs.declared.TextRefusal.{TextRefusal}
 use Rattle.writer_record.specs.Write as W
 use Rattle.writer_record.specs.Write.{Given, canon_text, demand, text_for, write_of}
 use Rattle.writer_record.specs.Measure.{sized, parts_size, GoodParts, never_refused, tables_agree, judged_parts, record_text, Ready, ready_by}
@@ -52,7 +52,7 @@ sound_small n m chiral atoms bonds headers items s =
     let em = ap (λ (y : Reading). y.m) s.accepted.tables in
     (omega (arith, w.n, en, s.accepted.roomy.atoms), (omega (arith, w.n, en), omega (arith, w.m, em)))
 
-module _ (g : Given) (s : Sound g) (k : ℕ) (j : Written) (e : j ≡ sized (parts_size g.n g.m g.atoms g.headers g.items) k) where
+module _ (g : Given) (s : Sound g) (k : ℕ) (j : Result ℕ TextRefusal) (e : j ≡ sized (parts_size g.n g.m g.atoms g.headers g.items) k) where
   sound_judged : j ≡ write_of g k
   sound_judged =
       let a = s.accepted in
@@ -60,27 +60,27 @@ module _ (g : Given) (s : Sound g) (k : ℕ) (j : Written) (e : j ≡ sized (par
       let same = never_refused g.n g.m g.atoms g.headers g.items k (good_parts g s.x s.accepted) in
       judged_parts g k (writable_tables g.n g.m g.chiral g.atoms g.bonds) a.roomy.atoms a.roomy.bonds refl t j (e ∙ sym same)
 
-  pub sound_ready : (l : ℕ) → j ≡ Written.Done l → Ready g k
+  pub sound_ready : (l : ℕ) → j ≡ Ok l → Ready g k
   sound_ready l h = ready_by g k l j sound_judged h
 
-abbrev copied_of : ℕ → ℕ → Written → Copied
-copied_of taken lines (Written.Done l) = Copied.Done taken lines l
-copied_of taken lines (Written.Refused e i c) = Copied.Refused e i c
+abbrev copied_of : ℕ → ℕ → Result ℕ TextRefusal → Copied
+copied_of taken lines (Ok l) = Copied.Done taken lines l
+copied_of taken lines (Err r) = Copied.Refused r.no r.line r.column
 
 -- as a writer keeps its promise
 pub record PutRead (g : Given) (taken lines : ℕ) (r₀ : Bytes) (c : Copied) (r : Bytes) : Type 0 where
-  pub w : Written
+  pub w : Result ℕ TextRefusal
   pub said : c ≡ copied_of taken lines w
   pub written : WP.Promise g r₀ w r
 
-module _ (g : Given) (s : Sound g) (taken lines : ℕ) (r₀ : Bytes) (j : Written)
+module _ (g : Given) (s : Sound g) (taken lines : ℕ) (r₀ : Bytes) (j : Result ℕ TextRefusal)
     (e : j ≡ sized (parts_size g.n g.m g.atoms g.headers g.items) (length r₀)) where
-  pub sound_done : (l : ℕ) (r : Bytes) (v : ℕ) → j ≡ Written.Done l → Laid r₀ r 0 (record_text g) v → PutRead g taken lines r₀ (Copied.Done taken lines v) r
-  sound_done l r v h p = record { w = Written.Done v; said = refl; written = promise_done g r₀ j l r v (sound_judged g s (length r₀) j e) h p }
+  pub sound_done : (l : ℕ) (r : Bytes) (v : ℕ) → j ≡ Ok l → Laid r₀ r 0 (record_text g) v → PutRead g taken lines r₀ (Copied.Done taken lines v) r
+  sound_done l r v h p = record { w = Ok v; said = refl; written = promise_done g r₀ j l r v (sound_judged g s (length r₀) j e) h p }
 
-  pub sound_refused : (n line column : ℕ) → j ≡ Written.Refused n line column → PutRead g taken lines r₀ (Copied.Refused n line column) r₀
-  sound_refused n line column h =
-      record { w = Written.Refused n line column; said = refl; written = promise_refused g r₀ j n line column (sound_judged g s (length r₀) j e) h }
+  pub sound_refused : (r : TextRefusal) → j ≡ Err r → PutRead g taken lines r₀ (Copied.Refused r.no r.line r.column) r₀
+  sound_refused r h =
+      record { w = Err r; said = refl; written = promise_refused g r₀ j r (sound_judged g s (length r₀) j e) h }
 
 -- ---- Room that surely suffices
 
@@ -94,7 +94,7 @@ module _ (g : Given) (s : Sound g) (k : ℕ) (t : Bool) (e : t ≡ surely (lengt
 pub sure_done : (g : Given) → Sound g → (taken lines : ℕ) (r₀ : Bytes) (t : Bool) → t ≡ surely (length g.headers) (length g.items) (length r₀) → t ≡ true →
     (r : Bytes) (v : ℕ) → Laid r₀ r 0 (record_text g) v → PutRead g taken lines r₀ (Copied.Done taken lines v) r
 sure_done g s taken lines r₀ t e h r v p =
-    record { w = Written.Done v; said = refl; written = accepted_laid g s.x s.accepted r₀ r v (sure_fits g s (length r₀) t e h) p }
+    record { w = Ok v; said = refl; written = accepted_laid g s.x s.accepted r₀ r v (sure_fits g s (length r₀) t e h) p }
 
 -- ---- A reading that was accepted, or refused
 

@@ -7,10 +7,10 @@ ghost use Rattle.writer_copy.specs.Most.{surely};
 ghost use Rattle.writer_copy.specs.Copying.{Sound, PutRead, Readable, PutGot, RowsCopied};
 ghost use Rattle.writer_answer.specs.CopyPromise.{Promise};
 
+use judge_file::TextRefusal;
 use reader_record::RecordRead;
 use rules::LIMIT;
 pub use writer_answer::Copied;
-use writer_record::Written;
 
 // The most bytes that the entries of one kind take: eight to a line.
 const ENTRIES: usize = 10 * ((LIMIT + 7) / 8) + 8 * LIMIT;
@@ -54,12 +54,12 @@ fn put_measured(
     ensures { PutRead (record { atoms = atoms.entry.now; bonds = bonds.now; n = n; m = m; chiral = chiral; headers = headers.now; items = items.now }) taken lines room.old result room.new }
 {
     match writer_record::measure_parts(atoms, n, m, headers, items, room.len()) {
-        Written::Done { length: _ } => Copied::Done {
+        Ok(_) => Copied::Done {
             taken,
             lines,
             length: writer_record::lay_record(atoms, bonds, n, m, chiral, headers, items, room),
         },
-        Written::Refused { no, line, column } => Copied::Refused { no, line, column },
+        Err(TextRefusal { no, line, column }) => Copied::Refused { no, line, column },
     }
 }
 

@@ -1,4 +1,5 @@
 -- Laws of the loop over a part's lines: the text grows by no more than the lines passed.
+use Rattle.std.specs.Prelude.{Result, Ok, Err}
 use Prim.Native.Nat.{ℕ, ◌+◌, ◌-◌, ◌*◌, ◌≤◌, ◌<◌, ◌^◌}
 use native.Mathlib.Omega.{arith}
 use mathlib.Core.Path.{◌≡◌, refl, sym, ap, ap₂, ◌∙◌, subst}
@@ -22,7 +23,7 @@ use Rattle.writer_parts.specs.Step.{ended, Taken, taken, item_taken, value_taken
 use Rattle.writer_parts.specs.Here.{from_here, here_start, here_next, here_stop, here_cut, here_end}
 use Rattle.writer_parts.specs.declared.Place.{Place}
 use Rattle.writer_parts.specs.declared.Turn.{Turn}
-use Rattle.writer_parts.specs.declared.PartJudged.{PartJudged}
+use Rattle.judge_file.specs.declared.TextRefusal.{TextRefusal}
 
 -- ---- a line's canonical text is longer by two bytes at most: its LF, and a second space in a data header
 
@@ -117,14 +118,14 @@ module _ (start : Place) (s : Bytes) (p : Place) (at i size : ℕ) (g : Judging 
   ends_length Place.First bs e = refl
   ends_length Place.Second bs e = refl
   ends_length Place.Third bs e = refl
-  ends_length Place.Full bs e = ap PartJudged.Good (sym e)
-  ends_length Place.Items bs e = ap PartJudged.Good (sym e)
+  ends_length Place.Full bs e = ap Ok (sym e)
+  ends_length Place.Items bs e = ap Ok (sym e)
   ends_length Place.Values bs e = refl
 
-  pub judging_end : (r : PartJudged) → length s ≤ at → r ≡ ends_as p size i → r ≡ judged (written_from start s)
+  pub judging_end : (r : Result ℕ TextRefusal) → length s ≤ at → r ≡ ends_as p size i → r ≡ judged (written_from start s)
   judging_end r h k = k ∙ sym (ap judged (g.same ∙ here_end p g.out i s at h) ∙ ends_length p g.out g.measured)
 
-  pub judging_cut : (r : PartJudged) (x : LineAt) → at < length s → x ≡ line_at s at → x ≡ LineAt.Unfinished → r ≡ PartJudged.Refused 19 i 1 → r ≡ judged (written_from start s)
+  pub judging_cut : (r : Result ℕ TextRefusal) (x : LineAt) → at < length s → x ≡ line_at s at → x ≡ LineAt.Unfinished → r ≡ Err (record { no = 19; line = i; column = 1 }) → r ≡ judged (written_from start s)
   judging_cut r x some e h k = k ∙ sym (ap judged (g.same ∙ here_cut p g.out i s at some (sym e ∙ h)))
 
   module _ (x : LineAt) (e n : ℕ) (k : x ≡ line_at s at) (h : x ≡ LineAt.Line e n) where
@@ -141,7 +142,7 @@ module _ (start : Place) (s : Bytes) (p : Place) (at i size : ℕ) (g : Judging 
     line_less some = let w = line_within s at e n line_is in omega (arith, w.0, w.1, w.2)
 
     pub judging_refused : (y : Turn) (a column : ℕ) → y ≡ turned (turn_as p (take (e - at) (drop at s))) → y ≡ Turn.Bad a column →
-        PartJudged.Refused a i column ≡ judged (written_from start s)
+        Err (record { no = a; line = i; column = column }) ≡ judged (written_from start s)
     judging_refused y a column u v =
         sym (ap judged (g.same ∙ here_stop p g.out i s at e n line_is a column (turn_bad p (take (e - at) (drop at s)) y a column u v)))
 

@@ -21,7 +21,7 @@ use Rattle.writer_parts.specs.Lengths.{line_length, title_length, name_length}
 use Rattle.writer_parts.specs.Step.{line_as, longest, allowed_as, turn_as, turned, ends_as}
 use Rattle.writer_parts.specs.declared.Place.{Place}
 use Rattle.writer_parts.specs.declared.Turn.{Turn}
-use Rattle.writer_parts.specs.declared.PartJudged.{PartJudged}
+use Rattle.judge_file.specs.declared.TextRefusal.{TextRefusal}
 
 -- ---- the first header line
 
@@ -129,22 +129,22 @@ pub ruleset turn_laws = (at_this, at_second, at_third, at_full, bad_byte, good_b
 -- ---- at the end of a part
 
 module _ (p : Place) (size line : ℕ) where
-  pub end_first : (r : PartJudged) → p ≡ Place.First → r ≡ PartJudged.Refused 19 line 1 → r ≡ ends_as p size line
+  pub end_first : (r : Result ℕ TextRefusal) → p ≡ Place.First → r ≡ Err (record { no = 19; line = line; column = 1 }) → r ≡ ends_as p size line
   end_first r e h = rw e h
 
-  pub end_second : (r : PartJudged) → p ≡ Place.Second → r ≡ PartJudged.Refused 19 line 1 → r ≡ ends_as p size line
+  pub end_second : (r : Result ℕ TextRefusal) → p ≡ Place.Second → r ≡ Err (record { no = 19; line = line; column = 1 }) → r ≡ ends_as p size line
   end_second r e h = rw e h
 
-  pub end_third : (r : PartJudged) → p ≡ Place.Third → r ≡ PartJudged.Refused 19 line 1 → r ≡ ends_as p size line
+  pub end_third : (r : Result ℕ TextRefusal) → p ≡ Place.Third → r ≡ Err (record { no = 19; line = line; column = 1 }) → r ≡ ends_as p size line
   end_third r e h = rw e h
 
-  pub end_full : p ≡ Place.Full → PartJudged.Good size ≡ ends_as p size line
+  pub end_full : p ≡ Place.Full → Ok size ≡ ends_as p size line
   end_full e = rw e
 
-  pub end_items : p ≡ Place.Items → PartJudged.Good size ≡ ends_as p size line
+  pub end_items : p ≡ Place.Items → Ok size ≡ ends_as p size line
   end_items e = rw e
 
-  pub end_values : (r : PartJudged) → p ≡ Place.Values → r ≡ PartJudged.Refused 19 line 1 → r ≡ ends_as p size line
+  pub end_values : (r : Result ℕ TextRefusal) → p ≡ Place.Values → r ≡ Err (record { no = 19; line = line; column = 1 }) → r ≡ ends_as p size line
   end_values r e h = rw e h
 
 pub ruleset end_laws = (end_first, end_second, end_third, end_full, end_items, end_values)

@@ -1,6 +1,6 @@
 -- The code's turns, which keep the text and not the lines, beside the judge's: they find the canonical text of what the judge finds.
 use Prim.Native.Nat.{ℕ, suc}
-use Rattle.std.specs.Prelude.{Option, Some, None, ◌≡◌, Bool, true, false, leb, length}
+use Rattle.std.specs.Prelude.{Result, Option, Some, None, ◌≡◌, Bool, true, false, leb, length}
 use Rattle.std.proofs.Math.Path.{refl, ap}
 use Rattle.std.proofs.Common.{sym, ◌∙◌}
 use mathlib.Core.List.{List, [], ◌∷◌, ◌++◌, append_assoc}
@@ -21,7 +21,7 @@ use Rattle.judge_parts.specs.Written.{headers_text, item_lines, items_text, writ
 use Rattle.writer_parts.specs.Step.{ended, Taken, taken, item_taken, value_taken, line_as, turn_as, Standing, standing_turn, standing_end, judged, written_from}
 use Rattle.judge_parts.specs.Runs.{run_next, run_stop}
 use Rattle.writer_parts.specs.declared.Place.{Place}
-use Rattle.writer_parts.specs.declared.PartJudged.{PartJudged}
+use Rattle.judge_file.specs.declared.TextRefusal.{TextRefusal}
 
 -- ---- Two runs side by side
 
@@ -107,7 +107,7 @@ pub headers_written : (s : Bytes) → written_from Place.First s ≡ written_hea
 unfolding written_from written_headers headers_verdict headers_as
 headers_written s = verdict_beside header_turn standing_turn headers_as headers_turn headers_end standing_end headers_text headers_end_lem first s
 
-pub headers_judged : (s : Bytes) (r : PartJudged) → r ≡ judged (written_from Place.First s) → r ≡ judged (written_headers s)
+pub headers_judged : (s : Bytes) (r : Result ℕ TextRefusal) → r ≡ judged (written_from Place.First s) → r ≡ judged (written_headers s)
 headers_judged s r e = e ∙ ap judged (headers_written s)
 
 -- ---- Items
@@ -160,5 +160,5 @@ pub items_written : (s : Bytes) → written_from Place.Items s ≡ written_items
 unfolding written_from written_items items_verdict items_as items_text item_lines text
 items_written s = verdict_beside item_turn standing_turn items_as items_turn items_end standing_end items_text items_end_lem (items []) s
 
-pub items_judged : (s : Bytes) (r : PartJudged) → r ≡ judged (written_from Place.Items s) → r ≡ judged (written_items s)
+pub items_judged : (s : Bytes) (r : Result ℕ TextRefusal) → r ≡ judged (written_from Place.Items s) → r ≡ judged (written_items s)
 items_judged s r e = e ∙ ap judged (items_written s)

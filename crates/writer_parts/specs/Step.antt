@@ -1,5 +1,5 @@
 -- The turns of the code, which holds no lines: at each place the next one, and the canonical text of the line.
-use Rattle.std.specs.Prelude.{ℕ, ◌≡◌, Bool, true, false, [], ◌∷◌, ◌++◌, length}
+use Rattle.std.specs.Prelude.{Result, Ok, Err, ℕ, ◌≡◌, Bool, true, false, [], ◌∷◌, ◌++◌, length}
 use Rattle.text.specs.Text.{Bytes, Line, LF}
 use Rattle.rules.specs.Write.{header_text}
 use Rattle.judge_line.specs.Got.{Got, got, bad, then}
@@ -10,7 +10,7 @@ use Rattle.judge_file.specs.Verdict.{Verdict, accepted, refused}
 use Rattle.judge_parts.specs.Part.{verdict_from}
 use Rattle.writer_parts.specs.declared.Place.{Place}
 use Rattle.writer_parts.specs.declared.Turn.{Turn}
-use Rattle.writer_parts.specs.declared.PartJudged.{PartJudged}
+use Rattle.judge_file.specs.declared.TextRefusal.{TextRefusal}
 
 -- a line with its end
 abbrev pub ended : Line → Bytes
@@ -91,18 +91,18 @@ ends_at Place.Items bs i = accepted bs
 ends_at Place.Values bs i = refused 19 i 1
 
 -- what the code answers: the length of the text, or the refusal
-abbrev pub judged : Verdict Bytes → PartJudged
-judged (accepted bs) = PartJudged.Good (length bs)
-judged (refused e i column) = PartJudged.Refused e i column
+abbrev pub judged : Verdict Bytes → Result ℕ TextRefusal
+judged (accepted bs) = Ok (length bs)
+judged (refused e i column) = Err (record { no = e; line = i; column = column })
 
 -- the same by the length of the text
-abbrev pub ends_as : Place → ℕ → ℕ → PartJudged
-ends_as Place.First size i = PartJudged.Refused 19 i 1
-ends_as Place.Second size i = PartJudged.Refused 19 i 1
-ends_as Place.Third size i = PartJudged.Refused 19 i 1
-ends_as Place.Full size i = PartJudged.Good size
-ends_as Place.Items size i = PartJudged.Good size
-ends_as Place.Values size i = PartJudged.Refused 19 i 1
+abbrev pub ends_as : Place → ℕ → ℕ → Result ℕ TextRefusal
+ends_as Place.First size i = Err (record { no = 19; line = i; column = 1 })
+ends_as Place.Second size i = Err (record { no = 19; line = i; column = 1 })
+ends_as Place.Third size i = Err (record { no = 19; line = i; column = 1 })
+ends_as Place.Full size i = Ok size
+ends_as Place.Items size i = Ok size
+ends_as Place.Values size i = Err (record { no = 19; line = i; column = 1 })
 
 abbrev pub standing_end : Standing → ℕ → Verdict Bytes
 standing_end p i = ends_at p.place p.out i

@@ -7,16 +7,10 @@ ghost use Rattle.judge_parts.specs.Written.{text_of, written_headers, written_it
 ghost use Rattle.writer_parts.specs.Step.{line_as, longest, turn_as, turned, allowed_as, Next, place_of, judged, ends_as, written_from};
 ghost use Rattle.writer_parts.specs.NeverRefused.{Taking};
 
+use judge_file::TextRefusal;
 use judge_line::Refusal;
 use line_text::{ItemLine, ValueKind};
 use text::LineAt;
-
-// What a part is found to be: the length of its canonical text, or the first refusal.
-#[derive(Drop)]
-pub enum PartJudged {
-    Good { size: usize },
-    Refused { no: u8, line: usize, column: usize },
-}
 
 // Where a line of a part stands. `Full` comes after the three header lines.
 #[derive(Clone, Copy)]
@@ -144,32 +138,32 @@ fn line_turn(place: Place, line: &[u8]) -> Turn
 }
 
 // A part that is not whole. The next line would be `line`.
-fn cut_short(line: usize) -> PartJudged
-    ensures { result ≡ PartJudged.Refused 19 line 1 }
+fn cut_short(line: usize) -> Result<usize, TextRefusal>
+    ensures { result ≡ Err (record { no = 19; line = line; column = 1 }) }
 {
-    PartJudged::Refused {
+    Err(TextRefusal {
         no: 19,
         line,
         column: 1,
-    }
+    })
 }
 
 // What a part is at its end.
-fn part_end(place: Place, line: usize, size: usize) -> PartJudged
+fn part_end(place: Place, line: usize, size: usize) -> Result<usize, TextRefusal>
     ensures { result ≡ ends_as place size line }
 {
     match place {
         Place::First => cut_short(line),
         Place::Second => cut_short(line),
         Place::Third => cut_short(line),
-        Place::Full => PartJudged::Good { size },
-        Place::Items => PartJudged::Good { size },
+        Place::Full => Ok(size),
+        Place::Items => Ok(size),
         Place::Values => cut_short(line),
     }
 }
 
 // A part from its first place on, line by line.
-fn judge_part(s: &[u8], start: Place) -> PartJudged
+fn judge_part(s: &[u8], start: Place) -> Result<usize, TextRefusal>
     ensures { result ≡ judged (written_from start s.now) }
 {
     let mut place = start;
@@ -187,7 +181,7 @@ fn judge_part(s: &[u8], start: Place) -> PartJudged
                 size += n;
             }
             Turn::Bad { no, column } => {
-                return PartJudged::Refused { no, line, column };
+                return Err(TextRefusal { no, line, column });
             }
         }
         at = next;
@@ -197,14 +191,14 @@ fn judge_part(s: &[u8], start: Place) -> PartJudged
 }
 
 // Header lines: exactly three.
-pub fn judge_headers(s: &[u8]) -> PartJudged
+pub fn judge_headers(s: &[u8]) -> Result<usize, TextRefusal>
     ensures { result ≡ judged (written_headers s.now) }
 {
     judge_part(s, Place::First)
 }
 
 // Items: any number of whole ones.
-pub fn judge_items(s: &[u8]) -> PartJudged
+pub fn judge_items(s: &[u8]) -> Result<usize, TextRefusal>
     ensures { result ≡ judged (written_items s.now) }
 {
     judge_part(s, Place::Items)

@@ -1,5 +1,5 @@
 -- The text of a record in the order in which its parts are laid, how long it is, and when all tests hold.
-use Rattle.std.specs.Prelude.{ℕ, zero, suc, ◌+◌, ◌*◌, ◌≤◌, ◌<◌, ◌≡◌, ◌↔◌, Bool, cond, leb, length, take, drop, set, ℤ}
+use Rattle.std.specs.Prelude.{Result, Ok, Err, ℕ, zero, suc, ◌+◌, ◌*◌, ◌≤◌, ◌<◌, ◌≡◌, ◌↔◌, Bool, cond, leb, length, take, drop, set, ℤ}
 use Rattle.std.proofs.Common.{arith, ◌∙◌, length-append}
 use Rattle.std.proofs.Math.Path.{refl, sym, ap, ap₂}
 use Rattle.std.proofs.Math.Bool.{true, false}
@@ -19,28 +19,27 @@ use Rattle.judge_file.specs.Verdict.{Verdict, accepted, refused, mapped}
 use Rattle.judge_parts.specs.Part.{headers_verdict, items_verdict}
 use Rattle.judge_parts.specs.Written.{headers_text, item_lines, items_text, text_of, written_headers, written_items}
 use Rattle.writer_parts.specs.Step.{judged}
-use Rattle.writer_parts.specs.declared.PartJudged.{PartJudged}
+use Rattle.judge_file.specs.declared.TextRefusal.{TextRefusal}
 use Rattle.writer_parts_put.specs.Put.{Room}
 use Rattle.writer_tables.specs.Tables.{writable_tables}
 use Rattle.writer_tables.specs.Agree.{writable_agrees}
 use Rattle.writer_row.specs.AgreeNumber.{and_agrees, up_agrees}
 use Rattle.writer_record.specs.Write.{Given, Roomy, handed, canon_text, demand, and_then, roomy, record_for, text_for, answer, room, write_of, room_after}
-use Rattle.writer_record.specs.declared.Written.{Written}
 
 -- ---- What the code computes: sizes instead of texts
 
 -- so many bytes, asked of room of k bytes
-unfoldable pub sized : ℕ → ℕ → Written
-sized size k = cond (leb size k) (Written.Done size) (Written.Refused 20 0 0)
+unfoldable pub sized : ℕ → ℕ → Result ℕ TextRefusal
+sized size k = cond (leb size k) (Ok size) (Err (record { no = 20; line = 0; column = 0 }))
 
 -- header lines and molecule are so long
-abbrev pub after_items : ℕ → ℕ → ℕ → Verdict Bytes → Written
+abbrev pub after_items : ℕ → ℕ → ℕ → Verdict Bytes → Result ℕ TextRefusal
 after_items headers molecule k (accepted bs) = sized (headers + molecule + length bs + 5) k
-after_items headers molecule k (refused e line column) = Written.Refused e line column
+after_items headers molecule k (refused e line column) = Err (record { no = e; line = line; column = column })
 
-abbrev pub after_headers : ℕ → ℕ → Verdict Bytes → Verdict Bytes → Written
+abbrev pub after_headers : ℕ → ℕ → Verdict Bytes → Verdict Bytes → Result ℕ TextRefusal
 after_headers molecule k items (accepted bs) = after_items (length bs) molecule k items
-after_headers molecule k items (refused e line column) = Written.Refused e line column
+after_headers molecule k items (refused e line column) = Err (record { no = e; line = line; column = column })
 
 -- header lines, molecule, items and the line that ends the record
 unfoldable pub parts_size : ℕ → ℕ → List ℤ → Bytes → Bytes → ℕ
@@ -57,7 +56,7 @@ pub never_refused : (n m : ℕ) (atoms : List ℤ) (hs is : Bytes) (k : ℕ) →
 unfolding parts_size
 never_refused n m atoms hs is k g = ap₂ (after_headers (body_size n m atoms) k) g.items g.headers
 
-pub measured_parts : (n m : ℕ) (atoms : List ℤ) (hs is : Bytes) (k a b c : ℕ) (r : Written) → a ≡ length (text_of (written_headers hs)) → b ≡ body_size n m atoms → c ≡ length (text_of (written_items is)) →
+pub measured_parts : (n m : ℕ) (atoms : List ℤ) (hs is : Bytes) (k a b c : ℕ) (r : Result ℕ TextRefusal) → a ≡ length (text_of (written_headers hs)) → b ≡ body_size n m atoms → c ≡ length (text_of (written_items is)) →
     r ≡ sized (a + b + c + 5) k → r ≡ sized (parts_size n m atoms hs is) k
 unfolding parts_size
 measured_parts n m atoms hs is k a b c r ea eb ec e =
@@ -131,7 +130,7 @@ pub record Ready (g : Given) (k : ℕ) : Type 0 where
   pub enough : length (text_of (written_headers g.headers)) + body_size g.n g.m g.atoms + length (text_of (written_items g.items)) + 5 ≤ k
   pub text : text_for g k ≡ accepted (record_text g)
 
-pub refused_done : {X : Type 0} {e line column l : ℕ} → Written.Refused e line column ≡ Written.Done l → X
+pub refused_done : {X : Type 0} {e line column l : ℕ} → ◌≡◌ {A = Result ℕ TextRefusal} (Err (record { no = e; line = line; column = column })) (Ok l) → X
 refused_done h = absurd (let z : ◌≡◌ {A = ℕ} 0 1 = cc in omega arith)
 
 module _ (g : Given) (k : ℕ) (h : Headers) (is : List Item) (a : roomy g.atoms g.bonds ≡ true) (b : writable_tables g.n g.m g.chiral g.atoms g.bonds ≡ true) (p : headers_verdict g.headers ≡ accepted h) (q : items_verdict g.items ≡ accepted is) (t : leb (length (canon_text (handed g h is))) k ≡ true) where
@@ -156,35 +155,35 @@ module _ (g : Given) (k : ℕ) (h : Headers) (is : List Item) (a : roomy g.atoms
         text = rw (a, b, p, q, t) (ap accepted (sym text_is));
       }
 
-pub ready : (g : Given) (k l : ℕ) → write_of g k ≡ Written.Done l → Ready g k
+pub ready : (g : Given) (k l : ℕ) → write_of g k ≡ Ok l → Ready g k
 unfolding write_of text_for record_for
 ready g k l h = go (roomy g.atoms g.bonds) refl (writable_tables g.n g.m g.chiral g.atoms g.bonds) refl (headers_verdict g.headers) refl (items_verdict g.items) refl h
   where
     fit : (hs : Headers) (is : List Item) → roomy g.atoms g.bonds ≡ true → writable_tables g.n g.m g.chiral g.atoms g.bonds ≡ true →
         headers_verdict g.headers ≡ accepted hs → items_verdict g.items ≡ accepted is → (t : Bool) → leb (length (canon_text (handed g hs is))) k ≡ t →
-        answer (demand t 20 (accepted (canon_text (handed g hs is)))) ≡ Written.Done l → Ready g k
+        answer (demand t 20 (accepted (canon_text (handed g hs is)))) ≡ Ok l → Ready g k
     fit hs is a b p q true t e = passed g k hs is a b p q t
     fit hs is a b p q false t e = refused_done e
 
     go : (x : Bool) → roomy g.atoms g.bonds ≡ x → (y : Bool) → writable_tables g.n g.m g.chiral g.atoms g.bonds ≡ y →
         (v : Verdict Headers) → headers_verdict g.headers ≡ v → (w : Verdict (List Item)) → items_verdict g.items ≡ w →
-        answer (and_then (demand x 2 (demand y 21 (and_then v λ hs. and_then w λ is. accepted (handed g hs is)))) λ z. demand (leb (length (canon_text z)) k) 20 (accepted (canon_text z))) ≡ Written.Done l → Ready g k
+        answer (and_then (demand x 2 (demand y 21 (and_then v λ hs. and_then w λ is. accepted (handed g hs is)))) λ z. demand (leb (length (canon_text z)) k) 20 (accepted (canon_text z))) ≡ Ok l → Ready g k
     go false a y b v p w q e = refused_done e
     go true a false b v p w q e = refused_done e
     go true a true b (refused n line column) p w q e = refused_done e
     go true a true b (accepted hs) p (refused n line column) q e = refused_done e
     go true a true b (accepted hs) p (accepted is) q e = fit hs is a b p q (leb (length (canon_text (handed g hs is))) k) refl e
 
-pub ready_by : (g : Given) (k l : ℕ) (j : Written) → j ≡ write_of g k → j ≡ Written.Done l → Ready g k
+pub ready_by : (g : Given) (k l : ℕ) (j : Result ℕ TextRefusal) → j ≡ write_of g k → j ≡ Ok l → Ready g k
 ready_by g k l j q h = ready g k l (sym q ∙ h)
 
 -- ---- What the code finds, step by step
 
-pub sized_fits : (size k : ℕ) → size ≤ k → Written.Done size ≡ sized size k
+pub sized_fits : (size k : ℕ) → size ≤ k → Ok size ≡ sized size k
 unfolding sized
 sized_fits size k h = rw (le-leb size k h)
 
-pub sized_over : (size k : ℕ) → k < size → Written.Refused 20 0 0 ≡ sized size k
+pub sized_over : (size k : ℕ) → k < size → Err (record { no = 20; line = 0; column = 0 }) ≡ sized size k
 unfolding sized
 sized_over size k h = rw (lt-leb size k h)
 
@@ -192,38 +191,37 @@ sized_is : (bs : Bytes) (size k : ℕ) → size ≡ length bs → sized size k �
 unfolding sized
 sized_is bs size k e = rw e (go (leb (length bs) k))
   where
-    go : (t : Bool) → cond t (Written.Done (length bs)) (Written.Refused 20 0 0) ≡ answer (demand t 20 (accepted bs))
+    go : (t : Bool) → cond t (Ok (length bs)) (Err (record { no = 20; line = 0; column = 0 })) ≡ answer (demand t 20 (accepted bs))
     go true = refl
     go false = refl
 
 -- a part that is good and so long, or refused, as the code has it
-module _ (v : Verdict Bytes) (x : PartJudged) (j : x ≡ judged v) where
-  long_by : (size : ℕ) (w : Verdict Bytes) → w ≡ v → PartJudged.Good size ≡ judged w → (A : ℕ → Written) (B : Verdict Bytes → Written) →
+module _ (v : Verdict Bytes) (x : Result ℕ TextRefusal) (j : x ≡ judged v) where
+  long_by : (size : ℕ) (w : Verdict Bytes) → w ≡ v → Ok size ≡ judged w → (A : ℕ → Result ℕ TextRefusal) (B : Verdict Bytes → Result ℕ TextRefusal) →
       ((bs : Bytes) → B (accepted bs) ≡ A (length bs)) → A size ≡ B v
   long_by size (accepted bs) e h A B f = let n : size ≡ length bs = cc in ap A n ∙ sym (f bs) ∙ ap B e
   long_by size (refused e line column) q h A B f = absurd (let z : ◌≡◌ {A = ℕ} 0 1 = cc in omega arith)
 
-  stop_by_lem : (e line column : ℕ) (w : Verdict Bytes) → w ≡ v → PartJudged.Refused e line column ≡ judged w → (B : Verdict Bytes → Written) →
-      ((n i c : ℕ) → B (refused n i c) ≡ Written.Refused n i c) → Written.Refused e line column ≡ B v
-  stop_by_lem e line column (accepted bs) q h B f = absurd (let z : ◌≡◌ {A = ℕ} 0 1 = cc in omega arith)
-  stop_by_lem e line column (refused n i c) q h B f = let y : Written.Refused e line column ≡ Written.Refused n i c = cc in y ∙ sym (f n i c) ∙ ap B q
+  stop_by_lem : (r : TextRefusal) (w : Verdict Bytes) → w ≡ v → Err r ≡ judged w → (B : Verdict Bytes → Result ℕ TextRefusal) →
+      ((n i c : ℕ) → B (refused n i c) ≡ Err (record { no = n; line = i; column = c })) → Err r ≡ B v
+  stop_by_lem r (accepted bs) q h B f = absurd (let z : ◌≡◌ {A = ℕ} 0 1 = cc in omega arith)
+  stop_by_lem r (refused n i c) q h B f = h ∙ sym (f n i c) ∙ ap B q
 
-  pub items_good : (headers molecule k size s : ℕ) (r : Written) → x ≡ PartJudged.Good size → s ≡ molecule → r ≡ sized (headers + s + size + 5) k →
+  pub items_good : (headers molecule k size s : ℕ) (r : Result ℕ TextRefusal) → x ≡ Ok size → s ≡ molecule → r ≡ sized (headers + s + size + 5) k →
       r ≡ after_items headers molecule k v
   items_good headers molecule k size s r h e q =
       q ∙ ap (λ (t : ℕ). sized (headers + t + size + 5) k) e
       ∙ long_by size v refl (sym h ∙ j) (λ t. sized (headers + molecule + t + 5) k) (after_items headers molecule k) (λ bs. refl)
 
-  pub items_bad : (headers molecule k e line column : ℕ) → x ≡ PartJudged.Refused e line column → Written.Refused e line column ≡ after_items headers molecule k v
-  items_bad headers molecule k e line column h = stop_by_lem e line column v refl (sym h ∙ j) (after_items headers molecule k) (λ n i c. refl)
+  pub items_bad : (headers molecule k : ℕ) (r : TextRefusal) → x ≡ Err r → Err r ≡ after_items headers molecule k v
+  items_bad headers molecule k r h = stop_by_lem r v refl (sym h ∙ j) (after_items headers molecule k) (λ n i c. refl)
 
-  pub headers_good : (molecule k size : ℕ) (items : Verdict Bytes) (r : Written) → x ≡ PartJudged.Good size → r ≡ after_items size molecule k items →
+  pub headers_good : (molecule k size : ℕ) (items : Verdict Bytes) (r : Result ℕ TextRefusal) → x ≡ Ok size → r ≡ after_items size molecule k items →
       r ≡ after_headers molecule k items v
   headers_good molecule k size items r h q = q ∙ long_by size v refl (sym h ∙ j) (λ t. after_items t molecule k items) (after_headers molecule k items) (λ bs. refl)
 
-  pub headers_bad : (molecule k e line column : ℕ) (items : Verdict Bytes) → x ≡ PartJudged.Refused e line column →
-      Written.Refused e line column ≡ after_headers molecule k items v
-  headers_bad molecule k e line column items h = stop_by_lem e line column v refl (sym h ∙ j) (after_headers molecule k items) (λ n i c. refl)
+  pub headers_bad : (molecule k : ℕ) (items : Verdict Bytes) (r : TextRefusal) → x ≡ Err r → Err r ≡ after_headers molecule k items v
+  headers_bad molecule k items r h = stop_by_lem r v refl (sym h ∙ j) (after_headers molecule k items) (λ n i c. refl)
 
 pub ruleset part_laws = (items_good, items_bad, headers_good, headers_bad)
 
@@ -235,7 +233,7 @@ small n m chiral atoms bonds t a b e h =
     (omega (arith, w.n), (w.n, w.m))
 
 module _ (g : Given) (k : ℕ) where
-  pub refused_tables : ¬ Roomy g → Written.Refused 2 0 0 ≡ write_of g k
+  pub refused_tables : ¬ Roomy g → Err (record { no = 2; line = 0; column = 0 }) ≡ write_of g k
   unfolding write_of text_for record_for
   refused_tables h = rw (shut (roomy g.atoms g.bonds) refl)
     where
@@ -244,7 +242,7 @@ module _ (g : Given) (k : ℕ) where
       shut false e = e
 
   module _ (t : Bool) (a : 16 * limit ≤ length g.atoms) (b : 6 * limit ≤ length g.bonds) (w : t ≡ writable_tables g.n g.m g.chiral g.atoms g.bonds) where
-    pub refused_writable : t ≡ false → Written.Refused 21 0 0 ≡ write_of g k
+    pub refused_writable : t ≡ false → Err (record { no = 21; line = 0; column = 0 }) ≡ write_of g k
     unfolding write_of text_for record_for
     refused_writable h = rw ((roomy_agrees g).1 (record { atoms = a; bonds = b }), ← w, h)
 
@@ -259,7 +257,7 @@ module _ (g : Given) (k : ℕ) where
         go (accepted h) (refused e line column) = refl
         go (accepted h) (accepted is) = sized_is (canon_text (handed g h is)) _ k (text_length g h is)
 
-    pub judged_parts : t ≡ true → (r : Written) → r ≡ after_headers (body_size g.n g.m g.atoms) k (written_items g.items) (written_headers g.headers) → r ≡ write_of g k
+    pub judged_parts : t ≡ true → (r : Result ℕ TextRefusal) → r ≡ after_headers (body_size g.n g.m g.atoms) k (written_items g.items) (written_headers g.headers) → r ≡ write_of g k
     judged_parts h r e = e ∙ judged_by_lem h
 
 -- ---- The room
@@ -294,9 +292,9 @@ module _ (g : Given) (r₀ : Bytes) (y : Ready g (length r₀)) {r₁ : Bytes} {
       unfolding record_text
       record_laid t = laid_join p (laid_join q (laid_join s t))
 
-pub done_answer : (g : Given) (r₀ r : Bytes) (e : ℕ) → Ready g (length r₀) → Laid r₀ r 0 (record_text g) e → Written.Done e ≡ write_of g (length r₀)
+pub done_answer : (g : Given) (r₀ r : Bytes) (e : ℕ) → Ready g (length r₀) → Laid r₀ r 0 (record_text g) e → Ok e ≡ write_of g (length r₀)
 unfolding write_of
-done_answer g r₀ r e y l = let n : e ≡ length (record_text g) = omega (arith, l.next) in rw y.text (ap Written.Done n)
+done_answer g r₀ r e y l = let n : e ≡ length (record_text g) = omega (arith, l.next) in rw y.text (ap Ok n)
 
 pub done_room : (g : Given) (r₀ r : Bytes) (e : ℕ) → Ready g (length r₀) → Laid r₀ r 0 (record_text g) e → r ≡ room_after g r₀
 unfolding room_after
@@ -304,10 +302,10 @@ done_room g r₀ r e y l =
     let n : 0 + length (record_text g) ≡ length (record_text g) = omega arith in
     rw y.text (l.same ∙ sets-eq (record_text g) r₀ 0 (omega (arith, l.next, l.fits)) ∙ ap (λ (i : ℕ). record_text g ++ drop i r₀) n)
 
-pub refused_room : (g : Given) (r : Bytes) (e line column : ℕ) → write_of g (length r) ≡ Written.Refused e line column → r ≡ room_after g r
+pub refused_room : (g : Given) (r : Bytes) (f : TextRefusal) → write_of g (length r) ≡ Err f → r ≡ room_after g r
 unfolding write_of room_after
-refused_room g r e line column h = go (text_for g (length r)) h
+refused_room g r f h = go (text_for g (length r)) h
   where
-    go : (v : Verdict Bytes) → answer v ≡ Written.Refused e line column → r ≡ room r v
+    go : (v : Verdict Bytes) → answer v ≡ Err f → r ≡ room r v
     go (accepted bs) q = refused_done (sym q)
     go (refused n i c) q = refl

@@ -1,5 +1,5 @@
 -- What a writer promises, in the words of the rules: when it writes, what then stands in the room, what that text stands for, and what each refusal means.
-use Rattle.std.specs.Prelude.{ℕ, ◌≤◌, ◌<◌, ◌≡◌, ◌↔◌, Bool, length, drop}
+use Rattle.std.specs.Prelude.{Result, Ok, Err, ℕ, ◌≤◌, ◌<◌, ◌≡◌, ◌↔◌, Bool, length, drop}
 use Rattle.std.proofs.Common.{arith, ◌∙◌}
 use Rattle.std.proofs.Math.Path.{refl, sym, ap, subst}
 use Rattle.std.proofs.Math.Bool.{true, false, false≢true}
@@ -28,7 +28,7 @@ use Rattle.writer_tables.specs.Tables.{writable_tables}
 use Rattle.writer_record.specs.Write.{Given, Roomy, handed, canon_text, demand, and_then, roomy, record_for, text_for, write_of, room_after}
 use Rattle.writer_record.specs.Write as W
 use Rattle.writer_record.specs.Measure.{roomy_agrees, tables_agree, refused_done, record_text, Ready, ready, done_answer, done_room, refused_room}
-use Rattle.writer_record.specs.declared.Written.{Written}
+use Rattle.judge_file.specs.declared.TextRefusal.{TextRefusal}
 
 -- ---- In the words of the rules
 
@@ -62,12 +62,12 @@ pub data Refusal (g : Given) (k : ℕ) : ℕ → ℕ → ℕ → Type 0 where
   room : {x : Reading} → Accepted g x → k < length (canon_text x) → Refusal g k 20 0 0
 
 -- what an answer says: the length of the text, or the number, line and column of a refusal
-abbrev pub numbers_of : Written → Verdict ℕ
-numbers_of (Written.Done l) = accepted l
-numbers_of (Written.Refused e line column) = refused e line column
+abbrev pub numbers_of : Result ℕ TextRefusal → Verdict ℕ
+numbers_of (Ok l) = accepted l
+numbers_of (Err r) = refused r.no r.line r.column
 
 -- room r₀ was lent, a is the answer, and the room is then r
-pub record Promise (g : Given) (r₀ : Bytes) (a : Written) (r : Bytes) : Type 0 where
+pub record Promise (g : Given) (r₀ : Bytes) (a : Result ℕ TextRefusal) (r : Bytes) : Type 0 where
   pub answer : a ≡ write_of g (length r₀)
   pub room : r ≡ room_after g r₀
   pub accepted : (l : ℕ) → (numbers_of a ≡ Verdict.accepted l) ↔ ((x : Reading) × Accepted g x × (l ≡ length (canon_text x)) × (l ≤ length r₀))
@@ -76,7 +76,7 @@ pub record Promise (g : Given) (r₀ : Bytes) (a : Written) (r : Bytes) : Type 0
   pub refuses : (e line column : ℕ) → Refusal g (length r₀) e line column → numbers_of a ≡ Verdict.refused e line column
 
 -- no two answers and no two rooms
-pub one_promise : {g : Given} {r₀ r s : Bytes} {a b : Written} → Promise g r₀ a r → Promise g r₀ b s → (a ≡ b) × (r ≡ s)
+pub one_promise : {g : Given} {r₀ r s : Bytes} {a b : Result ℕ TextRefusal} → Promise g r₀ a r → Promise g r₀ b s → (a ≡ b) × (r ≡ s)
 one_promise p q = (p.answer ∙ sym q.answer, p.room ∙ sym q.room)
 
 -- ---- What is written stands for what was handed in, and for nothing else
@@ -199,7 +199,7 @@ module _ (g : Given) where
         go (refused n line column) e t = t
 
     -- what is wrong is what is answered
-    refused_so : {e line column : ℕ} → record_for g ≡ refused e line column → write_of g k ≡ Written.Refused e line column
+    refused_so : {e line column : ℕ} → record_for g ≡ refused e line column → write_of g k ≡ Err (record { no = e; line = line; column = column })
     unfolding write_of text_for
     refused_so h = rw h
 
@@ -216,11 +216,11 @@ module _ (g : Given) where
         go true e = absurd (n ((roomy_agrees g).0 e))
         go false e = refl
 
-    no_room : (x : Reading) → Accepted g x → k < length (canon_text x) → write_of g k ≡ Written.Refused 20 0 0
+    no_room : (x : Reading) → Accepted g x → k < length (canon_text x) → write_of g k ≡ Err (record { no = 20; line = 0; column = 0 })
     unfolding write_of text_for
     no_room x a s = rw ((record_agrees x).1 a, lt-leb (length (canon_text x)) k s)
 
-    pub refusal_answer : {e line column : ℕ} → Refusal g k e line column → write_of g k ≡ Written.Refused e line column
+    pub refusal_answer : {e line column : ℕ} → Refusal g k e line column → write_of g k ≡ Err (record { no = e; line = line; column = column })
     unfolding record_for
     refusal_answer (Refusal.tables n) = refused_so (rw (not_roomy n))
     refusal_answer (Refusal.writable r n) = refused_so (rw ((roomy_agrees g).1 r, not_held holds refl))
@@ -237,25 +237,26 @@ module _ (g : Given) where
     -- there is one refusal at most
     pub refusal_one : {e i c e' i' c' : ℕ} → Refusal g k e i c → Refusal g k e' i' c' → (e ≡ e') × (i ≡ i') × (c ≡ c')
     refusal_one {e} {i} {c} {e'} {i'} {c'} p q =
-        let z : Written.Refused e i c ≡ Written.Refused e' i' c' = sym (refusal_answer p) ∙ refusal_answer q in
-        (cc, cc, cc)
+        let z : ◌≡◌ {A = Result ℕ TextRefusal} (Err (record { no = e; line = i; column = c })) (Err (record { no = e'; line = i'; column = c' })) = sym (refusal_answer p) ∙ refusal_answer q in
+        let w : ◌≡◌ {A = TextRefusal} (record { no = e; line = i; column = c }) (record { no = e'; line = i'; column = c' }) = cc in
+        (ap (λ (r : TextRefusal). r.no) w, ap (λ (r : TextRefusal). r.line) w, ap (λ (r : TextRefusal). r.column) w)
 
 -- ---- The promise
 
 -- the numbers tell the answer
-abbrev back_of : Verdict ℕ → Written
-back_of (accepted l) = Written.Done l
-back_of (refused e line column) = Written.Refused e line column
+abbrev back_of : Verdict ℕ → Result ℕ TextRefusal
+back_of (accepted l) = Ok l
+back_of (refused e line column) = Err (record { no = e; line = line; column = column })
 
-pub same_written : (a b : Written) → numbers_of a ≡ numbers_of b → a ≡ b
+pub same_written : (a b : Result ℕ TextRefusal) → numbers_of a ≡ numbers_of b → a ≡ b
 same_written a b h = sym (back a) ∙ ap back_of h ∙ back b
   where
-    back : (x : Written) → back_of (numbers_of x) ≡ x
-    back (Written.Done l) = refl
-    back (Written.Refused e line column) = refl
+    back : (x : Result ℕ TextRefusal) → back_of (numbers_of x) ≡ x
+    back (Ok l) = refl
+    back (Err r) = refl
 
 module _ (g : Given) (r₀ : Bytes) where
-  done_by : (l : ℕ) → (v : Verdict Bytes) → text_for g (length r₀) ≡ v → W.answer v ≡ Written.Done l →
+  done_by : (l : ℕ) → (v : Verdict Bytes) → text_for g (length r₀) ≡ v → W.answer v ≡ Ok l →
       (x : Reading) × Accepted g x × (l ≡ length (canon_text x)) × (l ≤ length r₀)
   done_by l (accepted bs) e h =
       let s = stood g (length r₀) bs e in
@@ -264,48 +265,48 @@ module _ (g : Given) (r₀ : Bytes) where
       (s.x, s.accepted, same, omega (arith, s.fits, same))
   done_by l (refused n line column) e h = refused_done h
 
-  refused_by : (n line column : ℕ) → (v : Verdict Bytes) → Told g (length r₀) v → W.answer v ≡ Written.Refused n line column →
-      (W.room r₀ v ≡ r₀) × Refusal g (length r₀) n line column
-  refused_by n line column (accepted bs) t h = refused_done (sym h)
-  refused_by n line column (refused e i c) t h =
-      let a : e ≡ n = cc in
-      let b : i ≡ line = cc in
-      let d : c ≡ column = cc in
-      (refl, subst (λ (z : ℕ). Refusal g (length r₀) n line z) d (subst (λ (z : ℕ). Refusal g (length r₀) n z c) b (subst (λ (z : ℕ). Refusal g (length r₀) z i c) a t)))
+  refused_by : (r : TextRefusal) → (v : Verdict Bytes) → Told g (length r₀) v → W.answer v ≡ Err r →
+      (W.room r₀ v ≡ r₀) × Refusal g (length r₀) r.no r.line r.column
+  refused_by r (accepted bs) t h = refused_done (sym h)
+  refused_by r (refused e i c) t h =
+      let a : e ≡ r.no = cc in
+      let b : i ≡ r.line = cc in
+      let d : c ≡ r.column = cc in
+      (refl, subst (λ (z : ℕ). Refusal g (length r₀) r.no r.line z) d (subst (λ (z : ℕ). Refusal g (length r₀) r.no z c) b (subst (λ (z : ℕ). Refusal g (length r₀) z i c) a t)))
 
-  pub promise : (a : Written) (r : Bytes) → a ≡ write_of g (length r₀) → r ≡ room_after g r₀ → Promise g r₀ a r
+  pub promise : (a : Result ℕ TextRefusal) (r : Bytes) → a ≡ write_of g (length r₀) → r ≡ room_after g r₀ → Promise g r₀ a r
   unfolding write_of room_after
   promise a r e f =
       record {
         answer = e;
         room = f;
         accepted = λ l. (
-          (λ h. done_by l (text_for g (length r₀)) refl (sym e ∙ same_written a (Written.Done l) h)),
-          (λ x. ap numbers_of (e ∙ ap W.answer (text_of g (length r₀) x.0 x.1 (omega (arith, x.2, x.3))) ∙ ap Written.Done (sym x.2))),
+          (λ h. done_by l (text_for g (length r₀)) refl (sym e ∙ same_written a (Ok l) h)),
+          (λ x. ap numbers_of (e ∙ ap W.answer (text_of g (length r₀) x.0 x.1 (omega (arith, x.2, x.3))) ∙ ap Ok (sym x.2))),
         );
         written = λ x b h. f ∙ ap (W.room r₀) (text_of g (length r₀) x b h);
         refused = λ n line column h.
-            let k = refused_by n line column (text_for g (length r₀)) (told_text g (length r₀)) (sym e ∙ same_written a (Written.Refused n line column) h) in
+            let k = refused_by (record { no = n; line = line; column = column }) (text_for g (length r₀)) (told_text g (length r₀)) (sym e ∙ same_written a (Err (record { no = n; line = line; column = column })) h) in
             (f ∙ k.0, k.1);
         refuses = λ n line column h. ap numbers_of (e ∙ refusal_answer g (length r₀) h);
       }
 
   -- as the code comes to its two ends: j is what the tests found
-  pub promise_done : (j : Written) (l : ℕ) (r : Bytes) (e : ℕ) → j ≡ write_of g (length r₀) → j ≡ Written.Done l → Laid r₀ r 0 (record_text g) e → Promise g r₀ (Written.Done e) r
-  promise_done j l r e q h p = let y = ready g (length r₀) l (sym q ∙ h) in promise (Written.Done e) r (done_answer g r₀ r e y p) (done_room g r₀ r e y p)
+  pub promise_done : (j : Result ℕ TextRefusal) (l : ℕ) (r : Bytes) (e : ℕ) → j ≡ write_of g (length r₀) → j ≡ Ok l → Laid r₀ r 0 (record_text g) e → Promise g r₀ (Ok e) r
+  promise_done j l r e q h p = let y = ready g (length r₀) l (sym q ∙ h) in promise (Ok e) r (done_answer g r₀ r e y p) (done_room g r₀ r e y p)
 
-  pub promise_refused : (j : Written) (n line column : ℕ) → j ≡ write_of g (length r₀) → j ≡ Written.Refused n line column → Promise g r₀ (Written.Refused n line column) r₀
-  promise_refused j n line column q h = promise (Written.Refused n line column) r₀ (sym h ∙ q) (refused_room g r₀ n line column (sym q ∙ h))
+  pub promise_refused : (j : Result ℕ TextRefusal) (r : TextRefusal) → j ≡ write_of g (length r₀) → j ≡ Err r → Promise g r₀ (Err r) r₀
+  promise_refused j r q h = promise (Err r) r₀ (sym h ∙ q) (refused_room g r₀ r (sym q ∙ h))
 
 -- ---- What is known to be good is laid without being judged
 
 module _ (g : Given) (x : Reading) (a : Accepted g x) where
-  accepted_done : (k : ℕ) → length (canon_text x) ≤ k → write_of g k ≡ Written.Done (length (canon_text x))
+  accepted_done : (k : ℕ) → length (canon_text x) ≤ k → write_of g k ≡ Ok (length (canon_text x))
   unfolding write_of
   accepted_done k h = ap W.answer (text_of g k x a h)
 
   pub accepted_ready : (k : ℕ) → length (canon_text x) ≤ k → Ready g k
   accepted_ready k h = ready g k (length (canon_text x)) (accepted_done k h)
 
-  pub accepted_laid : (r₀ r : Bytes) (e : ℕ) → length (canon_text x) ≤ length r₀ → Laid r₀ r 0 (record_text g) e → Promise g r₀ (Written.Done e) r
+  pub accepted_laid : (r₀ r : Bytes) (e : ℕ) → length (canon_text x) ≤ length r₀ → Laid r₀ r 0 (record_text g) e → Promise g r₀ (Ok e) r
   accepted_laid r₀ r e h p = promise_done g r₀ (write_of g (length r₀)) (length (canon_text x)) r e refl (accepted_done (length r₀) h) p

@@ -1,6 +1,6 @@
 -- What is written for samples, and what is refused, in one table, checked by one computation. The first is the record of thirteen lines, which is written
 -- back as itself.
-use Rattle.std.specs.Prelude.{ℕ, ◌-◌, ◌≡◌, refl, List, [], ◌∷◌, ◌++◌, map, length, replicate, pos, negsuc}
+use Rattle.std.specs.Prelude.{Result, Ok, Err, ℕ, ◌-◌, ◌≡◌, refl, List, [], ◌∷◌, ◌++◌, map, length, replicate, pos, negsuc}
 use Rattle.text.specs.Text.{Bytes}
 use Rattle.text.specs.Columns.{columns_for}
 use Rattle.text.specs.Find.{first_from, bad_column, is_blank}
@@ -23,12 +23,12 @@ use Rattle.judge_file.specs.Samples.{lines, the_sample}
 use Rattle.writer_row.specs.Row.{in_range, marks, place_holds, numbers_hold, codes_hold, changes_hold, atom_holds, kind_holds, bond_holds}
 use Rattle.writer_tables.specs.Tables.{all_rows, masses_hold, same_ends, same_at, against, walk_from, counts_hold, tables_hold, writable_tables}
 use Rattle.writer_record.specs.Write.{Given, roomy, record_for, text_for, write_of, room_after}
-use Rattle.writer_record.specs.declared.Written.{Written}
+use Rattle.judge_file.specs.declared.TextRefusal.{TextRefusal}
 
 pub record Sample : Type 0 where
   pub given : Given
   pub room : Bytes
-  pub answer : Written
+  pub answer : Result ℕ TextRefusal
   pub after : Bytes
 
 -- two atoms and a bond, in tables with room for so many
@@ -57,23 +57,23 @@ lot = lines (">  <LOT>" ∷ "00417" ∷ "" ∷ [])
 abbrev lent : ℕ → Bytes
 lent k = replicate k 120
 
-abbrev kept : Given → ℕ → Written → Sample
+abbrev kept : Given → ℕ → Result ℕ TextRefusal → Sample
 kept g k a = record { given = g; room = lent k; answer = a; after = lent k }
 
 abbrev pub samples : List Sample
 samples =
-    record { given = drum three lot; room = lent 265; answer = Written.Done 265; after = the_sample } ∷
-    record { given = drum three lot; room = lent 267; answer = Written.Done 265; after = the_sample ++ lent 2 } ∷
+    record { given = drum three lot; room = lent 265; answer = Ok 265; after = the_sample } ∷
+    record { given = drum three lot; room = lent 267; answer = Ok 265; after = the_sample ++ lent 2 } ∷
     -- an item's header and blank line are written anew
-    record { given = drum three (lines ("> <LOT>  " ∷ "00417" ∷ " " ∷ [])); room = lent 265; answer = Written.Done 265; after = the_sample } ∷
+    record { given = drum three (lines ("> <LOT>  " ∷ "00417" ∷ " " ∷ [])); room = lent 265; answer = Ok 265; after = the_sample } ∷
     -- no room
-    kept (drum three lot) 264 (Written.Refused 20 0 0) ∷
+    kept (drum three lot) 264 (Err (record { no = 20; line = 0; column = 0 })) ∷
     -- before that a bad item, before that a bad header line, before that tables that cannot be written, before that small tables
-    kept (drum three (lot ++ lines ("$$$$" ∷ []))) 264 (Written.Refused 16 4 1) ∷
-    kept (drum (lines ("" ∷ "" ∷ [])) (lines ("$$$$" ∷ []))) 264 (Written.Refused 19 3 1) ∷
-    kept (drum_in (atom_places - 32) (bond_places - 6) 1 1 [] []) 264 (Written.Refused 21 0 0) ∷
-    kept (drum_in (atom_places - 33) (bond_places - 6) 1 1 [] []) 264 (Written.Refused 2 0 0) ∷
-    kept (drum_in (atom_places - 32) (bond_places - 7) 1 1 [] []) 264 (Written.Refused 2 0 0) ∷
+    kept (drum three (lot ++ lines ("$$$$" ∷ []))) 264 (Err (record { no = 16; line = 4; column = 1 })) ∷
+    kept (drum (lines ("" ∷ "" ∷ [])) (lines ("$$$$" ∷ []))) 264 (Err (record { no = 19; line = 3; column = 1 })) ∷
+    kept (drum_in (atom_places - 32) (bond_places - 6) 1 1 [] []) 264 (Err (record { no = 21; line = 0; column = 0 })) ∷
+    kept (drum_in (atom_places - 33) (bond_places - 6) 1 1 [] []) 264 (Err (record { no = 2; line = 0; column = 0 })) ∷
+    kept (drum_in (atom_places - 32) (bond_places - 7) 1 1 [] []) 264 (Err (record { no = 2; line = 0; column = 0 })) ∷
     []
 
 -- the answer and the room that the definitions give

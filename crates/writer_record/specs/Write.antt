@@ -1,6 +1,6 @@
 -- What a writer does with tables, header lines and items: the canonical text of their record, or the first refusal; from that its answer, and what the
 -- room then holds.
-use Rattle.std.specs.Prelude.{ℕ, ◌*◌, ◌≤◌, Bool, true, false, ◌&&◌, List, ◌++◌, leb, length, drop, ℤ}
+use Rattle.std.specs.Prelude.{Result, Ok, Err, ℕ, ◌*◌, ◌≤◌, Bool, true, false, ◌&&◌, List, ◌++◌, leb, length, drop, ℤ}
 use Rattle.text.specs.Text.{Bytes}
 use Rattle.text.specs.Written.{text}
 use Rattle.rules.specs.Record.{Headers, Item, limit}
@@ -10,7 +10,7 @@ use Rattle.writer_molecule.specs.Body.{reading_of}
 use Rattle.judge_file.specs.Verdict.{Verdict, accepted, refused}
 use Rattle.judge_parts.specs.Part.{headers_verdict, items_verdict}
 use Rattle.writer_tables.specs.Tables.{writable_tables}
-use Rattle.writer_record.specs.declared.Written.{Written}
+use Rattle.judge_file.specs.declared.TextRefusal.{TextRefusal}
 
 -- what a writer is handed beside the room
 pub record Given : Type 0 where
@@ -61,16 +61,16 @@ text_for g k = and_then (record_for g) λ x. demand (leb (length (canon_text x))
 
 -- ---- The answer and the room
 
-abbrev pub answer : Verdict Bytes → Written
-answer (accepted bs) = Written.Done (length bs)
-answer (refused e line column) = Written.Refused e line column
+abbrev pub answer : Verdict Bytes → Result ℕ TextRefusal
+answer (accepted bs) = Ok (length bs)
+answer (refused e line column) = Err (record { no = e; line = line; column = column })
 
 -- the text at the front and all else as it was; after a refusal, all as it was
 abbrev pub room : Bytes → Verdict Bytes → Bytes
 room r (accepted bs) = bs ++ drop (length bs) r
 room r (refused e line column) = r
 
-unfoldable pub write_of : Given → ℕ → Written
+unfoldable pub write_of : Given → ℕ → Result ℕ TextRefusal
 write_of g k = answer (text_for g k)
 
 unfoldable pub room_after : Given → Bytes → Bytes

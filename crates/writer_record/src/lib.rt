@@ -10,80 +10,84 @@ ghost use Rattle.writer_record.specs.Write.{write_of};
 ghost use Rattle.writer_record.specs.Measure.{sized, after_items, after_headers, parts_size, GoodParts, record_text, Ready, close_line};
 ghost use Rattle.writer_record.specs.Promise.{Promise};
 
+use judge_file::TextRefusal;
 use rules::{ATOMS, BONDS};
-use writer_parts::PartJudged;
-
-// What is answered: the length of the text, or the first refusal.
-#[derive(Drop)]
-pub enum Written {
-    Done { length: usize },
-    Refused { no: u8, line: usize, column: usize },
-}
 
 // Whether room of so many bytes holds header lines, molecule, items and the line that ends the record. Sums of lengths can wrap, so it is asked by subtractions.
-fn measured(room: usize, headers: usize, molecule: usize, items: usize) -> Written
+fn measured(
+    room: usize,
+    headers: usize,
+    molecule: usize,
+    items: usize,
+) -> Result<usize, TextRefusal>
     ensures { result ≡ sized (headers + molecule + items + 5) room }
 {
     if room < headers {
-        return Written::Refused {
+        return Err(TextRefusal {
             no: 20,
             line: 0,
             column: 0,
-        };
+        });
     }
     if room - headers < molecule {
-        return Written::Refused {
+        return Err(TextRefusal {
             no: 20,
             line: 0,
             column: 0,
-        };
+        });
     }
     if room - headers - molecule < items {
-        return Written::Refused {
+        return Err(TextRefusal {
             no: 20,
             line: 0,
             column: 0,
-        };
+        });
     }
     if room - headers - molecule - items < 5 {
-        return Written::Refused {
+        return Err(TextRefusal {
             no: 20,
             line: 0,
             column: 0,
-        };
+        });
     }
-    Written::Done {
-        length: headers + molecule + items + 5,
-    }
+    Ok(headers + molecule + items + 5)
 }
 
 // Items, then the room, once the header lines are good and so long.
-fn judge_tail(atoms: &[i32], n: u32, m: u32, items: &[u8], headers: usize, room: usize) -> Written
+fn judge_tail(
+    atoms: &[i32],
+    n: u32,
+    m: u32,
+    items: &[u8],
+    headers: usize,
+    room: usize,
+) -> Result<usize, TextRefusal>
     requires { (16 * n ≤ length atoms.now) × ((n ≤ limit) × (m ≤ limit)) }
     ensures { result ≡ after_items headers (body_size n m atoms.now) room (written_items items.now) }
 {
-    match writer_parts::judge_items(items) {
-        PartJudged::Good { size } => {
-            measured(
-                room,
-                headers,
-                writer_molecule::molecule_size(atoms, n, m),
-                size,
-            )
-        }
-        PartJudged::Refused { no, line, column } => Written::Refused { no, line, column },
-    }
+    let size = writer_parts::judge_items(items)?;
+    measured(
+        room,
+        headers,
+        writer_molecule::molecule_size(atoms, n, m),
+        size,
+    )
 }
 
 // Header lines, items, then the room, of tables that can be written.
-fn judge_parts(atoms: &[i32], n: u32, m: u32, headers: &[u8], items: &[u8], room: usize) -> Written
+fn judge_parts(
+    atoms: &[i32],
+    n: u32,
+    m: u32,
+    headers: &[u8],
+    items: &[u8],
+    room: usize,
+) -> Result<usize, TextRefusal>
     requires { (16 * n ≤ length atoms.now) × ((n ≤ limit) × (m ≤ limit)) }
     ensures { result ≡ after_headers (body_size n m atoms.now) room (written_items items.now) (written_headers headers.now) }
 {
-    match writer_parts::judge_headers(headers) {
-        PartJudged::Good { size } => judge_tail(atoms, n, m, items, size, room),
-        PartJudged::Refused { no, line, column } => Written::Refused { no, line, column },
-    }
+    let size = writer_parts::judge_headers(headers)?;
+    judge_tail(atoms, n, m, items, size, room)
 }
 
 // Only the room, of a record that was read: its header lines and items were judged then.
@@ -94,7 +98,7 @@ pub fn measure_parts(
     headers: &[u8],
     items: &[u8],
     room: usize,
-) -> Written
+) -> Result<usize, TextRefusal>
     requires n_in_bounds { (16 * n ≤ length atoms.now) × ((n ≤ limit) × (m ≤ limit)) }
     requires good_parts { GoodParts headers.now items.now }
     ensures { result ≡ sized (parts_size n m atoms.now headers.now items.now) room }
@@ -117,31 +121,31 @@ fn judge_record(
     headers: &[u8],
     items: &[u8],
     room: usize,
-) -> Written
+) -> Result<usize, TextRefusal>
     ensures { result ≡ write_of (record { atoms = atoms.entry.now; bonds = bonds.now; n = n; m = m; chiral = chiral; headers = headers.now; items = items.now }) room }
 {
     if atoms.len() < ATOMS {
-        return Written::Refused {
+        return Err(TextRefusal {
             no: 2,
             line: 0,
             column: 0,
-        };
+        });
     }
     if bonds.len() < BONDS {
-        return Written::Refused {
+        return Err(TextRefusal {
             no: 2,
             line: 0,
             column: 0,
-        };
+        });
     }
     if writer_tables::writable(atoms, bonds, n, m, chiral) {
         return judge_parts(atoms, n, m, headers, items, room);
     }
-    Written::Refused {
+    Err(TextRefusal {
         no: 21,
         line: 0,
         column: 0,
-    }
+    })
 }
 
 // The line that ends the record.
@@ -187,13 +191,9 @@ pub fn write_record(
     headers: &[u8],
     items: &[u8],
     room: &mut [u8],
-) -> Written
+) -> Result<usize, TextRefusal>
     ensures { Promise (record { atoms = atoms.entry.now; bonds = bonds.now; n = n; m = m; chiral = chiral; headers = headers.now; items = items.now }) room.old result room.new }
 {
-    match judge_record(atoms, bonds, n, m, chiral, headers, items, room.len()) {
-        Written::Done { length: _ } => Written::Done {
-            length: lay_record(atoms, bonds, n, m, chiral, headers, items, room),
-        },
-        Written::Refused { no, line, column } => Written::Refused { no, line, column },
-    }
+    judge_record(atoms, bonds, n, m, chiral, headers, items, room.len())?;
+    Ok(lay_record(atoms, bonds, n, m, chiral, headers, items, room))
 }

@@ -3,8 +3,8 @@ use Rattle.capellanote_numbers.specs.Numbers.{written_array}
 use borrow.Author.Rules.{rules}
 use Rattle.capellanote_numbers.proofs.of_written.Goals as goal
 
-pub returns-in-Done : goal.returns-in-Done
-returns-in-Done c = search (rules, written_array)
+pub returns-in-Ok : goal.returns-in-Ok
+returns-in-Ok c = search (rules, written_array)
 
-pub returns-in-Refused : goal.returns-in-Refused
-returns-in-Refused c = search (rules, written_array)
+pub returns-in-Err : goal.returns-in-Err
+returns-in-Err c = search (rules, written_array)

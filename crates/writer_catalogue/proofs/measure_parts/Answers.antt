@@ -6,8 +6,8 @@ use Rattle.writer_catalogue.proofs.measure_parts.Goals as goal
 pub overflow_add-result : goal.overflow_add-result
 overflow_add-result c = search (rules, size_laws)
 
-pub returns-in-Done : goal.returns-in-Done
-returns-in-Done c = search (rules, size_laws)
+pub returns-in-Ok : goal.returns-in-Ok
+returns-in-Ok c = search (rules, size_laws)
 
-pub returns-in-Refused : goal.returns-in-Refused
-returns-in-Refused c = search (rules, size_laws)
+pub returns-in-Err : goal.returns-in-Err
+returns-in-Err c = search (rules, size_laws)

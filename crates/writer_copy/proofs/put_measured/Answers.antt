@@ -9,8 +9,8 @@ measure_parts-requires c = search (rules, sound_small, sound_parts)
 pub lay_record-requires : goal.lay_record-requires
 lay_record-requires c = search (rules, sound_ready)
 
-pub returns-in-Done : goal.returns-in-Done
-returns-in-Done c = search (rules, sound_done)
+pub returns-in-Ok : goal.returns-in-Ok
+returns-in-Ok c = search (rules, sound_done)
 
-pub returns-in-Refused : goal.returns-in-Refused
-returns-in-Refused c = search (rules, sound_refused)
+pub returns-in-Err : goal.returns-in-Err
+returns-in-Err c = search (rules, sound_refused)
