@@ -116,7 +116,7 @@ fn rows_of(way: Way, seen: usize) -> usize {
     seen
 }
 
-// A record that one file alone has: the first, side 1, or the second, side 2.
+// A record that one file alone has, and which.
 fn put_alone(sum: Sum, room: &mut [u8; ROOM], way: Way, side: Side, headers: &[u8]) -> Sum {
     let row = Row {
         record: sum.records.saturating_add(1),

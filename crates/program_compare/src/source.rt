@@ -29,8 +29,8 @@ enum Met {
     Short,
 }
 
-// The record at the front of s, which is what stands in the buffer. Once the file has ended and every byte of it is used
-// up, there is none. What was accepted at the first reading is only cut short by the buffer.
+// The record at the front of s, which is what stands in the buffer. Once the file has ended and every byte of it is
+// used up, there is none. What was accepted at the first reading is only cut short by the buffer.
 fn read(
     window: &mut Window,
     s: &[u8],

@@ -1,5 +1,4 @@
 // The items of accepted records: which names a file has, and what is worth a warning. No verdict depends on it.
-ghost use Rattle.std.specs.Prelude.{◌≤◌, length};
 
 use crate::facts;
 use line_text::ItemLine;

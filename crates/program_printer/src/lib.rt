@@ -8,8 +8,8 @@ use program_json_rows::{ATOMS, BONDS};
 use program_verdict::Verdict;
 use std::fs::File;
 
-// Every record as JSON; the item of a name; the canonical text; the pieces; the formula against the atoms. No closure says
-// which: the walk would be made once for each, and the reader's step have more than one caller (docs/SPEED.md).
+// Every record as JSON; the item of a name; the canonical text; the pieces; the formula against the atoms. No closure
+// says which: the walk would be made once for each, and the reader's step have more than one caller (docs/SPEED.md).
 #[derive(Clone, Copy)]
 pub enum Task {
     Readings,
@@ -54,7 +54,8 @@ const BUFFER: usize = 1048577;
 // The canonical text of any record that fits the buffer fits this room.
 const ROOM: usize = 1310720;
 
-// More is read for a record that is not wholly there. One that ends neither in a full buffer nor in the file has changed.
+// More is read for a record that is not wholly there. One that ends neither in a full buffer nor in the file has
+// changed.
 fn read_on(file: &File, buf: &mut [u8], pass: Pass) -> Result<Pass, Verdict> {
     if pass.window.ended || pass.window.is_full(buf) {
         return Err(Verdict::Changed);
