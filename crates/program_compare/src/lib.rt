@@ -4,7 +4,7 @@
 
 mod source;
 
-ghost use Rattle.std.specs.Prelude.{◌≡◌, true, ◌*◌, ◌≤◌, ◌<◌, ◌^◌};
+ghost use Rattle.std.specs.Prelude.{◌≡◌, true, length, ◌*◌, ◌≤◌, ◌<◌, ◌^◌};
 ghost use Rattle.program_compare.specs.Fitting.{Fitting};
 
 use compare_record::Numbers;
@@ -67,44 +67,45 @@ fn is_fitting(x: Numbers, ta: usize, tb: usize) -> bool
     true
 }
 
+// A record as it is held against another: its header lines and items, its numbers, the tables that have its rows.
+#[derive(Clone, Copy)]
+struct Record<'a> {
+    headers: &'a [u8],
+    items: &'a [u8],
+    numbers: Numbers,
+    atoms: &'a [i32],
+    bonds: &'a [i32],
+}
+
+impl Record<'_> {
+    fn is_fitting(self) -> bool
+        ensures { result ≡ true → Fitting self.entry.numbers (length self.entry.atoms.now) (length self.entry.bonds.now) }
+    {
+        is_fitting(self.numbers, self.atoms.len(), self.bonds.len())
+    }
+}
+
 // What differs between two records, so many passed over.
 #[tactic(auto, using(crate::specs::Fitting::fit_laws))]
-fn list_apart(
-    list: &mut [i64],
-    skip: usize,
-    position: usize,
-    headers: &[u8],
-    a: Numbers,
-    ta: &[i32],
-    tb: &[i32],
-    items: &[u8],
-    new_headers: &[u8],
-    b: Numbers,
-    ua: &[i32],
-    ub: &[i32],
-    new_items: &[u8],
-) -> Count {
+fn list_apart(list: &mut [i64], skip: usize, position: usize, old: Record, new: Record) -> Count {
     let count = Count { skip, seen: 0 };
-    if 9223372036854775807 < position {
-        return count;
-    }
-    if !is_fitting(a, ta.len(), tb.len()) || !is_fitting(b, ua.len(), ub.len()) {
+    if 9223372036854775807 < position || !old.is_fitting() || !new.is_fitting() {
         return count;
     }
     compare_record::records_apart(
         list,
         count,
         position,
-        headers,
-        a,
-        ta,
-        tb,
-        items,
-        new_headers,
-        b,
-        ua,
-        ub,
-        new_items,
+        old.headers,
+        old.numbers,
+        old.atoms,
+        old.bonds,
+        old.items,
+        new.headers,
+        new.numbers,
+        new.atoms,
+        new.bonds,
+        new.items,
     )
 }
 
@@ -139,44 +140,18 @@ fn put_pair(
     room: &mut [u8; ROOM],
     list: &mut [i64; LIST],
     way: Way,
-    s: &[u8],
-    x: Shape,
-    ta: &[i32; ATOMS],
-    tb: &[i32; BONDS],
-    u: &[u8],
-    y: Shape,
-    ua: &[i32; ATOMS],
-    ub: &[i32; BONDS],
+    old: Record,
+    new: Record,
 ) -> Sum {
-    let number = sum.records.saturating_add(1);
-    let headers = source::headers_of(s, x);
-    let new_headers = source::headers_of(u, y);
-    let begun = sum.out;
-    let position = number as usize;
-    let items = source::items_of(s, x);
-    let new_items = source::items_of(u, y);
+    let position = sum.records.saturating_add(1) as usize;
     let mut told = Told {
-        out: begun,
+        out: sum.out,
         old: Spot::new(),
         new: Spot::new(),
     };
     let mut skip: usize = 0;
     for _ in 0..u64::MAX {
-        let count = list_apart(
-            list,
-            skip,
-            position,
-            headers,
-            x.numbers,
-            ta,
-            tb,
-            items,
-            new_headers,
-            y.numbers,
-            ua,
-            ub,
-            new_items,
-        );
+        let count = list_apart(list, skip, position, old, new);
         let rows = rows_of(way, count.seen);
         told = program_compare_lines::put_rows(
             told,
@@ -184,10 +159,10 @@ fn put_pair(
             way,
             list,
             rows,
-            headers,
-            items,
-            new_headers,
-            new_items,
+            old.headers,
+            old.items,
+            new.headers,
+            new.items,
         );
         if rows <= WINDOW {
             return sum.with(told.out, skip.saturating_add(rows) as u64);
@@ -198,6 +173,21 @@ fn put_pair(
 }
 
 // ---- Two files
+
+fn record_of<'a>(
+    s: &'a [u8],
+    shape: Shape,
+    atoms: &'a [i32; ATOMS],
+    bonds: &'a [i32; BONDS],
+) -> Record<'a> {
+    Record {
+        headers: source::headers_of(s, shape),
+        items: source::items_of(s, shape),
+        numbers: shape.numbers,
+        atoms,
+        bonds,
+    }
+}
 
 // Which file could not be read to its end as it was judged, and why.
 #[derive(Drop)]
@@ -250,7 +240,9 @@ fn hold(
             (Some(x), Some(y)) => {
                 let s = source::bytes_of(left, x);
                 let u = source::bytes_of(right, y);
-                put_pair(sum, room, &mut list, way, s, x, &ta, &tb, u, y, &ua, &ub)
+                let old = record_of(s, x, &ta, &tb);
+                let new = record_of(u, y, &ua, &ub);
+                put_pair(sum, room, &mut list, way, old, new)
             }
         };
         if sum.out.is_cut() || is_enough(way, sum.places) {
