@@ -175,7 +175,7 @@ module _ (s : Bytes) (at : ℕ) (h : line_at s at ≡ LineAt.Unfinished) (some :
       (ended_one (Ended.lf (λ before e. not_cr (take (length s - 1 - at) (drop at s)) before (get_or s (length s - 1) 0) ne (sym (last_of s at some) ∙ e)))
       ∙ sym (take_all (length s - at) (drop at s) (omega (arith, length-drop at s))))
 
--- ---- Some the end there is none, and at the start a line begins
+-- ---- At the end there is none, and at the start a line begins
 
 pub no_piece : (s : Bytes) (at : ℕ) → length s ≤ at → pieces (drop at s) ≡ []
 no_piece s at h = rw (drop_of_length-le s {i = at} h) no_pieces

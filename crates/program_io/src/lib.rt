@@ -164,19 +164,25 @@ impl Text {
         self
     }
 
+    // A word more, in place: a format is said piece by piece, and a text has many bytes to be passed on for each.
     #[tactic(auto, using(crate::specs::Said::said_none, crate::specs::Said::room_next, crate::specs::Said::full_next))]
-    pub fn word(self, word: &[u8]) -> Text
-        ensures { result ≡ said self word.now }
+    fn say(&mut self, word: &[u8])
+        ensures { self.new ≡ said self.old word.now }
     {
-        let mut text = self;
         for b in word {
-            let at = text.used;
+            let at = self.used;
             if at < SHORT {
-                text.bytes[at] = *b;
-                text.used = at + 1;
+                self.bytes[at] = *b;
+                self.used += 1;
             }
         }
-        text
+    }
+
+    pub fn word(mut self, word: &[u8]) -> Text
+        ensures { result ≡ said self word.now }
+    {
+        self.say(word);
+        self
     }
 
     // What a value shows, or several in a format; what cannot be shown says nothing.
@@ -214,7 +220,7 @@ impl fmt::Write for Text {
     ghost write_str_gives = { λ t s u. u ≡ said t s };
 
     fn write_str(&mut self, s: &str) -> fmt::Result {
-        *self = self.word(s.as_bytes());
+        self.say(s.as_bytes());
         Ok(())
     }
 }

@@ -194,6 +194,9 @@ pub fn write_record(
 ) -> Result<usize, TextRefusal>
     ensures { Promise (record { atoms = atoms.entry.now; bonds = bonds.now; n = n; m = m; chiral = chiral; headers = headers.now; items = items.now }) room.old result room.new }
 {
-    judge_record(atoms, bonds, n, m, chiral, headers, items, room.len())?;
-    Ok(lay_record(atoms, bonds, n, m, chiral, headers, items, room))
+    // By its arms, since a wrong program changes the second alone.
+    match judge_record(atoms, bonds, n, m, chiral, headers, items, room.len()) {
+        Ok(_) => Ok(lay_record(atoms, bonds, n, m, chiral, headers, items, room)),
+        Err(r) => Err(r),
+    }
 }

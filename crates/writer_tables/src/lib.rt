@@ -116,19 +116,21 @@ pub fn repeated_pair(bonds: &[i32], m: u32) -> Repeat
 {
     let count = m as usize;
     let mut keys = [0u32; KEYS];
-    for i in 0..count {
-        let key = key_at(bonds, i);
-        for j in reader_pairs::near_key(&keys, i, key)..i {
-            if same_at(bonds, i, j) {
-                return Repeat::Pair {
-                    earlier: j + 1,
-                    later: i + 1,
-                };
+    'walk: {
+        for i in 0..count {
+            let key = key_at(bonds, i);
+            for j in reader_pairs::near_key(&keys, i, key)..i {
+                if same_at(bonds, i, j) {
+                    break 'walk Repeat::Pair {
+                        earlier: j + 1,
+                        later: i + 1,
+                    };
+                }
             }
+            keys[i] = key;
         }
-        keys[i] = key;
+        Repeat::Nothing
     }
-    Repeat::Nothing
 }
 
 // The number at k of atom i, counted from 0, is 0.
