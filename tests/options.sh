@@ -148,7 +148,9 @@ ln -s made.sdf "$o/link.sdf"
 got ./capellanote canon "$sample" -o "$o/link.sdf"
 [ -L "$o/link.sdf" ] && cmp -s "$o/made.sdf" "$sample" && ok || bad "-o: a link" "$(ls -l "$o/link.sdf")"
 for i in $(seq 1 600); do cat "$sample"; done >"$o/long.sdf"
-python3 - "$o/long.sdf" "$o/never.json" <<'END' && ok || bad "-o: a killed command" "the file is there, or what it was written to"
+# The signal has to come while the command writes, so that it gets a file long enough for a busy machine, too.
+for i in $(seq 1 20); do cat "$o/long.sdf"; done >"$o/for_a_signal.sdf"
+python3 - "$o/for_a_signal.sdf" "$o/never.json" <<'END' && ok || bad "-o: a killed command" "the file is there, or what it was written to"
 import glob, os, signal, subprocess, sys, time
 name = sys.argv[2]
 run = subprocess.Popen(["./capellanote", "read", sys.argv[1], "-o", name])
@@ -159,6 +161,7 @@ run.send_signal(signal.SIGTERM)
 run.wait()
 sys.exit(1 if os.path.exists(name) or glob.glob(beside) else 0)
 END
+rm "$o/for_a_signal.sdf"
 (umask 027 && ./capellanote canon "$sample" -o "$o/mode.sdf")
 case $(ls -l "$o/mode.sdf") in -rw-r-----*) ok ;; *) bad "-o: the file's mode" "$(ls -l "$o/mode.sdf")" ;; esac
 [ -z "$(ls -A "$o" | grep '^\.capellanote')" ] && ok || bad "-o" "left behind: $(ls -A "$o" | grep '^\.capellanote')"
